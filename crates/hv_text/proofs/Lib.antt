@@ -1,0 +1,10 @@
+pub mod NameLemmas
+pub mod RunLemmas
+pub mod WordLemmas
+pub mod ReadLemmas
+pub mod SexpLemmas
+pub mod FaultLemmas
+pub mod IoLemmas
+pub mod CommentLemmas
+pub mod CoverLemmas
+pub mod TreeLemmas

@@ -1,0 +1,10 @@
+pub mod Bytes
+pub mod Names
+pub mod Words
+pub mod Trees
+pub mod Sexps
+pub mod Scan
+pub mod Io
+pub mod Memory
+pub mod Faltering
+pub mod Runs

@@ -1,0 +1,185 @@
+//! Names, in which the case of ASCII letters does not matter.
+
+ghost use Rattle.std.specs.Prelude.{◌≡◌, ◌++◌, ◌<◌, ℕ, IsTrue, IfSome, IfNone, ◌↔◌, IsSome, map, length, fold};
+ghost use Rattle.std.specs.List.{list_all, flat_map};
+ghost use Rattle.std.specs.Hash as fed;
+ghost use Rattle.std.specs.Str.{bytes_eq};
+ghost use Rattle.std.specs.Cmp.Lexicographic.{slice_cmp};
+ghost use Rattle.std.specs.Ordering.{nat_cmp};
+ghost use Rattle.hv_text.specs.Bytes.{is_word_byte, is_word, lower};
+
+use std::cmp::Ordering;
+use std::hash::{Hash, Hasher};
+
+/// A borrowed word.
+#[derive(Clone, Copy)]
+pub struct Name<'s> {
+    bytes: &'s [u8],
+    pub ghost is_word: { IsTrue (is_word bytes.now) },
+}
+
+/// Whether a byte may stand in a word.
+pub fn is_word_byte(b: u8) -> bool
+    ensures { result ≡ is_word_byte b }
+{
+    33 <= b && b <= 126 && b != b'(' && b != b')' && b != b';'
+}
+
+fn is_word(bytes: &[u8]) -> bool
+    ensures { result ≡ is_word bytes.now }
+{
+    let Some((first, others)) = bytes.split_first() else {
+        return false;
+    };
+    is_word_byte(*first) && all_in_words(others)
+}
+
+fn all_in_words(bytes: &[u8]) -> bool
+    ensures { result ≡ list_all is_word_byte bytes.now }
+{
+    for b in bytes {
+        if !is_word_byte(*b) {
+            return false;
+        }
+    }
+    true
+}
+
+// The order of the lower case.
+fn cmp_lower(a: &[u8], b: &[u8]) -> Ordering
+    ensures { result ≡ slice_cmp nat_cmp (lower a.now) (lower b.now) }
+{
+    for i in 0..a.len() {
+        if i == b.len() {
+            return Ordering::Greater;
+        }
+        match a[i].to_ascii_lowercase().cmp(&b[i].to_ascii_lowercase()) {
+            Ordering::Equal => {}
+            decided => return decided,
+        }
+    }
+    if a.len() == b.len() {
+        Ordering::Equal
+    } else {
+        Ordering::Less
+    }
+}
+
+// Feeds each byte in lower case.
+fn hash_lower<H: Hasher>(bytes: &[u8], state: &mut H)
+    ensures { state.new ≡ fold H.write state.old (flat_map fed.u8 (lower bytes.now)) }
+{
+    for b in bytes {
+        state.write_u8(b.to_ascii_lowercase());
+    }
+}
+
+impl<'s> Name<'s> {
+    ghost use Rattle.hv_text.specs.Names.{bytes_of, text_of};
+
+    /// The name that the bytes spell, or None where they are no word.
+    pub fn new(bytes: &'s [u8]) -> Option<Name<'s>>
+        ensures some { IfSome result (λ n. bytes_of n ≡ bytes.now) }
+        ensures exact { IsSome result ↔ IsTrue (is_word bytes.now) }
+    {
+        if !is_word(bytes) {
+            return None;
+        }
+        Some(Name { bytes })
+    }
+
+    /// Whether the name is this word, whatever the case of their letters.
+    pub fn is(self, word: &[u8]) -> bool
+        ensures { result ≡ bytes_eq (text_of self.entry) (lower word.now) }
+    {
+        self.bytes.eq_ignore_ascii_case(word)
+    }
+
+    /// The word as it was written.
+    pub fn written(self) -> &'s [u8]
+        ensures { result.now ≡ bytes_of self.entry }
+    {
+        self.bytes
+    }
+
+    /// The name that a word spells.
+    pub(crate) fn of_word(bytes: &'s [u8]) -> Name<'s>
+        requires { IsTrue (is_word bytes.now) }
+        ensures { bytes_of result ≡ bytes.now }
+    {
+        Name { bytes }
+    }
+}
+
+impl PartialEq for Name<'_> {
+    ghost use Rattle.std.proofs.Common.{rules};
+    ghost use Rattle.std.specs.Cmp.Rules.{comparing};
+    ghost use Rattle.std.specs.Str.{bytes_eq};
+    ghost use Rattle.std.specs.Ordering.{on};
+    ghost use Rattle.hv_text.specs.Names.{text_of};
+
+    ghost eq = { on text_of bytes_eq };
+
+    ghost laws = { Prim.search (comparing, rules) };
+
+    fn eq(&self, other: &Self) -> bool {
+        self.bytes.eq_ignore_ascii_case(other.bytes)
+    }
+}
+
+impl Eq for Name<'_> {
+    ghost use Rattle.std.proofs.Common.{rules};
+    ghost use Rattle.std.specs.Cmp.Rules.{comparing};
+
+    ghost laws = { Prim.search (comparing, rules) };
+}
+
+impl PartialOrd for Name<'_> {
+    ghost use Rattle.std.proofs.Common.{rules};
+    ghost use Rattle.std.specs.Cmp.{partial_order_from_own_ties};
+    ghost use Rattle.std.specs.Cmp.Rules.{comparing};
+    ghost use Rattle.std.specs.Cmp.Lexicographic.{slice_cmp};
+    ghost use Rattle.std.specs.Ordering.{on, nat_cmp, as_partial_cmp};
+    ghost use Rattle.hv_text.specs.Names.{text_of};
+
+    ghost partial_cmp = { as_partial_cmp (on text_of (slice_cmp nat_cmp)) };
+
+    ghost laws = { partial_order_from_own_ties (Prim.search (comparing, rules)) (Prim.search (comparing, rules)) };
+
+    fn partial_cmp(&self, other: &Self) -> Option<Ordering> {
+        Some(self.cmp(other))
+    }
+}
+
+impl Ord for Name<'_> {
+    ghost use Rattle.std.proofs.Common.{rules};
+    ghost use Rattle.std.specs.Cmp.Rules.{comparing};
+    ghost use Rattle.std.specs.Cmp.Lexicographic.{slice_cmp};
+    ghost use Rattle.std.specs.Ordering.{on, nat_cmp};
+    ghost use Rattle.hv_text.specs.Names.{text_of};
+
+    ghost cmp = { on text_of (slice_cmp nat_cmp) };
+
+    ghost total = { Prim.search (comparing, rules) };
+
+    ghost matches_partial_cmp = { Prim.search (comparing, rules) };
+
+    ghost matches_eq = { Prim.search (comparing, rules) };
+
+    fn cmp(&self, other: &Self) -> Ordering {
+        cmp_lower(self.bytes, other.bytes)
+    }
+}
+
+impl Hash for Name<'_> {
+    ghost use Rattle.hv_text.specs.Names.{hash_input_of, same_hash};
+
+    ghost hash_input = { hash_input_of };
+
+    ghost respects_eq = { same_hash.fed };
+
+    fn hash<H: Hasher>(&self, state: &mut H) {
+        state.write_usize(self.bytes.len());
+        hash_lower(self.bytes, state);
+    }
+}
