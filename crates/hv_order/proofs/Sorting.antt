@@ -1,0 +1,170 @@
+-- Sorting items by two numbers, and by their code where both are equal: a strict total order.
+use Rattle.std.proofs.Common.{◌≡◌, ℕ, ◌<◌, ◌≤◌, List, [], ◌∷◌, refl, sym, ap, ◌∙◌, subst, inl, inr, arith, ◌⊎◌}
+use Rattle.hv_order.specs.Trees.{Item, Mem, Distinct}
+use Rattle.hv_order.specs.Sequences.{Earlier}
+use Rattle.hv_order.proofs.Members.{code, code_once}
+
+-- x stands before y: by its place, else by its rank, else by its code
+pub data Less (place order : Item → ℕ) (x y : Item) : Type 0 where
+  by_place : place x < place y → Less place order x y
+  by_rank : place x ≡ place y → order x < order y → Less place order x y
+  by_code : place x ≡ place y → order x ≡ order y → code x < code y → Less place order x y
+
+pub data Trichotomy (place order : Item → ℕ) (x y : Item) : Type 0 where
+  first : Less place order x y → Trichotomy place order x y
+  equal : x ≡ y → Trichotomy place order x y
+  second : Less place order y x → Trichotomy place order x y
+
+three : (m n : ℕ) → (m < n) ⊎ ((m ≡ n) ⊎ (n < m))
+three m n = grind arith
+
+module _ (place order : Item → ℕ) where
+  pub less_place : {x y : Item} → Less place order x y → place x ≤ place y
+  less_place (by_place a) = omega arith
+  less_place (by_rank a b) = omega arith
+  less_place (by_code a b c) = omega arith
+
+  pub less_not : (x y : Item) → Less place order x y → x ≡ y → ⊥
+  less_not x y (by_place a) e = let f : place x ≡ place y = ap place e in omega arith
+  less_not x y (by_rank a b) e = let f : order x ≡ order y = ap order e in omega arith
+  less_not x y (by_code a b c) e = let f : code x ≡ code y = ap code e in omega arith
+
+  less_trans : (x y z : Item) → Less place order x y → Less place order y z → Less place order x z
+  less_trans x y z (by_place a) (by_place b) = by_place (omega arith)
+  less_trans x y z (by_place a) (by_rank b c) = by_place (omega arith)
+  less_trans x y z (by_place a) (by_code b c d) = by_place (omega arith)
+  less_trans x y z (by_rank a b) (by_place c) = by_place (omega arith)
+  less_trans x y z (by_rank a b) (by_rank c d) = by_rank (omega arith) (omega arith)
+  less_trans x y z (by_rank a b) (by_code c d e) = by_rank (omega arith) (omega arith)
+  less_trans x y z (by_code a b c) (by_place d) = by_place (omega arith)
+  less_trans x y z (by_code a b c) (by_rank d e) = by_rank (omega arith) (omega arith)
+  less_trans x y z (by_code a b c) (by_code d e f) = by_code (omega arith) (omega arith) (omega arith)
+
+  tri : (x y : Item) → Trichotomy place order x y
+  tri x y = by_place_case (three (place x) (place y))
+    where
+      by_code_case : place x ≡ place y → order x ≡ order y → (code x < code y) ⊎ ((code x ≡ code y) ⊎ (code y < code x)) → Trichotomy place order x y
+      by_code_case a b (inl c) = first (by_code a b c)
+      by_code_case a b (inr (inl c)) = equal (code_once x y c)
+      by_code_case a b (inr (inr c)) = second (by_code (sym a) (sym b) c)
+
+      by_rank_case : place x ≡ place y → (order x < order y) ⊎ ((order x ≡ order y) ⊎ (order y < order x)) → Trichotomy place order x y
+      by_rank_case a (inl b) = first (by_rank a b)
+      by_rank_case a (inr (inl b)) = by_code_case a b (three (code x) (code y))
+      by_rank_case a (inr (inr b)) = second (by_rank (sym a) b)
+
+      by_place_case : (place x < place y) ⊎ ((place x ≡ place y) ⊎ (place y < place x)) → Trichotomy place order x y
+      by_place_case (inl a) = first (by_place a)
+      by_place_case (inr (inl a)) = by_rank_case a (three (order x) (order y))
+      by_place_case (inr (inr a)) = second (by_place a)
+
+  put : (x y : Item) (ys rest : List Item) → Trichotomy place order x y → List Item
+  put x y ys rest (first h) = x ∷ y ∷ ys
+  put x y ys rest (equal e) = y ∷ ys
+  put x y ys rest (second h) = y ∷ rest
+
+  insert : Item → List Item → List Item
+  insert x [] = x ∷ []
+  insert x (y ∷ ys) = put x y ys (insert x ys) (tri x y)
+
+  pub sorted : List Item → List Item
+  sorted [] = []
+  sorted (x ∷ xs) = insert x (sorted xs)
+
+  abbrev pub IsSorted : List Item → Type 0
+  IsSorted [] = Unit {0}
+  IsSorted (x ∷ xs) = ((y : Item) → Mem y xs → Less place order x y) × IsSorted xs
+
+  put_has : (x y : Item) (ys rest : List Item) (c : Trichotomy place order x y) → Mem x rest → Mem x (put x y ys rest c)
+  unfolding put
+  put_has x y ys rest (first h) m = inl refl
+  put_has x y ys rest (equal e) m = inl e
+  put_has x y ys rest (second h) m = inr m
+
+  insert_has : (x : Item) (q : List Item) → Mem x (insert x q)
+  unfolding insert
+  insert_has x [] = inl refl
+  insert_has x (y ∷ ys) = put_has x y ys (insert x ys) (tri x y) (insert_has x ys)
+
+  put_keeps : (x y z : Item) (ys rest : List Item) (c : Trichotomy place order x y) → (Mem z ys → Mem z rest) → Mem z (y ∷ ys) → Mem z (put x y ys rest c)
+  unfolding put
+  put_keeps x y z ys rest (first h) f m = inr m
+  put_keeps x y z ys rest (equal e) f m = m
+  put_keeps x y z ys rest (second h) f (inl e) = inl e
+  put_keeps x y z ys rest (second h) f (inr m) = inr (f m)
+
+  insert_keeps : (x z : Item) (q : List Item) → Mem z q → Mem z (insert x q)
+  unfolding insert
+  insert_keeps x z [] m = absurd m
+  insert_keeps x z (y ∷ ys) m = put_keeps x y z ys (insert x ys) (tri x y) (insert_keeps x z ys) m
+
+  put_from : (x y z : Item) (ys rest : List Item) (c : Trichotomy place order x y) → (Mem z rest → (z ≡ x) ⊎ Mem z ys) → Mem z (put x y ys rest c) → (z ≡ x) ⊎ Mem z (y ∷ ys)
+  unfolding put
+  put_from x y z ys rest (first h) f (inl e) = inl e
+  put_from x y z ys rest (first h) f (inr m) = inr m
+  put_from x y z ys rest (equal e) f m = inr m
+  put_from x y z ys rest (second h) f (inl e) = inr (inl e)
+  put_from x y z ys rest (second h) f (inr m) = by_equal (f m)
+    where
+      by_equal : (z ≡ x) ⊎ Mem z ys → (z ≡ x) ⊎ Mem z (y ∷ ys)
+      by_equal (inl e) = inl e
+      by_equal (inr k) = inr (inr k)
+
+  insert_from : (x z : Item) (q : List Item) → Mem z (insert x q) → (z ≡ x) ⊎ Mem z q
+  unfolding insert
+  insert_from x z [] (inl e) = inl e
+  insert_from x z [] (inr m) = absurd m
+  insert_from x z (y ∷ ys) m = put_from x y z ys (insert x ys) (tri x y) (insert_from x z ys) m
+
+  put_sorted : (x y : Item) (ys : List Item) (c : Trichotomy place order x y) → IsSorted (y ∷ ys) → IsSorted (insert x ys) → IsSorted (put x y ys (insert x ys) c)
+  unfolding put
+  put_sorted x y ys (first h) s r = (λ z m. below z m, s)
+    where
+      below : (z : Item) → Mem z (y ∷ ys) → Less place order x z
+      below z (inl e) = subst (Less place order x) (sym e) h
+      below z (inr m) = let (before_rest, rest) = s in less_trans x y z h (before_rest z m)
+  put_sorted x y ys (equal e) s r = s
+  put_sorted x y ys (second h) s r = (λ z m. below z (insert_from x z ys m), r)
+    where
+      below : (z : Item) → (z ≡ x) ⊎ Mem z ys → Less place order y z
+      below z (inl e) = subst (Less place order y) (sym e) h
+      below z (inr m) = let (before_rest, rest) = s in before_rest z m
+
+  insert_sorted : (x : Item) (q : List Item) → IsSorted q → IsSorted (insert x q)
+  unfolding insert
+  insert_sorted x [] s = (λ z m. absurd m, tt)
+  insert_sorted x (y ∷ ys) sorted_all = let (before_rest, rest) = sorted_all in put_sorted x y ys (tri x y) sorted_all (insert_sorted x ys rest)
+
+  pub sorted_sorted : (xs : List Item) → IsSorted (sorted xs)
+  unfolding sorted
+  sorted_sorted [] = tt
+  sorted_sorted (x ∷ xs) = insert_sorted x (sorted xs) (sorted_sorted xs)
+
+  pub sorted_has : (z : Item) (xs : List Item) → Mem z xs → Mem z (sorted xs)
+  unfolding sorted
+  sorted_has z [] m = m
+  sorted_has z (x ∷ xs) (inl e) = subst (λ w. Mem w (insert x (sorted xs))) (sym e) (insert_has x (sorted xs))
+  sorted_has z (x ∷ xs) (inr m) = insert_keeps x z (sorted xs) (sorted_has z xs m)
+
+  pub sorted_from : (z : Item) (xs : List Item) → Mem z (sorted xs) → Mem z xs
+  unfolding sorted
+  sorted_from z [] m = m
+  sorted_from z (x ∷ xs) m = by_equal (insert_from x z (sorted xs) m) (sorted_from z xs)
+    where
+      by_equal : (z ≡ x) ⊎ Mem z (sorted xs) → (Mem z (sorted xs) → Mem z xs) → Mem z (x ∷ xs)
+      by_equal (inl e) f = inl e
+      by_equal (inr k) f = inr (f k)
+
+  pub sorted_distinct : (q : List Item) → IsSorted q → Distinct q
+  sorted_distinct [] s = tt
+  sorted_distinct (x ∷ q) s = let (before_rest, rest) = s in (λ m. less_not x x (before_rest x m) refl, sorted_distinct q rest)
+
+  pub sorted_earlier : (x y : Item) (q : List Item) → IsSorted q → Mem x q → Mem y q → Less place order x y → Earlier x y q
+  sorted_earlier x y [] s m k h = absurd m
+  sorted_earlier x y (z ∷ q) s (inl e) (inl f) h = absurd (less_not x y h (e ∙ sym f))
+  sorted_earlier x y (z ∷ q) s (inl e) (inr k) h = inl (e, k)
+  sorted_earlier x y (z ∷ q) s (inr m) (inl f) h =
+      let (before_rest, rest) = s in
+      let back : Less place order y x = subst (λ w. Less place order w x) (sym f) (before_rest x m) in
+      absurd (less_not x x (less_trans x y x h back) refl)
+  sorted_earlier x y (z ∷ q) s (inr m) (inr k) h = let (before_rest, rest) = s in inr (sorted_earlier x y q rest m k h)

@@ -1,0 +1,6 @@
+use Rattle.hv_order.proofs.Split.{split_law}
+use Rattle.hv_order.proofs.Window.{window_law}
+use Rattle.hv_order.proofs.laws.split_law.Goals as goal
+
+pub returns : goal.returns
+returns c = record { order = split_law; window = window_law }

@@ -1,0 +1,43 @@
+-- What the check of a certificate looks at: a choice, and one index for each precondition step.
+use Rattle.std.specs.Prelude.{◌≡◌, ℕ, ◌+◌, ◌≤◌, true, ◌&&◌, ◌==◌}
+use Rattle.hv_order.specs.Trees.{Item, Act, Task, Pre, Mem, Tree, Reached}
+use Rattle.hv_order.specs.Candidates.{Choice}
+
+-- the same choice with each precondition pinned to one index: it is true there, if it was, and
+-- nowhere else
+abbrev pub pinned_choice : Choice → (ℕ → ℕ) → Choice
+pinned_choice o at =
+    record {
+      root = o.root;
+      line = λ v. record { before = (o.line v).before; true_at = λ k. (o.line v).true_at k && (k == at v) };
+    }
+
+-- where a child starts: an action in the state of its number, a line at its precondition's index
+abbrev pub subtask_start : (ℕ → ℕ) → Item → ℕ
+subtask_start at (Act k) = k
+subtask_start at (Task v) = at v
+subtask_start at (Pre v) = 0
+
+-- where each child finishes: an action in the state behind it, a line at the latest of its
+-- precondition's index and its children's finishes
+pub record AreFinishes (t : Tree) (at : ℕ → ℕ) (finish : Item → ℕ) : Type 0 where
+  pub act : (k : ℕ) → finish (Act k) ≡ k + 1
+  pub own : (v : ℕ) → at v ≤ finish (Task v)
+  pub child : (v : ℕ) (x : Item) → Mem x (t.children v) → finish x ≤ finish (Task v)
+  pub least :
+      (v g : ℕ) → at v ≤ g → ((x : Item) → Mem x (t.children v) → finish x ≤ g)
+      → finish (Task v) ≤ g
+
+-- What the check looks at, node by node: each precondition is true at its index, no child starts
+-- before it, a child that must come before another finishes before that starts, and no initial task
+-- finishes after n
+pub record KeepsRules (t : Tree) (o : Choice) (at : ℕ → ℕ) (finish : Item → ℕ) (n : ℕ) : Type 0 where
+  pub holds : (v : ℕ) → Reached t (Task v) → (o.line v).true_at (at v) ≡ true
+  pub from : (v : ℕ) (x : Item) → Reached t (Task v) → Mem x (t.children v) → at v ≤ subtask_start at x
+  pub order :
+      (v : ℕ) (x y : Item) → Reached t (Task v) → Mem x (t.children v) → Mem y (t.children v)
+      → (o.line v).before x y ≡ true → finish x ≤ subtask_start at y
+  pub until : (x : Item) → Mem x t.initial_tasks → finish x ≤ n
+  pub root_order :
+      (x y : Item) → Mem x t.initial_tasks → Mem y t.initial_tasks → o.root.before x y ≡ true
+      → finish x ≤ subtask_start at y

@@ -1,0 +1,11 @@
+pub mod Trees
+pub mod Candidates
+pub mod Networks
+pub mod Precedence
+pub mod Sequences
+pub mod Schedules
+pub mod Finishes
+pub mod Tables
+pub mod Certificates
+pub mod Laws
+pub mod Rows
