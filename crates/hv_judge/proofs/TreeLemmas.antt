@@ -1,0 +1,181 @@
+-- What the steps of building a tree keep.
+use Rattle.std.proofs.Common.{◌≡◌, ℕ, zero, suc, ◌+◌, ◌<◌, ◌≤◌, ◌&&◌, ◌||◌, ◌==◌, Bool, true, false, not, List, [], ◌∷◌, ◌++◌, append_assoc, length, map, take, drop, get_or, slice_get, refl, sym, ap, ◌∙◌, arith, subst, nat_eq, nat_lt, Option, None, Some, position, cond, add-one, if◌then◌else◌}
+use Rattle.std.specs.Str.{bytes_eq}
+use Rattle.std.specs.List.{list_any, list_all, find, filter_map, cons_option, position_or_len}
+use Rattle.std.specs.Option.{option_map}
+use Rattle.std.specs.Cmp.Lexicographic.{pointwise}
+use Rattle.std.proofs.lemmas.Grind.{common_steps}
+use Rattle.std.proofs.lemmas.List.{map-append, length-map}
+use Rattle.std.proofs.lemmas.List.Folds.{find_at}
+use Rattle.std.proofs.lemmas.Bool.{eqb-true, eq-eqb, ltb-true}
+use Rattle.std.proofs.lemmas.Bool.Decides.{nat_tests}
+use Rattle.std.proofs.lemmas.Option.{slice_get-get_or, slice_get_past}
+use Rattle.std.proofs.Math.Seq.{drop-cons}
+use Rattle.hv_text.specs.declared.name.Name.{Name}
+use Rattle.hv_text.specs.Names.{text_of}
+use Rattle.hv_judge.specs.PlanForms.{Action}
+use Rattle.hv_judge.specs.Plans.{action_view}
+use Rattle.hv_judge.specs.Counting.{multiplicity, multiplicities, stands_in}
+use Rattle.hv_judge.specs.declared.plan.ActionLine.{ActionLine}
+use Rattle.hv_judge.specs.declared.answer.Cause.{Cause}
+use Rattle.hv_judge.specs.declared.tree.TreeFault.{TreeFault}
+use Rattle.hv_judge.specs.declared.tree.TreeFault.TheVariants as faults
+use Rattle.hv_judge.specs.Trees.{IsCause, or_else, ids_of, name_of}
+use Rattle.hv_judge.proofs.CountLemmas.{found_at, place, place-map, same_key}
+
+-- a cause that comes first is the cause
+pub first_cause : (o later : Option Cause) (f : TreeFault) → IsCause o f → IsCause (or_else o later) f
+first_cause o later (faults.Cause c) h = rw h refl
+first_cause o later faults.Memory h = tt
+
+-- where the first does not apply, the later is the cause
+pub later_cause : (o later : Option Cause) (f : TreeFault) → o ≡ None → IsCause later f → IsCause (or_else o later) f
+later_cause o later f e h = rw e h
+
+pub no_cause : (o later : Option Cause) → o ≡ None → later ≡ None → or_else o later ≡ None
+no_cause o later e h = rw e h
+
+-- where one of the ids that are left fails, not all pass
+pub one_fails : (p : ℕ → Bool) (is : List ℕ) (k : ℕ) → k < length is → p (get_or is k 0) ≡ false → list_all p (drop k is) ≡ list_all p is → list_all p is ≡ false
+one_fails p is k h e same =
+    let first : (p (get_or is k 0) && list_all p (drop (suc k) is)) ≡ list_all p is = rw (drop-cons is k 0 h) at same in
+    sym (rw e at first)
+
+-- where one passes, the others decide
+pub one_passes : (p : ℕ → Bool) (is : List ℕ) (k : ℕ) (whole : Bool) → k < length is → p (get_or is k 0) ≡ true → list_all p (drop k is) ≡ whole → list_all p (drop (k + 1) is) ≡ whole
+one_passes p is k whole h e same =
+    let first : (p (get_or is k 0) && list_all p (drop (suc k) is)) ≡ whole = rw (drop-cons is k 0 h) at same in
+    rw (add-one k) (rw e at first)
+
+-- one number more was read
+pub more_read : {A X : Type 0} (g : ℕ → X) (f : A → X) (xs : List A) (i : ℕ) (d : A) (done new : List ℕ) (k : ℕ) (whole : List X) → i < length xs
+    → map g done ++ map f (drop i xs) ≡ whole → g k ≡ f (get_or xs i d) → new ≡ done ++ k ∷ [] → map g new ++ map f (drop (i + 1) xs) ≡ whole
+more_read g f xs i d done new k whole h e at n =
+    let apart : map g done ++ (f (get_or xs i d) ∷ map f (drop (suc i) xs)) ≡ whole = rw (drop-cons xs i d h) at e in
+    rw (n, map-append g done (k ∷ []), add-one i, at, append_assoc) apart
+
+pub more_seen : {A B X : Type 0} (g : ℕ → X) (f : A → X) (v : B → A) (xs : List B) (i : ℕ) (d : B) (done new : List ℕ) (k : ℕ) (whole : List X) → i < length xs
+    → map g done ++ map f (map v (drop i xs)) ≡ whole → g k ≡ f (v (get_or xs i d)) → new ≡ done ++ k ∷ [] → map g new ++ map f (map v (drop (i + 1) xs)) ≡ whole
+more_seen g f v xs i d done new k whole h e at n =
+    let apart : map g done ++ (f (v (get_or xs i d)) ∷ map f (map v (drop (suc i) xs))) ≡ whole = rw (drop-cons xs i d h) at e in
+    rw (n, map-append g done (k ∷ []), add-one i, at, append_assoc) apart
+
+-- the first that is left is the first of all that passes
+pub found_first : {A B : Type 0} (p : A → Bool) (v : B → A) (xs : List B) (i : ℕ) (d : B) (whole : Option A) → i < length xs → p (v (get_or xs i d)) ≡ true
+    → find p (map v (drop i xs)) ≡ whole → whole ≡ Some (v (get_or xs i d))
+found_first p v xs i d whole h e same =
+    let first : cond (p (v (get_or xs i d))) (Some (v (get_or xs i d))) (find p (map v (drop (suc i) xs))) ≡ whole = rw (drop-cons xs i d h) at same in
+    sym (rw e at first)
+
+-- it does not pass, and the others decide
+pub passed_first : {A B : Type 0} (p : A → Bool) (v : B → A) (xs : List B) (i : ℕ) (d : B) (whole : Option A) → i < length xs → p (v (get_or xs i d)) ≡ false
+    → find p (map v (drop i xs)) ≡ whole → find p (map v (drop (i + 1) xs)) ≡ whole
+passed_first p v xs i d whole h e same =
+    let first : cond (p (v (get_or xs i d))) (Some (v (get_or xs i d))) (find p (map v (drop (suc i) xs))) ≡ whole = rw (drop-cons xs i d h) at same in
+    rw (add-one i) (rw e at first)
+
+place_get : (q : List ℕ) (ds : List (List ℕ)) → place q ds < length ds → slice_get ds (place q ds) ≡ Some q
+place_get q [] h = absurd (omega arith)
+place_get q (d ∷ ds) h = go (bytes_eq q d) refl h (place_get q ds)
+  where
+    go : (b : Bool) → bytes_eq q d ≡ b → cond (not b) (1 + place q ds) 0 < suc (length ds)
+        → (place q ds < length ds → slice_get ds (place q ds) ≡ Some q) → slice_get (d ∷ ds) (cond (not b) (1 + place q ds) 0) ≡ Some q
+    go true e h again = ap (λ x. Some x) (sym (same_key q d e))
+    go false e h again = let one : 1 + place q ds ≡ suc (place q ds) = omega arith in rw one (again (omega arith))
+
+-- the name at the place that a look-up gives
+pub name_there : (q : List ℕ) (ns : List Name) (k : ℕ) → Some k ≡ position (λ n. bytes_eq q (text_of n)) ns → slice_get (map text_of ns) k ≡ Some q
+name_there q ns k e =
+    let found = found_at (λ n. bytes_eq q (text_of n)) ns k (sym e) in
+    let at : k ≡ place q (map text_of ns) = found.0 ∙ place-map q ns in
+    rw at (place_get q (map text_of ns) (omega (arith, length-map ns text_of, at, found.1)))
+
+number_get : (i : ℕ) (is : List ℕ) → position_or_len (nat_eq i) is < length is → slice_get is (position_or_len (nat_eq i) is) ≡ Some i
+number_get i [] h = absurd (omega arith)
+number_get i (j ∷ is) h = go (nat_eq i j) refl h (number_get i is)
+  where
+    go : (b : Bool) → nat_eq i j ≡ b → cond (not b) (1 + position_or_len (nat_eq i) is) 0 < suc (length is)
+        → (position_or_len (nat_eq i) is < length is → slice_get is (position_or_len (nat_eq i) is) ≡ Some i)
+        → slice_get (j ∷ is) (cond (not b) (1 + position_or_len (nat_eq i) is) 0) ≡ Some i
+    go true e h again = ap (λ x. Some x) (sym (eqb-true i j e))
+    go false e h again = let one : 1 + position_or_len (nat_eq i) is ≡ suc (position_or_len (nat_eq i) is) = omega arith in rw one (again (omega arith))
+
+-- each first place holds its id
+pub places_hold : (is ks root : List ℕ) → map Some ks ≡ map (λ i. position (nat_eq i) is) root → map (slice_get is) ks ≡ map Some root
+places_hold is [] [] e = refl
+places_hold is [] (i ∷ root) e = cc
+places_hold is (k ∷ ks) [] e = cc
+places_hold is (k ∷ ks) (i ∷ root) e =
+    let first : Some k ≡ position (nat_eq i) is = cc in
+    let rest : map Some ks ≡ map (λ i. position (nat_eq i) is) root = cc in
+    let found = found_at (nat_eq i) is k (sym first) in
+    let here : slice_get is k ≡ Some i = rw found.0 (number_get i is (rw found.0 at found.1)) in
+    rw (here, places_hold is ks root rest) refl
+
+get-map : {A B : Type 0} (v : A → B) (xs : List A) (k : ℕ) → slice_get (map v xs) k ≡ option_map v (slice_get xs k)
+get-map v [] k = refl
+get-map v (x ∷ xs) zero = refl
+get-map v (x ∷ xs) (suc k) = get-map v xs k
+
+named : (o : Option ActionLine) → option_map (λ a. a.name) (option_map action_view o) ≡ option_map (λ a. text_of a.name) o
+named None = refl
+named (Some a) = refl
+
+id_place : (i : ℕ) (ls : List Action) → position_or_len (λ a. i == a.id) ls ≡ position_or_len (nat_eq i) (ids_of ls)
+id_place i [] = refl
+id_place i (l ∷ ls) = rw (id_place i ls) refl
+
+name_at_place : (ls : List ActionLine) (i k : ℕ) → Some k ≡ position (nat_eq i) (ids_of (map action_view ls))
+    → option_map (λ a. text_of a.name) (slice_get ls k) ≡ name_of (map action_view ls) i
+name_at_place ls i k e =
+    let found = found_at (nat_eq i) (ids_of (map action_view ls)) k (sym e) in
+    let seen : find (λ a. i == a.id) (map action_view ls) ≡ slice_get (map action_view ls) k
+    = find_at (λ a. i == a.id) (map action_view ls) ∙ ap (slice_get (map action_view ls)) (id_place i (map action_view ls) ∙ sym found.0) in
+    sym (ap (option_map (λ a. a.name)) (seen ∙ get-map action_view ls k) ∙ named (slice_get ls k))
+
+-- the names of the lines at the children's places are the names of the children
+pub children_named : (ls : List ActionLine) (ks root : List ℕ) → map Some ks ≡ map (λ i. position (nat_eq i) (ids_of (map action_view ls))) root
+    → filter_map (λ k. option_map (λ a. text_of a.name) (slice_get ls k)) ks ≡ filter_map (name_of (map action_view ls)) root
+children_named ls [] [] e = refl
+children_named ls [] (i ∷ root) e = cc
+children_named ls (k ∷ ks) [] e = cc
+children_named ls (k ∷ ks) (i ∷ root) e =
+    let first : Some k ≡ position (nat_eq i) (ids_of (map action_view ls)) = cc in
+    let rest : map Some ks ≡ map (λ i. position (nat_eq i) (ids_of (map action_view ls))) root = cc in
+    rw (name_at_place ls i k first, children_named ls ks root rest) refl
+
+-- tables are equal where all their entries are
+pub same_tables : (ds vs ws : List (List ℕ)) → pointwise nat_eq (multiplicities ds vs) (multiplicities ds ws) ≡ list_all (λ d. multiplicity d vs == multiplicity d ws) ds
+same_tables [] vs ws = refl
+same_tables (d ∷ ds) vs ws = ap (λ b. (multiplicity d vs == multiplicity d ws) && b) (same_tables ds vs ws)
+
+-- the names so far, with that of one place more
+pub more_names : (ls : List ActionLine) (places : List ℕ) (i : ℕ) (done whole : List (List ℕ)) → i < length places
+    → done ++ filter_map (λ k. option_map (λ a. text_of a.name) (slice_get ls k)) (drop i places) ≡ whole
+    → done ++ cons_option (option_map (λ a. text_of a.name) (slice_get ls (get_or places i 0))) (filter_map (λ k. option_map (λ a. text_of a.name) (slice_get ls k)) (drop (i + 1) places)) ≡ whole
+more_names ls places i done whole h e = rw (add-one i) (rw (drop-cons places i 0 h) at e)
+
+-- a line is found at the place, and its name was read
+pub name_found : (ls : List ActionLine) (places : List ℕ) (i : ℕ) (done new : List Name) (a : ActionLine) (whole : List (List ℕ)) → i < length places
+    → true ≡ nat_lt (get_or places i 0) (length ls) → a ≡ get_or ls (get_or places i 0) a → new ≡ done ++ a.name ∷ []
+    → map text_of done ++ filter_map (λ k. option_map (λ a. text_of a.name) (slice_get ls k)) (drop i places) ≡ whole
+    → map text_of new ++ filter_map (λ k. option_map (λ a. text_of a.name) (slice_get ls k)) (drop (i + 1) places) ≡ whole
+name_found ls places i done new a whole h t is n e =
+    let more = more_names ls places i (map text_of done) whole h e in
+    let here : slice_get ls (get_or places i 0) ≡ Some a
+    = slice_get-get_or ls (get_or places i 0) a (ltb-true (get_or places i 0) (length ls) (sym t)) ∙ ap (λ x. Some x) (sym is) in
+    rw (n, map-append text_of done (a.name ∷ []), append_assoc) (rw here at more)
+
+-- no line is at the place
+pub name_missing : (ls : List ActionLine) (places : List ℕ) (i : ℕ) (done : List Name) (whole : List (List ℕ)) → i < length places
+    → false ≡ nat_lt (get_or places i 0) (length ls)
+    → map text_of done ++ filter_map (λ k. option_map (λ a. text_of a.name) (slice_get ls k)) (drop i places) ≡ whole
+    → map text_of done ++ filter_map (λ k. option_map (λ a. text_of a.name) (slice_get ls k)) (drop (i + 1) places) ≡ whole
+name_missing ls places i done whole h t e =
+    let more = more_names ls places i (map text_of done) whole h e in
+    let none : slice_get ls (get_or places i 0) ≡ None = slice_get_past ls (get_or places i 0) (grind (arith, nat_tests, t)) in
+    rw none at more
+
+-- equal numbers make no cause
+pub same_count : (m n : ℕ) (x : Cause) → m ≡ n → (if m == n then None else Some x) ≡ None
+same_count m n x e = rw (eq-eqb m n e) refl

@@ -1,0 +1,358 @@
+-- Three texts and a limit have one answer.
+use Rattle.std.proofs.Common.{◌≡◌, ◌<◌, ◌≤◌, ◌==◌, ◌+◌, ℕ, zero, suc, Bool, true, false, not, List, [], ◌∷◌, length, take, map, Option, Some, None, Result, Ok, Err, refl, sym, ◌∙◌, ap, subst, arith, ◌⊎◌, inl, inr}
+use Rattle.std.specs.List.{slice_get, Contains, All}
+use Rattle.std.specs.Option.{option_map}
+use Rattle.hv_text.specs.Words.{pieces}
+use Rattle.hv_text.specs.Trees.{Trees}
+use Rattle.hv_text.specs.Runs.{IsInOrder}
+use Rattle.hv_text.specs.Sexps.{AreExpressions, IsTextFault}
+use Rattle.hv_text.specs.declared.span.Span.{Span}
+use Rattle.hv_text.specs.declared.fault.TextKind.{TextKind}
+use Rattle.hv_text.specs.declared.fault.TextKind.TheVariants as texts
+use Rattle.hv_judge.specs.declared.answer.Answer.{Answer}
+use Rattle.hv_judge.specs.declared.answer.Answer.TheVariants.{Solves, Fails, Undecided, Rejected}
+use Rattle.hv_judge.specs.declared.answer.Cause.{Cause}
+use Rattle.hv_judge.specs.declared.answer.CauseKind.TheVariants as causes
+use Rattle.hv_judge.specs.declared.answer.Certificate.{Certificate}
+use Rattle.hv_judge.specs.declared.answer.Fault.{Fault}
+use Rattle.hv_judge.specs.declared.answer.FaultKind.{FaultKind}
+use Rattle.hv_judge.specs.declared.answer.Which.{Which}
+use Rattle.hv_judge.specs.declared.answer.Which.TheVariants as which
+use Rattle.hv_judge.specs.declared.plan.PlanFault.{PlanFault}
+use Rattle.hv_judge.specs.declared.plan.PlanFault.TheVariants as plans
+use Rattle.hv_judge.specs.declared.syntax.fault.SyntaxKind.{SyntaxKind}
+use Rattle.hv_judge.specs.declared.syntax.fault.SyntaxKind.TheVariants as kinds
+use Rattle.hv_judge.specs.declared.world.fault.Side.{Side}
+use Rattle.hv_judge.specs.declared.world.fault.Side.TheVariants as sides
+use Rattle.hv_judge.specs.declared.world.fault.StaticKind.{StaticKind}
+use Rattle.hv_judge.specs.declared.world.fault.StaticFault.{StaticFault}
+use Rattle.hv_judge.specs.Values.{Action, Domain, Problem}
+use Rattle.hv_judge.specs.States.{State, IsApplicable, AreApplicable, IsFirstInapplicable}
+use Rattle.hv_judge.specs.PlanForms as forms
+use Rattle.hv_judge.specs.Plans.{Plan, IsPlan, IsPlanFault, IsFaultWithin, IsBodyFault, fault_from, roots_of}
+use Rattle.hv_judge.specs.PlanLines.{NumberedLine, has_start, has_end, between}
+use Rattle.hv_judge.specs.Statics.{domain_faults, problem_faults, IsStatic, IsFirst, IsFirstFault}
+use Rattle.hv_judge.specs.Texts.{IsReadAs, IsFaultBy, IsDomainText, IsProblemText}
+use Rattle.hv_judge.specs.Domains.{domain_of}
+use Rattle.hv_judge.specs.Problems.{problem_of}
+use Rattle.hv_judge.specs.Rejections.{reported, reported_static, reported_plan, fault_in, first_too_long, which_of, text_of_side, AreRead, IsRejectedPair, by_domain, by_problem, by_statics, IsRejected, by_length, by_pair, by_plan}
+use Rattle.hv_judge.specs.Verdicts.{AreSpelled, IsRun, Certifies, IsCauseOf, by_tree, by_action, by_goal, by_order, IsOrdered, IsVerdict, IsJudgement, Judged, count_of, plan_cause, first_state, actions_of}
+use Rattle.hv_judge.specs.Answers.{SameAnswer, OneAnswerLaw}
+use Rattle.hv_judge.proofs.StaticPlaces.{SameStatic, one_static, none_first}
+use Rattle.hv_judge.proofs.TextFaults.{Compared, less, equal, more, compare, Faulty, is_faulty, SameFault, one_fault, no_fault}
+
+-- the verdict on one domain, problem and plan
+
+all_or_first : (s : State) (actions : List Action) (k : ℕ) → AreApplicable s actions → IsFirstInapplicable s actions k → ⊥
+all_or_first s actions k all first = first.inapplicable (all k first.within)
+
+one_inapplicable : (s : State) (actions : List Action) (j k : ℕ) → IsFirstInapplicable s actions j → IsFirstInapplicable s actions k → j ≡ k
+one_inapplicable s actions j k here there = at (compare j k) where
+  at : Compared j k → j ≡ k
+  at (less h) = absurd (here.inapplicable (there.first j h))
+  at (equal e) = e
+  at (more h) = absurd (there.inapplicable (here.first k h))
+
+module _ (d : Domain) (p : Problem) (q : Plan) (limit : ℕ) where
+  solved : (c : Certificate) → Certifies c d p q → IsOrdered p q
+  solved c h = (c.root.children.items, h.matching, h.ordered)
+
+  run_or_cause : (c : Cause) → IsRun d p q → IsCauseOf d p q limit c → (count_of p ≤ limit) × (IsOrdered p q → ⊥)
+  run_or_cause c run (by_tree e is) = let none = run.tree in absurd (cc)
+  run_or_cause _ run (by_action k line tree first at) = absurd (all_or_first _ _ k run.applicable first)
+  run_or_cause _ run (by_goal tree all goal) = let reached = run.goal in absurd (cc)
+  run_or_cause _ run (by_order again within none) = (within, none)
+
+  one_cause : (c e : Cause) → IsCauseOf d p q limit c → IsCauseOf d p q limit e → c ≡ e
+  one_cause c e (by_tree c' is) (by_tree e' other) = cc
+  one_cause c _ (by_tree c' is) (by_action k line tree first at) = absurd (cc)
+  one_cause c _ (by_tree c' is) (by_goal tree all goal) = absurd (cc)
+  one_cause c _ (by_tree c' is) (by_order run within none) = let tree = run.tree in absurd (cc)
+  one_cause _ e (by_action k line tree first at) (by_tree e' other) = absurd (cc)
+  one_cause _ _ (by_action k line tree first at) (by_action j other tree' first' at') =
+      let same = one_inapplicable (first_state p) (actions_of d q) k j first first' in
+      let here : option_map (λ l. l.line) (slice_get q.actions j) ≡ Some line = subst (λ i. option_map (λ l. l.line) (slice_get q.actions i) ≡ Some line) same at in
+      let equal_lines : line ≡ other = cc in
+      ap (λ n. record { kind = causes.Inapplicable; line = Some n }) equal_lines
+  one_cause _ _ (by_action k line tree first at) (by_goal tree' all goal) = absurd (all_or_first _ _ k all first)
+  one_cause _ _ (by_action k line tree first at) (by_order run within none) = absurd (all_or_first _ _ k run.applicable first)
+  one_cause _ e (by_goal tree all goal) (by_tree e' other) = absurd (cc)
+  one_cause _ _ (by_goal tree all goal) (by_action k line tree' first at) = absurd (all_or_first _ _ k all first)
+  one_cause _ _ (by_goal tree all goal) (by_goal tree' all' goal') = refl
+  one_cause _ _ (by_goal tree all goal) (by_order run within none) = let reached = run.goal in absurd (cc)
+  one_cause _ e (by_order run within none) (by_tree e' other) = let tree = run.tree in absurd (cc)
+  one_cause _ _ (by_order run within none) (by_action k line tree first at) = absurd (all_or_first _ _ k run.applicable first)
+  one_cause _ _ (by_order run within none) (by_goal tree all goal) = let reached = run.goal in absurd (cc)
+  one_cause _ _ (by_order run within none) (by_order run' within' none') = refl
+
+  solves_or_fails : (c : Certificate) (e : Cause) → Certifies c d p q → IsCauseOf d p q limit e → ⊥
+  solves_or_fails c e good bad = (run_or_cause e good.run bad).1 (solved c good)
+
+  fails_or_many : (e : Cause) → IsRun d p q → limit < count_of p → IsCauseOf d p q limit e → ⊥
+  fails_or_many e run many bad = let within = (run_or_cause e run bad).0 in omega arith
+
+  one_verdict : (a b : Answer) → IsVerdict d p q limit a → IsVerdict d p q limit b → SameAnswer a b
+  one_verdict (Solves c) (Solves e) h g = tt
+  one_verdict (Solves c) (Fails e) h g = solves_or_fails c e h.1 g
+  one_verdict (Solves c) (Undecided m) (within, h) (run, many, at) = omega arith
+  one_verdict (Solves c) (Rejected v g) h x = x
+  one_verdict (Fails c) (Solves e) h g = solves_or_fails e c g.1 h
+  one_verdict (Fails c) (Fails e) h g = one_cause c e h g
+  one_verdict (Fails c) (Undecided m) h (run, many, at) = fails_or_many c run many h
+  one_verdict (Fails c) (Rejected v g) h x = x
+  one_verdict (Undecided l) (Solves e) (run, many, at) (within, g) = omega arith
+  one_verdict (Undecided l) (Fails e) (run, many, at) g = fails_or_many e run many g
+  one_verdict (Undecided l) (Undecided m) (run, many, at) (run', many', at') = cc
+  one_verdict (Undecided l) (Rejected v g) h x = x
+  one_verdict (Rejected w f) b x g = absurd x
+
+-- a plan's text
+
+one_plan : (text : List ℕ) (p q : Plan) → IsPlan text p → IsPlan text q → p ≡ q
+one_plan text p q here there =
+    let mine = here.body.root in let yours = there.body.root in
+    let roots : p.root ≡ q.root = cc in
+    let mine' = here.body.actions in let yours' = there.body.actions in
+    let actions : p.actions ≡ q.actions = cc in
+    let same : (xs : List forms.Action) (r : forms.Root) → xs ≡ q.actions → r ≡ q.root → ◌≡◌ {A = Plan} (record { actions = xs; root = r }) q
+    = λ xs r e h. ap (λ ys. record { actions = ys; root = r }) e ∙ ap (λ z. record { actions = q.actions; root = z }) h in
+    same p.actions p.root actions roots
+
+no_body_fault : (ls : List NumberedLine) (p : Plan) (f : PlanFault) (r : Fault) → fault_from false ls ≡ None → roots_of ls ≡ p.root ∷ [] → reported_plan f ≡ Some r
+    → IsBodyFault ls f → ⊥
+no_body_fault ls p (plans.BadByte n) r sound root is h = cc
+no_body_fault ls p (plans.BadLine n) r sound root is h = cc
+no_body_fault ls p (plans.IdTooLarge n) r sound root is h = cc
+no_body_fault ls p (plans.RepeatedRoot n) r sound root is h = cc
+no_body_fault ls p plans.NoRoot r sound root is (none, rootless) = cc
+no_body_fault ls p plans.TooLong r sound root is h = h
+no_body_fault ls p plans.NoStart r sound root is h = h
+no_body_fault ls p plans.NoEnd r sound root is h = h
+no_body_fault ls p plans.Memory r sound root is h = let bad : None ≡ Some r = is in cc
+
+-- how a text holds no plan: it is too long, lacks a marker, or its lines are faulty
+data Unplanned (text : List ℕ) (f : PlanFault) : Type 0 where
+  too_long : 268435456 < length text → f ≡ plans.TooLong → Unplanned text f
+  no_start : length text ≤ 268435456 → has_start text ≡ false → f ≡ plans.NoStart → Unplanned text f
+  no_end : length text ≤ 268435456 → has_start text ≡ true → has_end text ≡ false → f ≡ plans.NoEnd → Unplanned text f
+  in_body : IsFaultWithin text f → Unplanned text f
+
+unplanned : (text : List ℕ) (f : PlanFault) (r : Fault) → reported_plan f ≡ Some r → IsPlanFault text f → Unplanned text f
+unplanned text plans.TooLong r is h = too_long h refl
+unplanned text plans.NoStart r is (size, h) = no_start size h refl
+unplanned text plans.NoEnd r is (size, starts, h) = no_end size starts h refl
+unplanned text plans.Memory r is h = let bad : None ≡ Some r = is in absurd (cc)
+unplanned text (plans.BadByte n) r is h = in_body h
+unplanned text (plans.BadLine n) r is h = in_body h
+unplanned text (plans.IdTooLarge n) r is h = in_body h
+unplanned text (plans.RepeatedRoot n) r is h = in_body h
+unplanned text plans.NoRoot r is h = in_body h
+
+planned_or_not : (text : List ℕ) (p : Plan) (f : PlanFault) (r : Fault) → IsPlan text p → reported_plan f ≡ Some r → Unplanned text f → ⊥
+planned_or_not text p f r good is (too_long size e) = let short = good.size in omega arith
+planned_or_not text p f r good is (no_start size h e) = let starts = good.starts in cc
+planned_or_not text p f r good is (no_end size starts h e) = let ends = good.ends in cc
+planned_or_not text p f r good is (in_body (size, starts, ends, h)) = no_body_fault (between text) p f r good.body.sound good.body.root is h
+
+-- the fault of lines, by what stands in them
+data FaultyLines (ls : List NumberedLine) (f : PlanFault) : Type 0 where
+  at_line : fault_from false ls ≡ Some f → FaultyLines ls f
+  rootless : fault_from false ls ≡ None → f ≡ plans.NoRoot → FaultyLines ls f
+
+faulty_lines : (ls : List NumberedLine) (f : PlanFault) (r : Fault) → reported_plan f ≡ Some r → IsBodyFault ls f → FaultyLines ls f
+faulty_lines ls (plans.BadByte n) r is h = at_line h
+faulty_lines ls (plans.BadLine n) r is h = at_line h
+faulty_lines ls (plans.IdTooLarge n) r is h = at_line h
+faulty_lines ls (plans.RepeatedRoot n) r is h = at_line h
+faulty_lines ls plans.NoRoot r is (none, h) = rootless none refl
+faulty_lines ls plans.TooLong r is h = absurd h
+faulty_lines ls plans.NoStart r is h = absurd h
+faulty_lines ls plans.NoEnd r is h = absurd h
+faulty_lines ls plans.Memory r is h = let bad : None ≡ Some r = is in absurd (cc)
+
+one_line_fault : (ls : List NumberedLine) (f g : PlanFault) → FaultyLines ls f → FaultyLines ls g → f ≡ g
+one_line_fault ls f g (at_line h) (at_line h') = cc
+one_line_fault ls f g (at_line h) (rootless h' e) = absurd (cc)
+one_line_fault ls f g (rootless h e) (at_line h') = absurd (cc)
+one_line_fault ls f g (rootless h e) (rootless h' e') = cc
+
+module _ (text : List ℕ) (f g : PlanFault) (r t : Fault) (is : reported_plan f ≡ Some r) (other : reported_plan g ≡ Some t) where
+  one_unplanned : Unplanned text f → Unplanned text g → f ≡ g
+  one_unplanned (too_long size e) (too_long size' e') = cc
+  one_unplanned (too_long size e) (no_start short h e') = absurd (omega arith)
+  one_unplanned (too_long size e) (no_end short starts h e') = absurd (omega arith)
+  one_unplanned (too_long size e) (in_body (short, starts, ends, h)) = absurd (omega arith)
+  one_unplanned (no_start short h e) (too_long size e') = absurd (omega arith)
+  one_unplanned (no_start short h e) (no_start short' h' e') = cc
+  one_unplanned (no_start short h e) (no_end short' starts h' e') = absurd (cc)
+  one_unplanned (no_start short h e) (in_body (short', starts, ends, h')) = absurd (cc)
+  one_unplanned (no_end short starts h e) (too_long size e') = absurd (omega arith)
+  one_unplanned (no_end short starts h e) (no_start short' h' e') = absurd (cc)
+  one_unplanned (no_end short starts h e) (no_end short' starts' h' e') = cc
+  one_unplanned (no_end short starts h e) (in_body (short', starts', ends, h')) = absurd (cc)
+  one_unplanned (in_body (short, starts, ends, h)) (too_long size e') = absurd (omega arith)
+  one_unplanned (in_body (short, starts, ends, h)) (no_start short' h' e') = absurd (cc)
+  one_unplanned (in_body (short, starts, ends, h)) (no_end short' starts' h' e') = absurd (cc)
+  one_unplanned (in_body (short, starts, ends, h)) (in_body (short', starts', ends', h')) =
+      one_line_fault (between text) f g (faulty_lines (between text) f r is h) (faulty_lines (between text) g t other h')
+
+-- from the laws of texts: a text has one reading, and its words stand in order
+module _ (one_reading : (text : List ℕ) (ts us : Trees) → AreExpressions text ts → AreExpressions text us → ts ≡ us)
+    (in_order : (text : List ℕ) → IsInOrder 0 (pieces text)) where
+  -- a domain's or a problem's text
+
+  module _ {V : Type 0} (reading : Trees → Result V (SyntaxKind × Span)) (text : List ℕ) where
+    one_value : (x y : V) → IsReadAs reading text (Ok x) → IsReadAs reading text (Ok y) → x ≡ y
+    one_value x y (ts, read, is) (us, read', is') =
+        let same = one_reading text ts us read read' in
+        let here : reading us ≡ Ok x = subst (λ v. reading v ≡ Ok x) same is in
+        let both : Ok x ≡ Ok y = sym here ∙ is' in cc
+
+    -- how a text says no value: it has no expressions, or they are faulty
+    data Unread (k : SyntaxKind) (s : Span) : Type 0 where
+      by_text : (t : TextKind) → k ≡ kinds.Text t → Faulty text t s → Unread k s
+      by_reading : IsReadAs reading text (Err (k, s)) → Unread k s
+
+    unread : (k : SyntaxKind) (s : Span) (f : FaultKind) → reported k ≡ Some f → IsFaultBy reading text k s → Unread k s
+    unread (kinds.Text texts.BadByte) s f is h = by_text texts.BadByte refl (is_faulty text texts.BadByte s (λ e. cc) h)
+    unread (kinds.Text texts.Unclosed) s f is h = by_text texts.Unclosed refl (is_faulty text texts.Unclosed s (λ e. cc) h)
+    unread (kinds.Text texts.Unopened) s f is h = by_text texts.Unopened refl (is_faulty text texts.Unopened s (λ e. cc) h)
+    unread (kinds.Text texts.TooDeep) s f is h = by_text texts.TooDeep refl (is_faulty text texts.TooDeep s (λ e. cc) h)
+    unread (kinds.Text texts.TooLong) s f is h = by_text texts.TooLong refl (is_faulty text texts.TooLong s (λ e. cc) h)
+    unread (kinds.Text texts.Memory) s f is h = let bad : None ≡ Some f = is in absurd (cc)
+    unread kinds.NotDefine s f is h = by_reading h
+    unread kinds.UnknownSection s f is h = by_reading h
+    unread kinds.RepeatedSection s f is h = by_reading h
+    unread kinds.MissingSection s f is h = by_reading h
+    unread kinds.Unsupported s f is h = by_reading h
+
+    read_or_not : (x : V) (k : SyntaxKind) (s : Span) → IsReadAs reading text (Ok x) → Unread k s → ⊥
+    read_or_not x k s (ts, read, is) (by_text t e h) = no_fault text ts t s read h
+    read_or_not x k s (ts, read, is) (by_reading (us, read', is')) =
+        let same = one_reading text ts us read read' in
+        let here : reading us ≡ Ok x = subst (λ v. reading v ≡ Ok x) same is in
+        let both : ◌≡◌ {A = Result V (SyntaxKind × Span)} (Ok x) (Err (k, s)) = sym here ∙ is' in cc
+
+    record SameUnread (k l : SyntaxKind) (s t : Span) : Type 0 where
+      kind : k ≡ l
+      place : s ≡ t
+
+    one_unread : (k l : SyntaxKind) (s t : Span) → Unread k s → Unread l t → SameUnread k l s t
+    one_unread k l s t (by_text i e h) (by_text j e' h') =
+        let same = one_fault text i j s t h h' in
+        let kinds_agree = same.kind in record { kind = cc; place = same.place }
+    one_unread k l s t (by_text i e h) (by_reading (us, read, is)) = absurd (no_fault text us i s read h)
+    one_unread k l s t (by_reading (ts, read, is)) (by_text j e h) = absurd (no_fault text ts j t read h)
+    one_unread k l s t (by_reading (ts, read, is)) (by_reading (us, read', is')) =
+        let same = one_reading text ts us read read' in
+        let here : reading us ≡ Err (k, s) = subst (λ v. reading v ≡ Err (k, s)) same is in
+        let both : ◌≡◌ {A = Result V (SyntaxKind × Span)} (Err (k, s)) (Err (l, t)) = sym here ∙ is' in
+        let faults_agree : ◌≡◌ {A = SyntaxKind × Span} (k, s) (l, t) = cc in
+        record { kind = ap (λ (f : SyntaxKind × Span). f.0) faults_agree; place = ap (λ (f : SyntaxKind × Span). f.1) faults_agree }
+
+    one_unread_fault : (k l : SyntaxKind) (s t : Span) (f g : FaultKind) → reported k ≡ Some f → reported l ≡ Some g → IsFaultBy reading text k s → IsFaultBy reading text l t
+        → fault_in f text s ≡ fault_in g text t
+    one_unread_fault k l s t f g is is' h h' =
+        let same = one_unread k l s t (unread k s f is h) (unread l t g is' h') in
+        let there : reported l ≡ Some f = subst (λ m. reported m ≡ Some f) same.kind is in
+        let both : f ≡ g = cc in
+        ap (λ m. fault_in m text s) both ∙ ap (fault_in g text) same.place
+
+    read_or_faulty : (x : V) (k : SyntaxKind) (s : Span) (f : FaultKind) → reported k ≡ Some f → IsReadAs reading text (Ok x) → IsFaultBy reading text k s → ⊥
+    read_or_faulty x k s f is good bad = read_or_not x k s good (unread k s f is bad)
+
+  -- static faults
+
+  static_or_not : (d : Domain) (p : Problem) (f : StaticFault) → IsStatic d p → IsFirstFault d p f → ⊥
+  static_or_not d p f sound (inl h) = none_first (domain_faults d) f sound.of_domain h
+  static_or_not d p f sound (inr (none, h)) = none_first (problem_faults d p) f sound.of_problem h
+
+  reported_at : (domain problem : List ℕ) (f g : StaticFault) (k l : FaultKind) → SameStatic f g → reported_static f.kind ≡ Some k → reported_static g.kind ≡ Some l
+      → SameAnswer (Rejected (which_of f.side) (fault_in k (text_of_side domain problem f.side) f.span)) (Rejected (which_of g.side) (fault_in l (text_of_side domain problem g.side) g.span))
+  reported_at domain problem f g k l same is is' =
+      let there : reported_static g.kind ≡ Some k = subst (λ m. reported_static m ≡ Some k) same.kind is in
+      let kind : k ≡ l = cc in
+      let side = same.side in
+      let texts_agree : text_of_side domain problem f.side ≡ text_of_side domain problem g.side = ap (text_of_side domain problem) side in (
+        ap which_of side,
+        ap (λ m. fault_in m (text_of_side domain problem f.side) f.span) kind ∙ ap (λ t. fault_in l t f.span) texts_agree
+            ∙ ap (λ n. fault_in l (text_of_side domain problem g.side) (record { start = n; past = 0 })) same.start,
+      )
+
+  -- rejected texts
+
+  module _ (domain problem : List ℕ) where
+    read_or_rejected : (d : Domain) (p : Problem) (w : Which) (f : Fault) → AreRead domain problem d p → IsRejectedPair domain problem w f → ⊥
+    read_or_rejected d p _ _ read (by_domain kind s k bad is) = read_or_faulty domain_of domain d kind s k is read.says_domain bad
+    read_or_rejected d p _ _ read (by_problem d' kind s k good bad is) = read_or_faulty problem_of problem p kind s k is read.says_problem bad
+    read_or_rejected d p _ _ read (by_statics d' p' f k good good' first is) =
+        let same = one_value domain_of domain d d' read.says_domain good in
+        let same' = one_value problem_of problem p p' read.says_problem good' in
+        static_or_not d' p' f (subst (λ x. IsStatic d' x) same' (subst (λ x. IsStatic x p) same read.sound)) first
+
+    one_pair : (w v : Which) (f g : Fault) → IsRejectedPair domain problem w f → IsRejectedPair domain problem v g → SameAnswer (Rejected w f) (Rejected v g)
+    one_pair _ _ _ _ (by_domain kind s k bad is) (by_domain kind' s' k' bad' is') = (refl, one_unread_fault domain_of domain kind kind' s s' k k' is is' bad bad')
+    one_pair _ _ _ _ (by_domain kind s k bad is) (by_problem d kind' s' k' good bad' is') = absurd (read_or_faulty domain_of domain d kind s k is good bad)
+    one_pair _ _ _ _ (by_domain kind s k bad is) (by_statics d p f k' good good' first is') = absurd (read_or_faulty domain_of domain d kind s k is good bad)
+    one_pair _ _ _ _ (by_problem d kind s k good bad is) (by_domain kind' s' k' bad' is') = absurd (read_or_faulty domain_of domain d kind' s' k' is' good bad')
+    one_pair _ _ _ _ (by_problem d kind s k good bad is) (by_problem d' kind' s' k' good' bad' is') = (refl, one_unread_fault problem_of problem kind kind' s s' k k' is is' bad bad')
+    one_pair _ _ _ _ (by_problem d kind s k good bad is) (by_statics d' p f k' good' said first is') = absurd (read_or_faulty problem_of problem p kind s k is said bad)
+    one_pair _ _ _ _ (by_statics d p f k good said first is) (by_domain kind' s' k' bad' is') = absurd (read_or_faulty domain_of domain d kind' s' k' is' good bad')
+    one_pair _ _ _ _ (by_statics d p f k good said first is) (by_problem d' kind' s' k' good' bad' is') = absurd (read_or_faulty problem_of problem p kind' s' k' is' said bad')
+    one_pair _ _ _ _ (by_statics d p f k good said first is) (by_statics d' p' g k' good' said' first' is') =
+        let same = one_value domain_of domain d d' good good' in
+        let same' = one_value problem_of problem p p' said said' in
+        let here : IsFirstFault d' p' f = subst (λ x. IsFirstFault d' x f) same' (subst (λ x. IsFirstFault x p f) same first) in
+        reported_at domain problem f g k k' (one_static in_order domain problem d' p' f g good' said' here first') is is'
+
+  module _ (domain problem plan : List ℕ) where
+    spelled_or_rejected : (d : Domain) (p : Problem) (q : Plan) (w : Which) (f : Fault) → AreSpelled domain problem plan d p q → IsRejected domain problem plan w f → ⊥
+    spelled_or_rejected d p q w _ spelled (by_length v long) = let short = spelled.short in cc
+    spelled_or_rejected d p q w f spelled (by_pair v g short bad) = read_or_rejected domain problem d p w f spelled.read bad
+    spelled_or_rejected d p q _ r spelled (by_plan d' p' f g short read bad is) = planned_or_not plan q f r spelled.planned is (unplanned plan f r is bad)
+
+    one_rejected : (w v : Which) (f g : Fault) → IsRejected domain problem plan w f → IsRejected domain problem plan v g → SameAnswer (Rejected w f) (Rejected v g)
+    one_rejected w v _ _ (by_length w' long) (by_length v' long') = let same : w ≡ v = cc in (same, refl)
+    one_rejected w v _ g (by_length w' long) (by_pair v' g' short bad) = absurd (cc)
+    one_rejected w _ _ g (by_length w' long) (by_plan d p f' g' short read bad is) = absurd (cc)
+    one_rejected w v f _ (by_pair w' f' short bad) (by_length v' long) = absurd (cc)
+    one_rejected w v f g (by_pair w' f' short bad) (by_pair v' g' short' bad') = one_pair domain problem w v f g bad bad'
+    one_rejected w _ f g (by_pair w' f' short bad) (by_plan d p h g' short' read bad' is) = absurd (read_or_rejected domain problem d p w f read bad)
+    one_rejected _ v f _ (by_plan d p h f' short read bad is) (by_length v' long) = absurd (cc)
+    one_rejected _ v f g (by_plan d p h f' short read bad is) (by_pair v' g' short' bad') = absurd (read_or_rejected domain problem d p v g read bad')
+    one_rejected _ _ f g (by_plan d p h f' short read bad is) (by_plan d' p' i g' short' read' bad' is') =
+        let same = one_unplanned plan h i f g is is' (unplanned plan h f is bad) (unplanned plan i g is' bad') in
+        let there : reported_plan i ≡ Some f = subst (λ m. reported_plan m ≡ Some f) same is in
+        let faults_agree : f ≡ g = cc in (refl, faults_agree)
+
+  -- the whole
+
+  module _ (domain problem plan : List ℕ) (limit : ℕ) where
+    one_judgement : (a b : Answer) → IsJudgement domain problem plan limit a → IsJudgement domain problem plan limit b → SameAnswer a b
+    one_judgement a b (d, p, q, spelled, h) (d', p', q', spelled', g) =
+        let domains = one_value domain_of domain d d' spelled.read.says_domain spelled'.read.says_domain in
+        let problems = one_value problem_of problem p p' spelled.read.says_problem spelled'.read.says_problem in
+        let plans_agree = one_plan plan q q' spelled.planned spelled'.planned in
+        let here : IsVerdict d' p' q' limit a = subst (λ x. IsVerdict d' p' x limit a) plans_agree (subst (λ x. IsVerdict d' x q limit a) problems (subst (λ x. IsVerdict x p q limit a) domains h)) in
+        one_verdict d' p' q' limit a b here g
+
+    judged_or_rejected : (a : Answer) (w : Which) (f : Fault) → IsJudgement domain problem plan limit a → IsRejected domain problem plan w f → ⊥
+    judged_or_rejected a w f (d, p, q, spelled, h) bad = spelled_or_rejected domain problem plan d p q w f spelled bad
+
+  pub one_answer : OneAnswerLaw
+  one_answer domain problem plan limit (Solves c) (Solves e) h g = tt
+  one_answer domain problem plan limit (Solves c) (Fails e) h g = one_judgement domain problem plan limit (Solves c) (Fails e) h g
+  one_answer domain problem plan limit (Solves c) (Undecided m) h g = one_judgement domain problem plan limit (Solves c) (Undecided m) h g
+  one_answer domain problem plan limit (Solves c) (Rejected v r) h g = judged_or_rejected domain problem plan limit (Solves c) v r h g
+  one_answer domain problem plan limit (Fails c) (Solves e) h g = one_judgement domain problem plan limit (Fails c) (Solves e) h g
+  one_answer domain problem plan limit (Fails c) (Fails e) h g = one_judgement domain problem plan limit (Fails c) (Fails e) h g
+  one_answer domain problem plan limit (Fails c) (Undecided m) h g = one_judgement domain problem plan limit (Fails c) (Undecided m) h g
+  one_answer domain problem plan limit (Fails c) (Rejected v r) h g = judged_or_rejected domain problem plan limit (Fails c) v r h g
+  one_answer domain problem plan limit (Undecided l) (Solves e) h g = one_judgement domain problem plan limit (Undecided l) (Solves e) h g
+  one_answer domain problem plan limit (Undecided l) (Fails e) h g = one_judgement domain problem plan limit (Undecided l) (Fails e) h g
+  one_answer domain problem plan limit (Undecided l) (Undecided m) h g = one_judgement domain problem plan limit (Undecided l) (Undecided m) h g
+  one_answer domain problem plan limit (Undecided l) (Rejected v r) h g = judged_or_rejected domain problem plan limit (Undecided l) v r h g
+  one_answer domain problem plan limit (Rejected w f) (Solves e) h g = judged_or_rejected domain problem plan limit (Solves e) w f g h
+  one_answer domain problem plan limit (Rejected w f) (Fails e) h g = judged_or_rejected domain problem plan limit (Fails e) w f g h
+  one_answer domain problem plan limit (Rejected w f) (Undecided m) h g = judged_or_rejected domain problem plan limit (Undecided m) w f g h
+  one_answer domain problem plan limit (Rejected w f) (Rejected v r) h g = one_rejected domain problem plan w v f r h g

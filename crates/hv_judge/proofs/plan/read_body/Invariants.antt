@@ -1,0 +1,17 @@
+use Rattle.std.proofs.Common.{◌≡◌, ◌++◌, ℕ, length, map, is_some, false}
+use Rattle.hv_judge.specs.PlanLines.{before_end}
+use Rattle.hv_judge.specs.PlanViews.{lines_left, IsWithin}
+use Rattle.hv_judge.specs.Plans.{action_view, actions_of, roots_of, fault_from}
+use Rattle.hv_judge.proofs.PlanLemmas.{found_roots}
+use Rattle.hv_judge.proofs.plan.read_body.Given as goal
+
+-- what was read and what is left give what the whole gives
+abbrev pub invariant-lines : goal.invariant-lines
+invariant-lines l =
+    IsWithin l.lines
+    × (map action_view l.actions.items ++ actions_of (before_end (lines_left l.lines)) ≡ actions_of (before_end (lines_left l.fn.lines)))
+    × (found_roots l.root ++ roots_of (before_end (lines_left l.lines)) ≡ roots_of (before_end (lines_left l.fn.lines)))
+    × (fault_from (is_some l.root) (before_end (lines_left l.lines)) ≡ fault_from false (before_end (lines_left l.fn.lines)))
+
+abbrev pub decreases-lines : goal.decreases-lines
+decreases-lines l = length l.lines.left.now

@@ -1,0 +1,14 @@
+use Rattle.hv_judge.proofs.RunLemmas.{wrote_as, judged_domain, unread_domain}
+use Rattle.hv_judge.proofs.running.run.Goals as goal
+
+pub returns-in-Ok-clause-wrote : goal.returns-in-Ok-clause-wrote
+returns-in-Ok-clause-wrote g c =
+    wrote_as _ _ g.W.Sink.taken _ _ c.args.explain c.run_problem.result
+    (judged_domain g.A.Source.left c.args.domain.now c.read_all.new.reader g.B.Source.left c.args.problem.now c.run_problem.new.problem g.C.Source.left c.args.plan.now c.run_problem.new.plan c.args.limit c.in-Ok.domain.items _ c.deref.ensures.value c.in-Ok.ensures.ok)
+    c.run_problem.ensures.wrote
+
+pub returns-in-Err-clause-wrote : goal.returns-in-Err-clause-wrote
+returns-in-Err-clause-wrote g c =
+    wrote_as _ _ g.W.Sink.taken _ _ c.args.explain c.finish_unread.result
+    (unread_domain g.A.Source.left c.args.domain.now c.read_all.new.reader g.B.Source.left c.args.problem.now g.C.Source.left c.args.plan.now c.args.limit c.in-Err.fault c.in-Err.ensures.err)
+    c.finish_unread.ensures.wrote

@@ -1,0 +1,14 @@
+use Rattle.hv_judge.proofs.RunLemmas.{wrote_as, judged_plan, unread_plan}
+use Rattle.hv_judge.proofs.running.run_plan.Goals as goal
+
+pub returns-in-Ok-clause-wrote : goal.returns-in-Ok-clause-wrote
+returns-in-Ok-clause-wrote g c =
+    wrote_as _ _ g.W.Sink.taken _ _ c.args.explain c.judge_texts.result
+    (judged_plan g.C.Source.left c.args.plan.now c.read_all.new.reader c.args.limit c.args.domain.now c.args.problem.now c.in-Ok.plan.items _ c.deref.ensures.value c.in-Ok.ensures.ok)
+    c.judge_texts.ensures.wrote
+
+pub returns-in-Err-clause-wrote : goal.returns-in-Err-clause-wrote
+returns-in-Err-clause-wrote g c =
+    wrote_as _ _ g.W.Sink.taken _ _ c.args.explain c.finish_unread.result
+    (unread_plan g.C.Source.left c.args.plan.now c.read_all.new.reader c.args.limit c.args.domain.now c.args.problem.now c.in-Err.fault c.in-Err.ensures.err)
+    c.finish_unread.ensures.wrote

@@ -1,0 +1,118 @@
+-- Which texts are rejected, and with which fault at which place.
+use Rattle.std.specs.Prelude.{◌≡◌, ◌==◌, ◌+◌, ◌<◌, ◌≤◌, ℕ, not, nat_lt, List, length, take, count_by, Option, None, Some, if◌then◌else◌}
+use Rattle.std.specs.List.{suffix_len}
+use Rattle.hv_text.specs.declared.span.Span.{Span}
+use Rattle.hv_text.specs.declared.fault.TextKind.TheVariants as texts
+use Rattle.hv_text.specs.declared.fault.TheConstants.{MOST_BYTES}
+use Rattle.hv_judge.specs.declared.answer.Which.{Which}
+use Rattle.hv_judge.specs.declared.answer.Which.TheVariants as which
+use Rattle.hv_judge.specs.declared.answer.FaultKind.{FaultKind}
+use Rattle.hv_judge.specs.declared.answer.FaultKind.TheVariants as faults
+use Rattle.hv_judge.specs.declared.answer.Fault.{Fault}
+use Rattle.hv_judge.specs.declared.answer.Place.TheVariants.{Nowhere, Line, At}
+use Rattle.hv_judge.specs.declared.judgement.Unread.{Unread}
+use Rattle.hv_judge.specs.declared.judgement.Unread.TheVariants as unread
+use Rattle.hv_judge.specs.declared.plan.PlanFault.{PlanFault}
+use Rattle.hv_judge.specs.declared.plan.PlanFault.TheVariants as plans
+use Rattle.hv_judge.specs.declared.syntax.fault.SyntaxKind.{SyntaxKind}
+use Rattle.hv_judge.specs.declared.syntax.fault.SyntaxKind.TheVariants as kinds
+use Rattle.hv_judge.specs.declared.world.fault.Side.{Side}
+use Rattle.hv_judge.specs.declared.world.fault.Side.TheVariants as sides
+use Rattle.hv_judge.specs.declared.world.fault.StaticKind.{StaticKind}
+use Rattle.hv_judge.specs.declared.world.fault.StaticKind.TheVariants as statics
+use Rattle.hv_judge.specs.declared.world.fault.StaticFault.{StaticFault}
+use Rattle.hv_judge.specs.Values.{Domain, Problem}
+use Rattle.hv_judge.specs.Statics.{IsStatic, IsFirstFault}
+use Rattle.hv_judge.specs.Texts.{IsDomainText, IsDomainFault, IsProblemText, IsProblemFault}
+use Rattle.hv_judge.specs.Plans.{IsPlanFault}
+
+-- the kind under which a fault of a domain's or a problem's text is reported; want of memory is reported as no fault
+abbrev pub reported : SyntaxKind → Option FaultKind
+reported (kinds.Text texts.BadByte) = Some faults.BadByte
+reported (kinds.Text texts.Unclosed) = Some faults.Unclosed
+reported (kinds.Text texts.Unopened) = Some faults.Unopened
+reported (kinds.Text texts.TooDeep) = Some faults.TooDeep
+reported (kinds.Text texts.TooLong) = Some faults.TooLong
+reported (kinds.Text texts.Memory) = None
+reported kinds.NotDefine = Some faults.NotDefine
+reported kinds.UnknownSection = Some faults.UnknownSection
+reported kinds.RepeatedSection = Some faults.RepeatedSection
+reported kinds.MissingSection = Some faults.MissingSection
+reported kinds.Unsupported = Some faults.Unsupported
+
+abbrev pub reported_static : StaticKind → Option FaultKind
+reported_static statics.UnknownPredicate = Some faults.UnknownPredicate
+reported_static statics.UnknownTask = Some faults.UnknownTask
+reported_static statics.DuplicateName = Some faults.DuplicateName
+reported_static statics.Memory = None
+
+-- a fault at a line and column, which count from 1: lines by the bytes 10 before the place, columns by the bytes since the last of these
+abbrev pub fault_in : FaultKind → List ℕ → Span → Fault
+fault_in kind text s =
+    record { kind = kind; place = At (1 + count_by (λ b. b == 10) (take s.start text)) (1 + suffix_len (λ b. not (b == 10)) (take s.start text)) }
+
+-- a fault without a place, and a fault at a line
+abbrev pub fault_nowhere : FaultKind → Fault
+fault_nowhere kind = record { kind = kind; place = Nowhere }
+
+abbrev pub fault_on : FaultKind → ℕ → Fault
+fault_on kind line = record { kind = kind; place = Line line }
+
+-- the fault that is reported for a plan's; want of memory is reported as none
+abbrev pub reported_plan : PlanFault → Option Fault
+reported_plan (plans.BadByte line) = Some (fault_on faults.BadByte line)
+reported_plan plans.TooLong = Some (fault_nowhere faults.TooLong)
+reported_plan plans.NoStart = Some (fault_nowhere faults.NoStart)
+reported_plan plans.NoEnd = Some (fault_nowhere faults.NoEnd)
+reported_plan (plans.BadLine line) = Some (fault_on faults.BadLine line)
+reported_plan (plans.IdTooLarge line) = Some (fault_on faults.IdTooLarge line)
+reported_plan plans.NoRoot = Some (fault_nowhere faults.NoRoot)
+reported_plan (plans.RepeatedRoot line) = Some (fault_on faults.RepeatedRoot line)
+reported_plan plans.Memory = None
+
+-- the first text that is too long
+abbrev pub first_too_long : List ℕ → List ℕ → List ℕ → Option Which
+first_too_long domain problem plan =
+    if nat_lt MOST_BYTES (length domain) then Some which.Domain else
+    if nat_lt MOST_BYTES (length problem) then Some which.Problem else
+    if nat_lt MOST_BYTES (length plan) then Some which.Plan else None
+
+abbrev pub which_of : Side → Which
+which_of sides.Domain = which.Domain
+which_of sides.Problem = which.Problem
+
+abbrev pub text_of_side : List ℕ → List ℕ → Side → List ℕ
+text_of_side domain problem sides.Domain = domain
+text_of_side domain problem sides.Problem = problem
+
+-- a domain and a problem spell these values, which have no static fault
+pub record AreRead (domain problem : List ℕ) (d : Domain) (p : Problem) : Type 0 where
+  pub says_domain : IsDomainText domain d
+  pub says_problem : IsProblemText problem p
+  pub sound : IsStatic d p
+
+-- a domain or a problem is rejected: the domain's text comes first, then the problem's, then static faults
+pub data IsRejectedPair (domain problem : List ℕ) : Which → Fault → Type 0 where
+  by_domain : (kind : SyntaxKind) (s : Span) (k : FaultKind) → IsDomainFault domain kind s → reported kind ≡ Some k
+      → IsRejectedPair domain problem which.Domain (fault_in k domain s)
+  by_problem : (d : Domain) (kind : SyntaxKind) (s : Span) (k : FaultKind) → IsDomainText domain d → IsProblemFault problem kind s → reported kind ≡ Some k
+      → IsRejectedPair domain problem which.Problem (fault_in k problem s)
+  by_statics : (d : Domain) (p : Problem) (f : StaticFault) (k : FaultKind) → IsDomainText domain d → IsProblemText problem p → IsFirstFault d p f
+      → reported_static f.kind ≡ Some k → IsRejectedPair domain problem (which_of f.side) (fault_in k (text_of_side domain problem f.side) f.span)
+
+-- what the code says where a text is faulty: a fault of this kind at its place, or want of memory where there is no kind
+abbrev pub unread_by : Option FaultKind → Which → List ℕ → Span → Unread
+unread_by None w text s = unread.Memory
+unread_by (Some k) w text s = unread.Rejected w (fault_in k text s)
+
+-- what the code knows where there is no world
+abbrev pub IsUnread : List ℕ → List ℕ → Unread → Type 0
+IsUnread domain problem (unread.Rejected w f) = IsRejectedPair domain problem w f
+IsUnread domain problem unread.Memory = Unit {0}
+
+-- A text is rejected: the first that is too long; else the domain or the problem; else the plan
+pub data IsRejected (domain problem plan : List ℕ) : Which → Fault → Type 0 where
+  by_length : (w : Which) → first_too_long domain problem plan ≡ Some w → IsRejected domain problem plan w (fault_nowhere faults.TooLong)
+  by_pair : (w : Which) (f : Fault) → first_too_long domain problem plan ≡ None → IsRejectedPair domain problem w f → IsRejected domain problem plan w f
+  by_plan : (d : Domain) (p : Problem) (f : PlanFault) (r : Fault) → first_too_long domain problem plan ≡ None → AreRead domain problem d p → IsPlanFault plan f
+      → reported_plan f ≡ Some r → IsRejected domain problem plan which.Plan r

@@ -1,0 +1,328 @@
+//! Verdicts: what the judge says of a domain, a problem and a plan.
+
+ghost use Rattle.std.specs.Prelude.{◌≡◌};
+ghost use Rattle.hv_judge.specs.Kinds.{fault_number, fault_name, cause_number, cause_name, which_name};
+
+use hv_text::Name;
+
+/// Which of the three texts.
+#[derive(Clone, Copy, Debug, PartialEq, Eq)]
+pub enum Which {
+    Domain,
+    Problem,
+    Plan,
+}
+
+impl Which {
+    /// The text's name in an answer.
+    pub fn name(self) -> &'static str
+        ensures { result.now ≡ which_name self }
+    {
+        match self {
+            Which::Domain => "domain",
+            Which::Problem => "problem",
+            Which::Plan => "plan",
+        }
+    }
+}
+
+/// What is wrong with a text that is rejected. Each kind has a number and a name, under which users find it.
+#[derive(Clone, Copy, Debug, PartialEq, Eq)]
+pub enum FaultKind {
+    /// A byte outside comments that no word holds and that is no white space.
+    BadByte,
+    /// A `(` that is still open at the end of the text.
+    Unclosed,
+    /// A `)` where none is open.
+    Unopened,
+    /// A `(` where 256 are open.
+    TooDeep,
+    /// More than 268,435,456 bytes.
+    TooLong,
+    /// The text is not one list that begins with `define` and its name.
+    NotDefine,
+    /// A member that is no section of such a text.
+    UnknownSection,
+    /// A second section of a kind that may stand once.
+    RepeatedSection,
+    /// A problem without a section that it must have.
+    MissingSection,
+    /// A section of no form of the language.
+    BadShape,
+    /// A section of a form that is left out of the language.
+    Unsupported,
+    /// A type that is not declared.
+    UnknownType,
+    /// A name that is no constant and no object.
+    UnknownObject,
+    /// A predicate that is not declared.
+    UnknownPredicate,
+    /// A head that is no task (and, for a subtask, no action).
+    UnknownTask,
+    /// A variable that nothing binds.
+    UnboundVariable,
+    /// Another number of arguments than declared.
+    Arity,
+    /// A second predicate, method, or task or action of one name.
+    DuplicateName,
+    /// A variable twice in one list.
+    DuplicateVariable,
+    /// A label twice in one network.
+    DuplicateLabel,
+    /// An ordering of a label that its network lacks.
+    UnknownLabel,
+    /// An ordering in which a subtask stands before itself.
+    CyclicOrdering,
+    /// No line `==>`.
+    NoStart,
+    /// No line `<==` after the first `==>`.
+    NoEnd,
+    /// A line of no form of a plan.
+    BadLine,
+    /// An id past 18,446,744,073,709,551,615.
+    IdTooLarge,
+    /// No `root` line.
+    NoRoot,
+    /// A second `root` line.
+    RepeatedRoot,
+}
+
+impl FaultKind {
+    /// The number under which the fault is reported.
+    pub fn number(self) -> u32
+        ensures { result ≡ fault_number self }
+    {
+        match self {
+            FaultKind::BadByte => 1,
+            FaultKind::Unclosed => 2,
+            FaultKind::Unopened => 3,
+            FaultKind::TooDeep => 4,
+            FaultKind::TooLong => 5,
+            FaultKind::NotDefine => 10,
+            FaultKind::UnknownSection => 11,
+            FaultKind::RepeatedSection => 12,
+            FaultKind::MissingSection => 13,
+            FaultKind::BadShape => 14,
+            FaultKind::Unsupported => 15,
+            FaultKind::UnknownType => 20,
+            FaultKind::UnknownObject => 21,
+            FaultKind::UnknownPredicate => 22,
+            FaultKind::UnknownTask => 23,
+            FaultKind::UnboundVariable => 24,
+            FaultKind::Arity => 25,
+            FaultKind::DuplicateName => 26,
+            FaultKind::DuplicateVariable => 27,
+            FaultKind::DuplicateLabel => 28,
+            FaultKind::UnknownLabel => 29,
+            FaultKind::CyclicOrdering => 30,
+            FaultKind::NoStart => 40,
+            FaultKind::NoEnd => 41,
+            FaultKind::BadLine => 42,
+            FaultKind::IdTooLarge => 43,
+            FaultKind::NoRoot => 44,
+            FaultKind::RepeatedRoot => 45,
+        }
+    }
+
+    /// The name under which the fault is reported.
+    pub fn name(self) -> &'static str
+        ensures { result.now ≡ fault_name self }
+    {
+        match self {
+            FaultKind::BadByte => "BadByte",
+            FaultKind::Unclosed => "Unclosed",
+            FaultKind::Unopened => "Unopened",
+            FaultKind::TooDeep => "TooDeep",
+            FaultKind::TooLong => "TooLong",
+            FaultKind::NotDefine => "NotDefine",
+            FaultKind::UnknownSection => "UnknownSection",
+            FaultKind::RepeatedSection => "RepeatedSection",
+            FaultKind::MissingSection => "MissingSection",
+            FaultKind::BadShape => "BadShape",
+            FaultKind::Unsupported => "Unsupported",
+            FaultKind::UnknownType => "UnknownType",
+            FaultKind::UnknownObject => "UnknownObject",
+            FaultKind::UnknownPredicate => "UnknownPredicate",
+            FaultKind::UnknownTask => "UnknownTask",
+            FaultKind::UnboundVariable => "UnboundVariable",
+            FaultKind::Arity => "Arity",
+            FaultKind::DuplicateName => "DuplicateName",
+            FaultKind::DuplicateVariable => "DuplicateVariable",
+            FaultKind::DuplicateLabel => "DuplicateLabel",
+            FaultKind::UnknownLabel => "UnknownLabel",
+            FaultKind::CyclicOrdering => "CyclicOrdering",
+            FaultKind::NoStart => "NoStart",
+            FaultKind::NoEnd => "NoEnd",
+            FaultKind::BadLine => "BadLine",
+            FaultKind::IdTooLarge => "IdTooLarge",
+            FaultKind::NoRoot => "NoRoot",
+            FaultKind::RepeatedRoot => "RepeatedRoot",
+        }
+    }
+}
+
+/// Where in a text a fault stands.
+#[derive(Clone, Copy, Debug, PartialEq, Eq)]
+pub enum Place {
+    /// The fault has no place.
+    Nowhere,
+    /// A line, counted from 1.
+    Line(u32),
+    /// A line and a column in bytes, both counted from 1.
+    At { line: u32, column: u32 },
+}
+
+/// What is wrong with a rejected text, and where.
+#[derive(Clone, Copy, Debug, PartialEq, Eq)]
+pub struct Fault {
+    pub kind: FaultKind,
+    pub place: Place,
+}
+
+impl Fault {
+    /// The fault of a text of more than 268,435,456 bytes, which has no place.
+    pub fn too_long() -> Fault
+        ensures { result ≡ record { kind = FaultKind.TooLong; place = Place.Nowhere } }
+    {
+        Fault {
+            kind: FaultKind::TooLong,
+            place: Place::Nowhere,
+        }
+    }
+}
+
+/// Why a plan fails. Each kind has a number and a name, under which users find it.
+#[derive(Clone, Copy, Debug, PartialEq, Eq)]
+pub enum CauseKind {
+    /// An id begins two lines.
+    RepeatedId,
+    /// A child id begins no line.
+    UnknownChild,
+    /// An id is a child twice.
+    TwoParents,
+    /// A line is not reached from `root` by children.
+    Unreached,
+    /// A name is neither a task nor an action.
+    UnknownTask,
+    /// A name is no method.
+    UnknownMethod,
+    /// An argument is no object.
+    UnknownObject,
+    /// Another number of arguments than declared.
+    ArgumentCount,
+    /// An object is not of its parameter's type.
+    ArgumentType,
+    /// An action line names a task.
+    NotPrimitive,
+    /// A decomposition line names an action.
+    NotAbstract,
+    /// The method is for another task.
+    OtherTask,
+    /// The numbers of children and of subtasks differ.
+    ChildCount,
+    /// The names of children and of subtasks, each as often as it stands there, differ.
+    ChildNames,
+    /// An action's precondition is false before it.
+    Inapplicable,
+    /// The goal is false at the end.
+    GoalFalse,
+    /// No matching and no objects fit a node.
+    NoBinding,
+    /// No choice gives an order that the plan keeps.
+    OrderBroken,
+    /// No choice has a place for every precondition of a method.
+    PreconditionUnplaced,
+}
+
+impl CauseKind {
+    /// The number under which the cause is reported.
+    pub fn number(self) -> u32
+        ensures { result ≡ cause_number self }
+    {
+        match self {
+            CauseKind::RepeatedId => 50,
+            CauseKind::UnknownChild => 51,
+            CauseKind::TwoParents => 52,
+            CauseKind::Unreached => 53,
+            CauseKind::UnknownTask => 54,
+            CauseKind::UnknownMethod => 55,
+            CauseKind::UnknownObject => 56,
+            CauseKind::ArgumentCount => 57,
+            CauseKind::ArgumentType => 58,
+            CauseKind::NotPrimitive => 59,
+            CauseKind::NotAbstract => 60,
+            CauseKind::OtherTask => 61,
+            CauseKind::ChildCount => 62,
+            CauseKind::ChildNames => 63,
+            CauseKind::Inapplicable => 64,
+            CauseKind::GoalFalse => 65,
+            CauseKind::NoBinding => 66,
+            CauseKind::OrderBroken => 67,
+            CauseKind::PreconditionUnplaced => 68,
+        }
+    }
+
+    /// The name under which the cause is reported.
+    pub fn name(self) -> &'static str
+        ensures { result.now ≡ cause_name self }
+    {
+        match self {
+            CauseKind::RepeatedId => "RepeatedId",
+            CauseKind::UnknownChild => "UnknownChild",
+            CauseKind::TwoParents => "TwoParents",
+            CauseKind::Unreached => "Unreached",
+            CauseKind::UnknownTask => "UnknownTask",
+            CauseKind::UnknownMethod => "UnknownMethod",
+            CauseKind::UnknownObject => "UnknownObject",
+            CauseKind::ArgumentCount => "ArgumentCount",
+            CauseKind::ArgumentType => "ArgumentType",
+            CauseKind::NotPrimitive => "NotPrimitive",
+            CauseKind::NotAbstract => "NotAbstract",
+            CauseKind::OtherTask => "OtherTask",
+            CauseKind::ChildCount => "ChildCount",
+            CauseKind::ChildNames => "ChildNames",
+            CauseKind::Inapplicable => "Inapplicable",
+            CauseKind::GoalFalse => "GoalFalse",
+            CauseKind::NoBinding => "NoBinding",
+            CauseKind::OrderBroken => "OrderBroken",
+            CauseKind::PreconditionUnplaced => "PreconditionUnplaced",
+        }
+    }
+}
+
+/// Why a plan fails, and the line of the plan that is at fault, counted from 1, where one is.
+#[derive(Clone, Copy, Debug, PartialEq, Eq)]
+pub struct Cause {
+    pub kind: CauseKind,
+    pub line: Option<u32>,
+}
+
+/// What is chosen for one node of a plan.
+#[derive(Drop)]
+pub struct Choice<'s> {
+    /// For each subtask, in written order, the id of the child that does it.
+    pub children: Vec<u64>,
+    /// For each parameter, in written order, its object.
+    pub objects: Vec<Name<'s>>,
+}
+
+/// Why a plan solves its problem: one choice for `root`, and for each decomposition line, in the order of the text, its id,
+/// its choice and the index of the state in which its method's precondition is true.
+#[derive(Drop)]
+pub struct Certificate<'s> {
+    pub root: Choice<'s>,
+    pub lines: Vec<(u64, Choice<'s>, u32)>,
+}
+
+/// The verdict.
+#[derive(Drop)]
+pub enum Answer<'s> {
+    /// The plan solves the problem, for these choices.
+    Solves(Certificate<'s>),
+    /// The plan does not solve the problem, for this cause.
+    Fails(Cause),
+    /// The node on this line, counted from 1, has more choices than the limit.
+    Undecided(u32),
+    /// One of the texts is not judged.
+    Rejected(Which, Fault),
+}

@@ -1,0 +1,24 @@
+//! The judge: from the bytes of three texts to a verdict.
+#![tactic(auto)]
+
+mod answer;
+mod judgement;
+mod law;
+mod matching;
+mod plan;
+mod running;
+mod state;
+mod syntax;
+#[cfg(test)]
+mod tests;
+mod trace;
+mod tree;
+mod verdict;
+mod world;
+mod write;
+
+pub use answer::{Answer, Cause, CauseKind, Certificate, Choice, Fault, FaultKind, Place, Which};
+pub use judgement::judge;
+pub use law::one_answer;
+pub use running::{Kind, RunFault, run};
+pub use write::{write_answer, write_parts};
