@@ -1,0 +1,24 @@
+-- How the program ends.
+use Rattle.std.specs.Prelude.{ℕ, List, [], ◌++◌, codes}
+use Rattle.hv_judge.specs.declared.running.Kind.TheVariants as kinds
+use Rattle.hddlv.specs.declared.end.End.{End}
+use Rattle.hddlv.specs.declared.end.End.TheVariants.{Judged, Words, CannotRead, CannotWrite, OutOfMemory}
+
+-- the exit status
+abbrev pub status_of : End → ℕ
+status_of (Judged kinds.Solves) = 0
+status_of (Judged kinds.Fails) = 1
+status_of (Judged kinds.Undecided) = 2
+status_of (Judged kinds.Rejected) = 3
+status_of Words = 4
+status_of (CannotRead name) = 5
+status_of CannotWrite = 5
+status_of OutOfMemory = 5
+
+-- the line on standard error
+abbrev pub line_of : End → List ℕ
+line_of (Judged kind) = []
+line_of Words = []
+line_of (CannotRead name) = codes "hddlv: cannot read " ++ (name.now ++ codes "\n")
+line_of CannotWrite = codes "hddlv: cannot write\n"
+line_of OutOfMemory = codes "hddlv: out of memory\n"

@@ -1,0 +1,61 @@
+//! How the program ends: its exit status, and its line on standard error.
+
+ghost use Rattle.std.specs.Prelude.{◌≡◌, ◌<◌, ◌+◌, ◌-◌, ◌^◌, ◌++◌, codes, OnOk, OnErr, is_ok, if◌then◌else◌};
+ghost use Rattle.std.specs.Io.KnownBytes.{Appends};
+ghost use Rattle.hv_judge.specs.Text.{AppendsBeginning};
+ghost use Rattle.hddlv.specs.Ends.{status_of, line_of};
+
+use hv_judge::{Kind, write_parts};
+use hv_text::{Sink, WriteFault};
+
+/// How a run of the program ends.
+#[derive(Clone, Copy)]
+pub enum End<'a> {
+    /// A verdict of this kind was written.
+    Judged(Kind),
+    /// The words of the command line do not parse, or ask for help.
+    Words,
+    /// The file of this name cannot be opened or read.
+    CannotRead(&'a str),
+    /// The verdict cannot be written.
+    CannotWrite,
+    /// A growth of memory was refused.
+    OutOfMemory,
+}
+
+/// The exit status: 0 for a plan that solves its problem, 1 for one that fails, 2 for undecided, 3 for a rejected text, 4 for words that
+/// do not parse, and 5 where a file, the output or memory failed.
+pub fn status(end: &End<'_>) -> u8
+    ensures { result ≡ status_of end.now }
+{
+    match end {
+        End::Judged(Kind::Solves) => 0,
+        End::Judged(Kind::Fails) => 1,
+        End::Judged(Kind::Undecided) => 2,
+        End::Judged(Kind::Rejected) => 3,
+        End::Words => 4,
+        End::CannotRead(_) | End::CannotWrite | End::OutOfMemory => 5,
+    }
+}
+
+/// Writes the line of an end with status 5, and nothing for the others.
+///
+/// # Errors
+///
+/// `Device` where a write failed or took no byte; a beginning of the line was written then.
+pub fn write_end<W: Sink>(end: &End<'_>, out: &mut W) -> Result<(), WriteFault>
+    requires { W.failures out.old < 2 ^ 64 - 1 }
+    ensures ok { OnOk result (Appends (W.taken out.old) (W.taken out.new) (line_of end.now)) }
+    ensures err { OnErr result (AppendsBeginning (W.taken out.old) (W.taken out.new) (line_of end.now)) }
+    ensures failures { W.failures out.new ≡ W.failures out.old + (if is_ok result then 0 else 1) }
+{
+    match end {
+        End::CannotRead(name) => write_parts(
+            out,
+            &[b"hddlv: cannot read ", name.as_bytes(), b"\n"],
+        ),
+        End::CannotWrite => write_parts(out, &[b"hddlv: cannot write\n"]),
+        End::OutOfMemory => write_parts(out, &[b"hddlv: out of memory\n"]),
+        End::Judged(_) | End::Words => Ok(()),
+    }
+}

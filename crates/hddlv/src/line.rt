@@ -1,0 +1,142 @@
+//! The command line.
+
+ghost use Rattle.std.specs.Prelude.{◌≡◌, ◌↔◌, codes, map, IfOk, Some, true, false, string_bytes};
+ghost use Rattle.clap.specs.Words.{app_of, subcommand_of, rule_of, rows_of, found_of, first_of, with_rule, with_subcommand};
+ghost use Rattle.clap.specs.declared.builder.command.Command.TheViews.{out-Command};
+ghost use Rattle.hddlv.specs.Line.{line, judge_line, limit_rule, explain_rule, file_rule, HasLimit, HasOptions, IsJobOf};
+
+use crate::task::{Job, JobFault};
+use clap::{Arg, ArgAction, ArgMatches, Command};
+use std::alloc::{AllocError, Global};
+
+fn limit_arg<'a>(alloc: Global) -> Arg<'a>
+    ensures rule { rule_of result ≡ limit_rule }
+    ensures local { result.global ≡ false }
+{
+    Arg::new(alloc, "limit")
+        .long("limit")
+        .help("Leave a plan undecided where a node has more choices than this")
+        .default_value("1000000")
+        .value_parser(clap::value_parser!(u64))
+}
+
+fn explain_arg<'a>(alloc: Global) -> Arg<'a>
+    ensures rule { rule_of result ≡ explain_rule }
+    ensures local { result.global ≡ false }
+{
+    Arg::new(alloc, "explain")
+        .long("explain")
+        .help("Write the certificate of a plan that solves its problem")
+        .action(ArgAction::SetTrue)
+}
+
+fn file_arg<'a>(alloc: Global, id: &'a str, help: &'a str) -> Arg<'a>
+    ensures rule { rule_of result ≡ file_rule id.entry.now }
+    ensures local { result.global ≡ false }
+{
+    Arg::new(alloc, id).help(help).required(true)
+}
+
+fn with_arg<'a>(command: Command<'a>, arg: Arg<'a>) -> Result<Command<'a>, AllocError>
+    requires { arg.global ≡ false }
+    ensures app { IfOk result (λ c. app_of c ≡ with_rule (app_of command.entry) (rule_of arg.entry)) }
+    ensures local { IfOk result (λ c. (out-Command c).has_globals ≡ (out-Command command.entry).has_globals) }
+{
+    command.arg(arg)
+}
+
+fn with_command<'a>(above: Command<'a>, command: Command<'a>) -> Result<Command<'a>, AllocError>
+    requires { (out-Command command).has_globals ≡ false }
+    ensures app { IfOk result (λ c. app_of c ≡ with_subcommand (app_of above.entry) (app_of command.entry).top) }
+    ensures local { IfOk result (λ c. (out-Command c).has_globals ≡ (out-Command above.entry).has_globals) }
+{
+    above.subcommand(command)
+}
+
+fn judge_command<'a>(alloc: Global) -> Result<Command<'a>, AllocError>
+    ensures app { IfOk result (λ c. app_of c ≡ judge_line) }
+    ensures local { IfOk result (λ c. (out-Command c).has_globals ≡ false) }
+{
+    let command = Command::new(alloc, "judge");
+    let command = with_arg(command, limit_arg(alloc))?;
+    let command = with_arg(command, explain_arg(alloc))?;
+    let command = with_arg(command, file_arg(alloc, "domain", "The domain, in HDDL"))?;
+    let command = with_arg(command, file_arg(alloc, "problem", "The problem, in HDDL"))?;
+    let command = with_arg(
+        command,
+        file_arg(alloc, "plan", "The plan, with its decomposition tree"),
+    )?;
+    Ok(command)
+}
+
+fn command<'a>(alloc: Global) -> Result<Command<'a>, AllocError>
+    ensures { IfOk result (λ c. app_of c ≡ line) }
+{
+    let judge = judge_command(alloc)?;
+    let command = Command::new(alloc, "hddlv").subcommand_required(true);
+    let command = with_command(command, judge)?;
+    Ok(command)
+}
+
+fn text_of(alloc: Global, matches: &ArgMatches<'_>, id: &str) -> Result<String, JobFault>
+    ensures { IfOk result (λ s. first_of id.now (rows_of (found_of matches.now)) ≡ Some (string_bytes s)) }
+{
+    match matches.get_str(id) {
+        Some(text) => Ok(String::from_str(alloc, text)?),
+        None => Err(JobFault::Memory),
+    }
+}
+
+fn limit_of(matches: &ArgMatches<'_>) -> Result<u64, JobFault>
+    ensures { IfOk result (HasLimit (rows_of (found_of matches.now))) }
+{
+    match matches.get_one::<u64>("limit") {
+        Some(limit) => Ok(limit),
+        None => Err(JobFault::Memory),
+    }
+}
+
+fn is_explained(matches: &ArgMatches<'_>) -> bool
+    ensures { (result ≡ true) ↔ (first_of (codes "explain") (rows_of (found_of matches.now)) ≡ Some (codes "true")) }
+{
+    match matches.get_str("explain") {
+        Some(text) => text == "true",
+        None => false,
+    }
+}
+
+fn judge_job(alloc: Global, matches: &ArgMatches<'_>) -> Result<Job, JobFault>
+    ensures { IfOk result (HasOptions (rows_of (found_of matches.now))) }
+{
+    let domain = text_of(alloc, matches, "domain")?;
+    let problem = text_of(alloc, matches, "problem")?;
+    let plan = text_of(alloc, matches, "plan")?;
+    let limit = limit_of(matches)?;
+    let explain = is_explained(matches);
+    Ok(Job {
+        domain,
+        problem,
+        plan,
+        limit,
+        explain,
+    })
+}
+
+/// The job that the words name: what the definition of the command reads in them. The first word is the program's own.
+///
+/// # Errors
+///
+/// `Words` where they do not parse or ask for help, and `Memory` where a growth was refused.
+pub fn job<'a>(alloc: Global, words: &'a [&'a str]) -> Result<Job, JobFault>
+    ensures { IfOk result (IsJobOf (subcommand_of line (map (λ w. w.now) words.entry.now))) }
+{
+    let command = command(alloc)?;
+    let matches = command.try_get_matches_from(words)?;
+    let Some((name, inner)) = matches.subcommand() else {
+        return Err(JobFault::Memory);
+    };
+    if name != "judge" {
+        return Err(JobFault::Memory);
+    }
+    judge_job(alloc, inner)
+}

@@ -1,0 +1,47 @@
+//! What the words of the command line ask for.
+
+use std::alloc::{AllocError, AllocFailed};
+use thiserror::Error;
+
+/// Three files to be judged, by their names as given, with the limit on the choices of a node that are searched, and whether a
+/// certificate is written.
+#[derive(Drop)]
+pub struct Job {
+    pub domain: String,
+    pub problem: String,
+    pub plan: String,
+    pub limit: u64,
+    pub explain: bool,
+}
+
+/// Why the words name no job.
+#[derive(Debug, Drop, Error)]
+pub enum JobFault {
+    /// They do not parse, or ask for help.
+    #[error("{0}")]
+    Words(clap::Error),
+    /// A growth of memory was refused.
+    #[error("out of memory")]
+    Memory,
+}
+
+impl From<AllocError> for JobFault {
+    fn from(_refused: AllocError) -> JobFault {
+        JobFault::Memory
+    }
+}
+
+impl<T: Drop> From<AllocFailed<T>> for JobFault {
+    fn from(_refused: AllocFailed<T>) -> JobFault {
+        JobFault::Memory
+    }
+}
+
+impl From<clap::Error> for JobFault {
+    fn from(error: clap::Error) -> JobFault {
+        match error.kind() {
+            clap::error::ErrorKind::OutOfMemory => JobFault::Memory,
+            _ => JobFault::Words(error),
+        }
+    }
+}
