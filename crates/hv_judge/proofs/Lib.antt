@@ -20,10 +20,13 @@ pub mod StaticPlaces
 pub mod UniqueLemmas
 pub mod JudgementLemmas
 pub mod Occurrences
+pub mod CauseLemmas
 pub mod Places
 pub mod Rising
 pub mod RootedPlans
 pub mod SolutionLemmas
 pub mod SpellingLemmas
+pub mod SectionSpellingLemmas
+pub mod PlanSpellingLemmas
 pub mod Members
 pub mod RunLemmas

@@ -6,7 +6,8 @@ use Rattle.hv_order.specs.Finishes.{FitTogether, RootFitsBy, Fits, FitsAll}
 use Rattle.hv_order.specs.Laws.{SequenceLaw}
 use Rattle.hv_judge.proofs.Members.{MappedFrom, mem_map, mem_map_from, not_true, act_same}
 use Rattle.hv_judge.specs.Plans.{Plan}
-use Rattle.hv_judge.specs.Trees.{ids_of, name_of, repeated_id, unknown_child, two_parents, unreached}
+use Rattle.hv_judge.specs.Trees.{ids_of, name_of}
+use Rattle.hv_judge.specs.Causes.{FormTree}
 use Rattle.hv_judge.specs.Solutions.{place_of, item_of, tree_of, stands_before, orders, candidate_of, IsMatching, IsOrderedBy}
 use Rattle.hv_judge.proofs.Occurrences.{map_apart, distinct_map}
 use Rattle.hv_judge.proofs.Rising.{numbers, before_strict, before_passed, rising_from, rising_keeps, numbers_member, numbers_rise, are_numbers}
@@ -220,26 +221,23 @@ some_apart xs ys e = map_apart Some xs ys (λ x y m k same. let h : Some x ≡ S
 
 -- where the lines have the names of the subtasks, in their order, the lines in plan order are the children of a solution
 pub in_order_solves : (law : SequenceLaw) (names : List (List ℕ)) (p : Plan)
-    → repeated_id p ≡ None → unknown_child p ≡ None → two_parents p ≡ None → unreached p ≡ None
-    → names ≡ map (λ a. a.name) p.actions → IsMatching names p (ids_of p.actions) × IsOrderedBy p (ids_of p.actions)
-in_order_solves law names p once known one_parent reached same =
-    let root = rooted p once known one_parent reached in
+    → FormTree p → names ≡ map (λ a. a.name) p.actions → IsMatching names p (ids_of p.actions) × IsOrderedBy p (ids_of p.actions)
+in_order_solves law names p tree same =
+    let root = rooted p tree in
     (lines_match p root names same, lines_are_ordered p root law)
 
 -- the children of any solution are the lines in plan order
 pub children_in_order : (law : SequenceLaw) (names : List (List ℕ)) (p : Plan)
-    → repeated_id p ≡ None → unknown_child p ≡ None → two_parents p ≡ None → unreached p ≡ None
-    → (children : List ℕ) → IsMatching names p children → IsOrderedBy p children → children ≡ ids_of p.actions
-children_in_order law names p once known one_parent reached children matching ordered =
-    in_order p (rooted p once known one_parent reached) children matching.once matching.all matching.only law ordered
+    → FormTree p → (children : List ℕ) → IsMatching names p children → IsOrderedBy p children → children ≡ ids_of p.actions
+children_in_order law names p tree children matching ordered =
+    in_order p (rooted p tree) children matching.once matching.all matching.only law ordered
 
 -- and so the lines have the names of the subtasks, in their order
 pub solves_in_order : (law : SequenceLaw) (names : List (List ℕ)) (p : Plan)
-    → repeated_id p ≡ None → unknown_child p ≡ None → two_parents p ≡ None → unreached p ≡ None
-    → (children : List ℕ) → IsMatching names p children → IsOrderedBy p children → names ≡ map (λ a. a.name) p.actions
-solves_in_order law names p once known one_parent reached children matching ordered =
-    let root = rooted p once known one_parent reached in
-    let same : children ≡ ids_of p.actions = children_in_order law names p once known one_parent reached children matching ordered in
+    → FormTree p → (children : List ℕ) → IsMatching names p children → IsOrderedBy p children → names ≡ map (λ a. a.name) p.actions
+solves_in_order law names p tree children matching ordered =
+    let root = rooted p tree in
+    let same : children ≡ ids_of p.actions = children_in_order law names p tree children matching ordered in
     let here : map (name_of p.actions) children ≡ map Some (line_names p.actions) =
     ap (map (name_of p.actions)) same ∙ names_in_order p.actions root.distinct_ids in
     some_apart names (line_names p.actions) (sym matching.named ∙ here)

@@ -31,12 +31,14 @@ use Rattle.hv_judge.specs.States.{State, IsApplicable, AreApplicable, IsFirstIna
 use Rattle.hv_judge.specs.PlanForms as forms
 use Rattle.hv_judge.specs.Plans.{Plan, IsPlan, IsPlanFault, IsFaultWithin, IsBodyFault, fault_from, roots_of}
 use Rattle.hv_judge.specs.PlanLines.{NumberedLine, has_start, has_end, between}
-use Rattle.hv_judge.specs.Statics.{domain_faults, problem_faults, IsStatic, IsFirst, IsFirstFault}
+use Rattle.hv_judge.specs.Statics.{action_names, domain_faults, problem_faults, IsStatic, IsFirst, IsFirstFault}
 use Rattle.hv_judge.specs.Texts.{IsReadAs, IsFaultBy, IsDomainText, IsProblemText}
 use Rattle.hv_judge.specs.Domains.{domain_of}
 use Rattle.hv_judge.specs.Problems.{problem_of}
 use Rattle.hv_judge.specs.Rejections.{reported, reported_static, reported_plan, fault_in, first_too_long, which_of, text_of_side, AreRead, IsRejectedPair, by_domain, by_problem, by_statics, IsRejected, by_length, by_pair, by_plan}
-use Rattle.hv_judge.specs.Verdicts.{AreSpelled, IsRun, Certifies, IsCauseOf, by_tree, by_action, by_goal, by_order, IsOrdered, IsVerdict, IsJudgement, Judged, count_of, plan_cause, first_state, actions_of}
+use Rattle.hv_judge.specs.Verdicts.{AreSpelled, IsRun, Certifies, IsCauseOf, by_tree, by_action, by_goal, by_order, IsOrdered, IsVerdict, IsJudgement, Judged, count_of, first_state, FitsProblem, subtasks_of, actions_of}
+use Rattle.hv_judge.specs.Causes.{IsTreeCause}
+use Rattle.hv_judge.proofs.VerdictLemmas.{no_cause_of_fit, cause_of_tree}
 use Rattle.hv_judge.specs.Answers.{SameAnswer, OneAnswerLaw}
 use Rattle.hv_judge.proofs.StaticPlaces.{SameStatic, one_static, none_first}
 use Rattle.hv_judge.proofs.TextFaults.{Compared, less, equal, more, compare, Faulty, is_faulty, SameFault, one_fault, no_fault}
@@ -53,22 +55,28 @@ one_inapplicable s actions j k here there = at (compare j k) where
   at (equal e) = e
   at (more h) = absurd (there.inapplicable (here.first k h))
 
-module _ (d : Domain) (p : Problem) (q : Plan) (limit : ℕ) where
+module _ (d : Domain) (p : Problem) (q : Plan) (limit : ℕ) (sound : IsStatic d p) where
+  fits_or_cause : (c : Cause) → FitsProblem d p q → IsTreeCause (action_names d) (subtasks_of p) q c → ⊥
+  fits_or_cause c h is = let none = no_cause_of_fit d p q sound h in let some = cause_of_tree d p q c sound is in cc
+
+  one_tree_cause : (c e : Cause) → IsTreeCause (action_names d) (subtasks_of p) q c → IsTreeCause (action_names d) (subtasks_of p) q e → c ≡ e
+  one_tree_cause c e is other = let here = cause_of_tree d p q c sound is in let there = cause_of_tree d p q e sound other in cc
+
   solved : (c : Certificate) → Certifies c d p q → IsOrdered p q
   solved c h = (c.root.children.items, h.matching, h.ordered)
 
   run_or_cause : (c : Cause) → IsRun d p q → IsCauseOf d p q limit c → (count_of p ≤ limit) × (IsOrdered p q → ⊥)
-  run_or_cause c run (by_tree e is) = let none = run.tree in absurd (cc)
+  run_or_cause c run (by_tree e is) = absurd (fits_or_cause c run.tree is)
   run_or_cause _ run (by_action k line tree first at) = absurd (all_or_first _ _ k run.applicable first)
   run_or_cause _ run (by_goal tree all goal) = let reached = run.goal in absurd (cc)
   run_or_cause _ run (by_order again within none) = (within, none)
 
   one_cause : (c e : Cause) → IsCauseOf d p q limit c → IsCauseOf d p q limit e → c ≡ e
-  one_cause c e (by_tree c' is) (by_tree e' other) = cc
-  one_cause c _ (by_tree c' is) (by_action k line tree first at) = absurd (cc)
-  one_cause c _ (by_tree c' is) (by_goal tree all goal) = absurd (cc)
-  one_cause c _ (by_tree c' is) (by_order run within none) = let tree = run.tree in absurd (cc)
-  one_cause _ e (by_action k line tree first at) (by_tree e' other) = absurd (cc)
+  one_cause c e (by_tree c' is) (by_tree e' other) = one_tree_cause c e is other
+  one_cause c _ (by_tree c' is) (by_action k line tree first at) = absurd (fits_or_cause c tree is)
+  one_cause c _ (by_tree c' is) (by_goal tree all goal) = absurd (fits_or_cause c tree is)
+  one_cause c _ (by_tree c' is) (by_order run within none) = absurd (fits_or_cause c run.tree is)
+  one_cause _ e (by_action k line tree first at) (by_tree e' other) = absurd (fits_or_cause e tree other)
   one_cause _ _ (by_action k line tree first at) (by_action j other tree' first' at') =
       let same = one_inapplicable (first_state p) (actions_of d q) k j first first' in
       let here : option_map (λ l. l.line) (slice_get q.actions j) ≡ Some line = subst (λ i. option_map (λ l. l.line) (slice_get q.actions i) ≡ Some line) same at in
@@ -76,11 +84,11 @@ module _ (d : Domain) (p : Problem) (q : Plan) (limit : ℕ) where
       ap (λ n. record { kind = causes.Inapplicable; line = Some n }) equal_lines
   one_cause _ _ (by_action k line tree first at) (by_goal tree' all goal) = absurd (all_or_first _ _ k all first)
   one_cause _ _ (by_action k line tree first at) (by_order run within none) = absurd (all_or_first _ _ k run.applicable first)
-  one_cause _ e (by_goal tree all goal) (by_tree e' other) = absurd (cc)
+  one_cause _ e (by_goal tree all goal) (by_tree e' other) = absurd (fits_or_cause e tree other)
   one_cause _ _ (by_goal tree all goal) (by_action k line tree' first at) = absurd (all_or_first _ _ k all first)
   one_cause _ _ (by_goal tree all goal) (by_goal tree' all' goal') = refl
   one_cause _ _ (by_goal tree all goal) (by_order run within none) = let reached = run.goal in absurd (cc)
-  one_cause _ e (by_order run within none) (by_tree e' other) = let tree = run.tree in absurd (cc)
+  one_cause _ e (by_order run within none) (by_tree e' other) = absurd (fits_or_cause e run.tree other)
   one_cause _ _ (by_order run within none) (by_action k line tree first at) = absurd (all_or_first _ _ k run.applicable first)
   one_cause _ _ (by_order run within none) (by_goal tree all goal) = let reached = run.goal in absurd (cc)
   one_cause _ _ (by_order run within none) (by_order run' within' none') = refl
@@ -334,7 +342,7 @@ module _ (one_reading : (text : List ℕ) (ts us : Trees) → AreExpressions tex
         let problems = one_value problem_of problem p p' spelled.read.says_problem spelled'.read.says_problem in
         let plans_agree = one_plan plan q q' spelled.planned spelled'.planned in
         let here : IsVerdict d' p' q' limit a = subst (λ x. IsVerdict d' p' x limit a) plans_agree (subst (λ x. IsVerdict d' x q limit a) problems (subst (λ x. IsVerdict x p q limit a) domains h)) in
-        one_verdict d' p' q' limit a b here g
+        one_verdict d' p' q' limit spelled'.read.sound a b here g
 
     judged_or_rejected : (a : Answer) (w : Which) (f : Fault) → IsJudgement domain problem plan limit a → IsRejected domain problem plan w f → ⊥
     judged_or_rejected a w f (d, p, q, spelled, h) bad = spelled_or_rejected domain problem plan d p q w f spelled bad

@@ -9,6 +9,7 @@ use Rattle.std.specs.Cmp.Lexicographic.{pointwise}
 use Rattle.std.specs.List.{slice_get, cons_option, filter, filter_map, find, list_all, list_any}
 use Rattle.std.specs.Option.{option_map}
 use Rattle.std.specs.Str.{bytes_eq}
+use Rattle.hv_order.specs.Trees.{Mem}
 use Rattle.hv_text.specs.Names.{text_of}
 use Rattle.hv_text.specs.declared.refusal.Memory.{Memory}
 use Rattle.hv_judge.specs.declared.answer.Answer.{Answer}
@@ -27,8 +28,10 @@ use Rattle.hv_judge.specs.Statics.{names, is_among, undeclared, when, repeated, 
 use Rattle.hv_judge.specs.Counting.{subtask_names, stands_in}
 use Rattle.hv_judge.specs.PlanForms as forms
 use Rattle.hv_judge.specs.Plans.{Plan, action_view}
-use Rattle.hv_judge.specs.Trees.{ids_of, or_else, cause_of, tree_cause, repeated_id, unknown_child, two_parents, unreached, IsCause, AreNumbers}
-use Rattle.hv_judge.specs.Verdicts.{action_named, actions_of, first_state, plan_cause, IsVerdict, by_tree, by_action, IsFailedTree, IsStopWithin, IsStopped}
+use Rattle.hv_judge.specs.Trees.{ids_of, cause_of, IsCause, AreNumbers}
+use Rattle.hv_judge.specs.Causes.{IsTreeCause}
+use Rattle.hv_judge.proofs.CauseLemmas.{all_among, none_where_fits, fits_where_none, found_is_cause, cause_is_found}
+use Rattle.hv_judge.specs.Verdicts.{action_named, actions_of, subtasks_of, first_state, FitsProblem, IsVerdict, by_tree, by_action, IsFailedTree, IsStopWithin, IsStopped}
 
 -- names of what the code holds
 
@@ -228,14 +231,19 @@ pub stops_at_first : (s : State) (actions : List Action) (k : ℕ) → first_sto
 stops_at_first s [] k is = cc
 stops_at_first s (a ∷ more) k is = stops_by s a more k (is_true s a.precondition) refl is (λ j e. stops_at_first (result_of s a.effect) more j e)
 
--- the parts of a cause that is absent
-pub none_first : (a b : Option Cause) → or_else a b ≡ None → a ≡ None
-none_first None b e = refl
-none_first (Some c) b e = cc
+-- the subtasks of a problem without static faults are declared, so that the reading function finds the causes of its plans
+known_subtasks : (d : Domain) (p : Problem) → IsStatic d p → (w : List ℕ) → Mem w (subtasks_of p) → Mem w (action_names d)
+known_subtasks d p s = all_among (action_names d) (subtasks_of p) (subtasks_declared d p s)
 
-pub none_second : (a b : Option Cause) → or_else a b ≡ None → b ≡ None
-none_second None b e = e
-none_second (Some c) b e = cc
+pub plan_fits : (d : Domain) (p : Problem) (q : Plan) → IsStatic d p → cause_of (action_names d) (subtasks_of p) q ≡ None → FitsProblem d p q
+plan_fits d p q s e = fits_where_none (action_names d) (subtasks_of p) (known_subtasks d p s) q e
+
+pub no_cause_of_fit : (d : Domain) (p : Problem) (q : Plan) → IsStatic d p → FitsProblem d p q → cause_of (action_names d) (subtasks_of p) q ≡ None
+no_cause_of_fit d p q s h = none_where_fits (action_names d) (subtasks_of p) (known_subtasks d p s) q h
+
+pub cause_of_tree : (d : Domain) (p : Problem) (q : Plan) (c : Cause) → IsStatic d p → IsTreeCause (action_names d) (subtasks_of p) q c
+    → cause_of (action_names d) (subtasks_of p) q ≡ Some c
+cause_of_tree d p q c s h = cause_is_found (action_names d) (subtasks_of p) (known_subtasks d p s) q c h
 
 -- names in one order
 pub in_order : (xs ys : List (List ℕ)) (b : Bool) → b ≡ pointwise bytes_eq xs ys → b ≡ true → xs ≡ ys
@@ -244,35 +252,24 @@ in_order xs ys b e t = (slice_eq-Decides bytes_eq-Decides xs ys b e).0 t
 pub out_of_order : (xs ys : List (List ℕ)) (b : Bool) → b ≡ pointwise bytes_eq xs ys → b ≡ false → xs ≡ ys → ⊥
 out_of_order xs ys b e f same = let t : b ≡ true = (slice_eq-Decides bytes_eq-Decides xs ys b e).1 same in let bad : true ≡ false = sym t ∙ f in cc
 
--- what the absence of every cause of the tree says
-pub no_tree_cause : (declared subtasks : List (List ℕ)) (p : Plan) → cause_of declared subtasks p ≡ None
-    → (repeated_id p ≡ None) × (unknown_child p ≡ None) × (two_parents p ≡ None) × (unreached p ≡ None)
-no_tree_cause declared subtasks p none =
-    let tree = none_first (tree_cause p) _ none in
-    let later = none_second (repeated_id p) (or_else (unknown_child p) (or_else (two_parents p) (unreached p))) tree in
-    let last = none_second (unknown_child p) (or_else (two_parents p) (unreached p)) later in (
-      none_first (repeated_id p) (or_else (unknown_child p) (or_else (two_parents p) (unreached p))) tree,
-      none_first (unknown_child p) (or_else (two_parents p) (unreached p)) later,
-      none_first (two_parents p) (unreached p) last,
-      none_second (two_parents p) (unreached p) last,
-    )
-
 pub not_less : (a b : ℕ) → nat_lt a b ≡ false → b ≤ a
 not_less a b e = ltb-false a b e
 
 -- a plan that fails for a cause of its tree
-pub failed_verdict : (d : Domain) (p : Problem) (q : Plan) (limit : ℕ) (f : TreeFault) (r : Result Answer Memory) → IsCause (plan_cause d p q) f
+pub failed_verdict : (d : Domain) (p : Problem) (q : Plan) (limit : ℕ) (f : TreeFault) (r : Result Answer Memory) → IsStatic d p
+    → IsCause (cause_of (action_names d) (subtasks_of p) q) f
     → IfOk r (IsFailedTree f) → IfOk r (IsVerdict d p q limit)
-failed_verdict d p q limit f (Err e) c h = tt
-failed_verdict d p q limit (trees.Cause k) (Ok a) c h = subst (IsVerdict d p q limit) (sym h) (by_tree k c)
-failed_verdict d p q limit trees.Memory (Ok a) c h = absurd h
+failed_verdict d p q limit f (Err e) s c h = tt
+failed_verdict d p q limit (trees.Cause k) (Ok a) s c h =
+    subst (IsVerdict d p q limit) (sym h) (by_tree k (found_is_cause (action_names d) (subtasks_of p) (known_subtasks d p s) q k c))
+failed_verdict d p q limit trees.Memory (Ok a) s c h = absurd h
 
 -- a plan with an action that is not applicable
 pub stop_within : (s : State) (actions : List Action) (n : ℕ) (stop : Stop) → IsStop (first_stop s actions) stop → length actions ≡ n → IsStopWithin n stop
 stop_within s actions n (stops.Inapplicable k) is e = let h = (stops_at_first s actions k is).within in omega arith
 stop_within s actions n stops.Memory is e = tt
 
-pub stopped_verdict : (d : Domain) (p : Problem) (q : Plan) (limit : ℕ) (stop : Stop) (r : Result Answer Memory) → plan_cause d p q ≡ None
+pub stopped_verdict : (d : Domain) (p : Problem) (q : Plan) (limit : ℕ) (stop : Stop) (r : Result Answer Memory) → FitsProblem d p q
     → IsStop (first_stop (first_state p) (actions_of d q)) stop → IfOk r (IsStopped q.actions stop) → IfOk r (IsVerdict d p q limit)
 stopped_verdict d p q limit stop (Err e) tree is h = tt
 stopped_verdict d p q limit (stops.Inapplicable k) (Ok a) tree is (line, at, e) =

@@ -12,6 +12,7 @@ pub mod Domains
 pub mod Problems
 pub mod Texts
 pub mod Spellings
+pub mod SectionSpellings
 pub mod Views
 pub mod DomainViews
 pub mod States
@@ -20,12 +21,14 @@ pub mod ProblemViews
 pub mod PlanLines
 pub mod PlanForms
 pub mod Plans
+pub mod PlanSpellings
 pub mod PlanViews
 pub mod Traces
 pub mod Statics
 pub mod Tables
 pub mod Counting
 pub mod Trees
+pub mod Causes
 pub mod Solutions
 pub mod Rejections
 pub mod Verdicts

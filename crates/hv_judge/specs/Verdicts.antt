@@ -22,7 +22,7 @@ use Rattle.hv_judge.specs.Values.{Formula, Action, Domain, Problem}
 use Rattle.hv_judge.specs.States.{State, is_true, initial_state, state_after, AreApplicable, IsFirstInapplicable}
 use Rattle.hv_judge.specs.Plans.{Plan, IsPlan, IsPlanFault}
 use Rattle.hv_judge.specs.Statics.{names, action_names}
-use Rattle.hv_judge.specs.Trees.{cause_of}
+use Rattle.hv_judge.specs.Causes.{Fits, IsTreeCause}
 use Rattle.hv_judge.specs.Counting.{count}
 use Rattle.hv_judge.specs.Solutions.{IsMatching, IsOrderedBy}
 use Rattle.hv_judge.specs.Rejections.{first_too_long, reported_plan, AreRead, IsRejected}
@@ -57,13 +57,13 @@ is_goal_true s (Some f) = is_true s f
 abbrev pub subtasks_of : Problem → List (List ℕ)
 subtasks_of p = names p.subtasks
 
--- the cause, if there is one, for which the lines of a plan form no tree that fits the problem
-abbrev pub plan_cause : Domain → Problem → Plan → Option Cause
-plan_cause d p q = cause_of (action_names d) (subtasks_of p) q
+-- the lines of a plan form a tree that fits the problem
+abbrev pub FitsProblem : Domain → Problem → Plan → Type 0
+FitsProblem d p q = Fits (action_names d) (subtasks_of p) q
 
 -- the lines form a tree that fits, each action is applicable where it stands, and the goal is true at the end
 pub record IsRun (d : Domain) (p : Problem) (q : Plan) : Type 0 where
-  pub tree : plan_cause d p q ≡ None
+  pub tree : FitsProblem d p q
   pub applicable : AreApplicable (first_state p) (actions_of d q)
   pub goal : is_goal_true (last_state d p q) p.goal ≡ true
 
@@ -90,11 +90,11 @@ pub record Certifies (c : Certificate) (d : Domain) (p : Problem) (q : Plan) : T
 
 -- why a plan fails: each cause is read where none before it applies
 pub data IsCauseOf (d : Domain) (p : Problem) (q : Plan) (limit : ℕ) : Cause → Type 0 where
-  by_tree : (c : Cause) → plan_cause d p q ≡ Some c → IsCauseOf d p q limit c
-  by_action : (k line : ℕ) → plan_cause d p q ≡ None → IsFirstInapplicable (first_state p) (actions_of d q) k
+  by_tree : (c : Cause) → IsTreeCause (action_names d) (subtasks_of p) q c → IsCauseOf d p q limit c
+  by_action : (k line : ℕ) → FitsProblem d p q → IsFirstInapplicable (first_state p) (actions_of d q) k
       → option_map (λ l. l.line) (slice_get q.actions k) ≡ Some line
       → IsCauseOf d p q limit (record { kind = causes.Inapplicable; line = Some line })
-  by_goal : plan_cause d p q ≡ None → AreApplicable (first_state p) (actions_of d q) → is_goal_true (last_state d p q) p.goal ≡ false
+  by_goal : FitsProblem d p q → AreApplicable (first_state p) (actions_of d q) → is_goal_true (last_state d p q) p.goal ≡ false
       → IsCauseOf d p q limit (record { kind = causes.GoalFalse; line = None })
   by_order : IsRun d p q → count_of p ≤ limit → (IsOrdered p q → ⊥)
       → IsCauseOf d p q limit (record { kind = causes.OrderBroken; line = None })

@@ -8,6 +8,7 @@ ghost use Rattle.hv_judge.specs.Plans.{plan_view, IsPlan, IsPlanFault, IsBody, I
 
 pub(crate) mod form;
 mod id;
+mod law;
 mod lines;
 
 use form::{LineText, read_line};

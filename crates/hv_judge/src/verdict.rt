@@ -1,6 +1,6 @@
 //! The verdict on a plan in a world.
 
-ghost use Rattle.std.specs.Prelude.{◌≡◌, [], map, length, IfOk, None};
+ghost use Rattle.std.specs.Prelude.{◌≡◌, [], map, length, IfOk};
 ghost use Rattle.std.specs.Cmp.Lexicographic.{pointwise};
 ghost use Rattle.std.specs.Str.{bytes_eq};
 ghost use Rattle.hv_text.specs.Names.{text_of};
@@ -9,7 +9,7 @@ ghost use Rattle.hv_judge.specs.Counting.{subtask_names};
 ghost use Rattle.hv_judge.specs.States.{AreApplicable};
 ghost use Rattle.hv_judge.specs.Statics.{action_names, IsStatic};
 ghost use Rattle.hv_judge.specs.Trees.{AreNumbers};
-ghost use Rattle.hv_judge.specs.Verdicts.{is_goal_true, plan_cause, first_state, last_state, actions_of, IsVerdict, IsFailedTree, IsStopWithin, IsStopped};
+ghost use Rattle.hv_judge.specs.Verdicts.{is_goal_true, FitsProblem, first_state, last_state, actions_of, IsVerdict, IsFailedTree, IsStopWithin, IsStopped};
 ghost use Rattle.hv_judge.specs.DomainViews.{domain_view};
 ghost use Rattle.hv_judge.specs.ProblemViews.{problem_view};
 ghost use Rattle.hv_judge.specs.Plans.{action_view, plan_view};
@@ -86,7 +86,7 @@ fn verdict_at_end<'s>(
     limit: u64,
 ) -> Result<Answer<'s>, Memory>
     requires sound { IsStatic (domain_view world.now.domain) (problem_view world.now.problem) }
-    requires tree { plan_cause (domain_view world.now.domain) (problem_view world.now.problem) (plan_view plan.now) ≡ None }
+    requires tree { FitsProblem (domain_view world.now.domain) (problem_view world.now.problem) (plan_view plan.now) }
     requires applicable { AreApplicable (first_state (problem_view world.now.problem)) (actions_of (domain_view world.now.domain) (plan_view plan.now)) }
     requires end { atoms_of state.now ≡ last_state (domain_view world.now.domain) (problem_view world.now.problem) (plan_view plan.now) }
     ensures { IfOk result (IsVerdict (domain_view world.now.domain) (problem_view world.now.problem) (plan_view plan.now) limit) }
@@ -144,7 +144,7 @@ fn verdict_on_tree<'s>(
     limit: u64,
 ) -> Result<Answer<'s>, Memory>
     requires sound { IsStatic (domain_view world.now.domain) (problem_view world.now.problem) }
-    requires tree { plan_cause (domain_view world.now.domain) (problem_view world.now.problem) (plan_view plan.now) ≡ None }
+    requires tree { FitsProblem (domain_view world.now.domain) (problem_view world.now.problem) (plan_view plan.now) }
     requires numbers { AreNumbers (action_names (domain_view world.now.domain)) (plan_view plan.now) tree.now.actions.items }
     ensures { IfOk result (IsVerdict (domain_view world.now.domain) (problem_view world.now.problem) (plan_view plan.now) limit) }
 {

@@ -1,12 +1,15 @@
 //! What is read is what the table of the grammar spells.
 
-ghost use Rattle.std.specs.Prelude.{◌≡◌, ◌↔◌, List};
+ghost use Rattle.std.specs.Prelude.{◌≡◌, ◌↔◌, List, Ok};
 ghost use Rattle.hv_text.specs.Trees.{Tree, Trees};
-ghost use Rattle.hv_judge.specs.Values.{WordAt, Formula, Literal};
+ghost use Rattle.hv_judge.specs.Values.{WordAt, Formula, Literal, Domain, Problem};
 ghost use Rattle.hv_judge.specs.Reading.{every};
 ghost use Rattle.hv_judge.specs.Formulas.{formula_of};
 ghost use Rattle.hv_judge.specs.Literals.{atom_of, literal_of, listed};
 ghost use Rattle.hv_judge.specs.Spellings.{SpellsFormula, SpellsAtom, SpellsLiteral, SpellEach, SpellsList};
+ghost use Rattle.hv_judge.specs.SectionSpellings.{SpellsDomain, SpellsProblem};
+ghost use Rattle.hv_judge.specs.Domains.{domain_of};
+ghost use Rattle.hv_judge.specs.Problems.{problem_of};
 
 /// A formula is read where the table spells it.
 pub fn formulas_are_spelled()
@@ -23,4 +26,14 @@ pub fn atoms_are_spelled()
 pub fn literals_are_spelled()
     ensures each { (ts : Trees) (ls : List Literal) → SpellEach SpellsLiteral ts ls ↔ (every literal_of ts ≡ Some ls) }
     ensures effect { (t : Tree) (ls : List Literal) → SpellsList SpellsLiteral t ls ↔ (listed literal_of t ≡ Some ls) }
+{}
+
+/// A domain is read where the table spells it.
+pub fn domains_are_spelled()
+    ensures { (es : Trees) (d : Domain) → SpellsDomain es d ↔ (domain_of es ≡ Ok d) }
+{}
+
+/// A problem is read where the table spells it.
+pub fn problems_are_spelled()
+    ensures { (es : Trees) (p : Problem) → SpellsProblem es p ↔ (problem_of es ≡ Ok p) }
 {}

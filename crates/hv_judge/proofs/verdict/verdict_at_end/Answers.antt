@@ -10,7 +10,7 @@ use Rattle.hv_judge.specs.Solutions.{IsMatching, IsOrderedBy}
 use Rattle.hv_judge.specs.Statics.{action_names}
 use Rattle.hv_judge.specs.Trees.{ids_of}
 use Rattle.hv_judge.specs.Verdicts.{is_goal_true, last_state, subtasks_of, count_of, IsRun, by_goal, by_order}
-use Rattle.hv_judge.proofs.VerdictLemmas.{subtasks_declared, lines_named, lines_numbered, no_tree_cause, not_less, in_order, out_of_order}
+use Rattle.hv_judge.proofs.VerdictLemmas.{subtasks_declared, lines_named, lines_numbered, not_less, in_order, out_of_order}
 use Rattle.hv_judge.proofs.SolutionLemmas.{in_order_solves, solves_in_order}
 use Rattle.hv_judge.proofs.verdict.verdict_at_end.Goals as goal
 
@@ -41,11 +41,10 @@ returns-then-not-is_in_order c =
     c.is_in_order.ensures
     ∙ (ap (λ xs. pointwise bytes_eq xs (map (λ a. text_of a.name) c.deref.result.now)) c.subtasks-subtasks.ensures
     ∙ ap (pointwise bytes_eq (subtasks_of p)) (ap (map (λ a. text_of a.name)) c.deref.ensures.value ∙ sym (lines_named c.args.plan.now.actions.items))) in
-    let roots = no_tree_cause (action_names d) (subtasks_of p) q c.requires.tree in
     by_order run (not_less c.args.limit (count_of p) counted)
     (λ (children, matching, ordered).
     out_of_order (subtasks_of p) (map (λ a. a.name) q.actions) c.is_in_order.result tested c.if-not-is_in_order.true
-    (solves_in_order c.sequence_law.ensures.sequence (subtasks_of p) q roots.0 roots.1 roots.2 roots.3 children matching ordered))
+    (solves_in_order c.sequence_law.ensures.sequence (subtasks_of p) q c.requires.tree.tree children matching ordered))
 
 pub returns : goal.returns
 returns c =
@@ -64,8 +63,7 @@ returns c =
     c.is_in_order.ensures
     ∙ (ap (λ xs. pointwise bytes_eq xs (map (λ a. text_of a.name) c.deref.result.now)) c.subtasks-subtasks.ensures
     ∙ ap (pointwise bytes_eq (subtasks_of p)) (ap (map (λ a. text_of a.name)) c.deref.ensures.value ∙ sym (lines_named c.args.plan.now.actions.items))) in
-    let roots = no_tree_cause (action_names d) (subtasks_of p) q c.requires.tree in
-    let solved = in_order_solves c.sequence_law.ensures.sequence (subtasks_of p) q roots.0 roots.1 roots.2 roots.3
+    let solved = in_order_solves c.sequence_law.ensures.sequence (subtasks_of p) q c.requires.tree.tree
     (in_order (subtasks_of p) (map (λ a. a.name) q.actions) c.is_in_order.result tested c.if-not-is_in_order.false) in
     let children : ids_of q.actions ≡ cert.root.children.items =
     lines_numbered c.args.plan.now.actions.items ∙ (ap (map (λ a. a.id)) (sym c.deref-2.ensures.value) ∙ sym c.in_ok-certificate.ensures.children) in (
