@@ -16,7 +16,8 @@ use Rattle.hv_judge.specs.declared.world.fault.StaticFault.{StaticFault}
 use Rattle.hv_judge.specs.Values.{Domain, Problem}
 use Rattle.hv_judge.specs.Statics.{UnlessMemory, IsFirstFault, IsStaticFault}
 use Rattle.hv_judge.specs.Texts.{IsDomainText, IsDomainFault, IsProblemText, IsProblemFault}
-use Rattle.hv_judge.specs.Plans.{Plan, IsPlan, IsPlanFault}
+use Rattle.hv_judge.specs.Plans.{Plan, IsPlanFault}
+use Rattle.hv_judge.specs.PlanSpellings.{IsPlan}
 use Rattle.hv_judge.specs.Rejections.{reported, reported_static, reported_plan, which_of, text_of_side, unread_by, first_too_long, AreRead, IsRejectedPair, by_domain, by_problem, by_statics, IsUnread, by_pair, by_plan}
 use Rattle.hv_judge.specs.Verdicts.{IsVerdict, AreSpelled, Judged, IsUnreadAnswer, IsUnplannedAnswer, IsPlanAnswer}
 

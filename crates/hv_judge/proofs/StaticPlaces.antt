@@ -29,6 +29,7 @@ use Rattle.hv_judge.specs.Domains.{DomainSection, requires_much, declares, has_a
 use Rattle.hv_judge.specs.Problems.{ProblemSection, says_nothing, has_subtasks, begins_with, asks_for, subtasks_at, network_of, goal_by, aside_if, problem_standing, problem_section_by, problem_section, no_problem, add_part, problem_from, is_whole, members, if_whole, problem_in, problem_of}
 use Rattle.hv_judge.specs.Statics.{is_among, undeclared, when, repeated, names, atoms, literal_atoms, used, goal_atoms, action_words, predicate_names, action_names, fault_at, faults_at, domain_faults, problem_faults, IsFirst, IsFirstFault}
 use Rattle.hv_judge.specs.Texts.{IsDomainText, IsProblemText}
+use Rattle.hv_judge.proofs.SectionSpellingLemmas.{domain_table, problem_table}
 use Rattle.hv_judge.proofs.WordPlaces.{Each, each_append, each_weaker, each_mapped, EachWord, EachWordAll, end_of, end_append, order_append, end_rises, placed, placed_all, one_member, symbol_word, atom_word, every_word, listed_word, literal_word, formula_words, field_words}
 
 -- the same kind of fault, on the same side, at the same place
@@ -527,10 +528,10 @@ none_first fs f absent first = nothing fs absent first.is_one where
 pub one_static : ((text : List ℕ) → IsInOrder 0 (pieces text)) → (domain problem : List ℕ) (d : Domain) (p : Problem) (f g : StaticFault) → IsDomainText domain d → IsProblemText problem p
     → IsFirstFault d p f → IsFirstFault d p g → SameStatic f g
 one_static in_order domain problem d p f g (ts, read, is) said (inl h) (inl h') =
-    let (n, grouped) = domain_by ts (sections_of (codes "domain") ts) d refl is (text_order in_order domain ts read) in
+    let (n, grouped) = domain_by ts (sections_of (codes "domain") ts) d refl ((domain_table ts d).0 is) (text_order in_order domain ts read) in
     firsts_alike statics.DuplicateName statics.UnknownPredicate sides.Domain grouped.group (domain_faults d) f g (domain_told d n grouped) h h'
 one_static in_order domain problem d p f g said read (inl h) (inr (absent, h')) = absurd (none_first (domain_faults d) f absent h)
 one_static in_order domain problem d p f g said read (inr (absent, h)) (inl h') = absurd (none_first (domain_faults d) g absent h')
 one_static in_order domain problem d p f g said (ts, read, is) (inr (absent, h)) (inr (absent', h')) =
-    let (n, grouped) = problem_by ts (sections_of (codes "problem") ts) p refl is (text_order in_order problem ts read) in
+    let (n, grouped) = problem_by ts (sections_of (codes "problem") ts) p refl ((problem_table ts p).0 is) (text_order in_order problem ts read) in
     firsts_alike statics.UnknownTask statics.UnknownPredicate sides.Problem grouped.group (problem_faults d p) f g (problem_told d p n grouped) h h'

@@ -29,7 +29,8 @@ use Rattle.hv_judge.specs.declared.world.fault.StaticFault.{StaticFault}
 use Rattle.hv_judge.specs.Values.{Action, Domain, Problem}
 use Rattle.hv_judge.specs.States.{State, IsApplicable, AreApplicable, IsFirstInapplicable}
 use Rattle.hv_judge.specs.PlanForms as forms
-use Rattle.hv_judge.specs.Plans.{Plan, IsPlan, IsPlanFault, IsFaultWithin, IsBodyFault, fault_from, roots_of}
+use Rattle.hv_judge.specs.PlanSpellings.{IsPlan}
+use Rattle.hv_judge.specs.Plans.{Plan, IsPlanFault, IsFaultWithin, IsBodyFault, fault_from, roots_of}
 use Rattle.hv_judge.specs.PlanLines.{NumberedLine, has_start, has_end, between}
 use Rattle.hv_judge.specs.Statics.{action_names, domain_faults, problem_faults, IsStatic, IsFirst, IsFirstFault}
 use Rattle.hv_judge.specs.Texts.{IsReadAs, IsFaultBy, IsDomainText, IsProblemText}
@@ -39,6 +40,8 @@ use Rattle.hv_judge.specs.Rejections.{reported, reported_static, reported_plan, 
 use Rattle.hv_judge.specs.Verdicts.{AreSpelled, IsRun, Certifies, IsCauseOf, by_tree, by_action, by_goal, by_order, IsOrdered, IsVerdict, IsJudgement, Judged, count_of, first_state, FitsProblem, subtasks_of, actions_of}
 use Rattle.hv_judge.specs.Causes.{IsTreeCause}
 use Rattle.hv_judge.proofs.VerdictLemmas.{no_cause_of_fit, cause_of_tree}
+use Rattle.hv_judge.proofs.PlanSpellingLemmas.{plan_table}
+use Rattle.hv_judge.proofs.TextLemmas.{domain_said, problem_said}
 use Rattle.hv_judge.specs.Answers.{SameAnswer, OneAnswerLaw}
 use Rattle.hv_judge.proofs.StaticPlaces.{SameStatic, one_static, none_first}
 use Rattle.hv_judge.proofs.TextFaults.{Compared, less, equal, more, compare, Faulty, is_faulty, SameFault, one_fault, no_fault}
@@ -118,9 +121,10 @@ module _ (d : Domain) (p : Problem) (q : Plan) (limit : ℕ) (sound : IsStatic d
 
 one_plan : (text : List ℕ) (p q : Plan) → IsPlan text p → IsPlan text q → p ≡ q
 one_plan text p q here there =
-    let mine = here.body.root in let yours = there.body.root in
+    let body = (plan_table (between text) p).0 here.body in let body' = (plan_table (between text) q).0 there.body in
+    let mine = body.root in let yours = body'.root in
     let roots : p.root ≡ q.root = cc in
-    let mine' = here.body.actions in let yours' = there.body.actions in
+    let mine' = body.actions in let yours' = body'.actions in
     let actions : p.actions ≡ q.actions = cc in
     let same : (xs : List forms.Action) (r : forms.Root) → xs ≡ q.actions → r ≡ q.root → ◌≡◌ {A = Plan} (record { actions = xs; root = r }) q
     = λ xs r e h. ap (λ ys. record { actions = ys; root = r }) e ∙ ap (λ z. record { actions = q.actions; root = z }) h in
@@ -160,7 +164,8 @@ planned_or_not : (text : List ℕ) (p : Plan) (f : PlanFault) (r : Fault) → Is
 planned_or_not text p f r good is (too_long size e) = let short = good.size in omega arith
 planned_or_not text p f r good is (no_start size h e) = let starts = good.starts in cc
 planned_or_not text p f r good is (no_end size starts h e) = let ends = good.ends in cc
-planned_or_not text p f r good is (in_body (size, starts, ends, h)) = no_body_fault (between text) p f r good.body.sound good.body.root is h
+planned_or_not text p f r good is (in_body (size, starts, ends, h)) =
+    let body = (plan_table (between text) p).0 good.body in no_body_fault (between text) p f r body.sound body.root is h
 
 -- the fault of lines, by what stands in them
 data FaultyLines (ls : List NumberedLine) (f : PlanFault) : Type 0 where
@@ -291,25 +296,25 @@ module _ (one_reading : (text : List ℕ) (ts us : Trees) → AreExpressions tex
 
   module _ (domain problem : List ℕ) where
     read_or_rejected : (d : Domain) (p : Problem) (w : Which) (f : Fault) → AreRead domain problem d p → IsRejectedPair domain problem w f → ⊥
-    read_or_rejected d p _ _ read (by_domain kind s k bad is) = read_or_faulty domain_of domain d kind s k is read.says_domain bad
-    read_or_rejected d p _ _ read (by_problem d' kind s k good bad is) = read_or_faulty problem_of problem p kind s k is read.says_problem bad
+    read_or_rejected d p _ _ read (by_domain kind s k bad is) = read_or_faulty domain_of domain d kind s k is (domain_said domain d read.says_domain) bad
+    read_or_rejected d p _ _ read (by_problem d' kind s k good bad is) = read_or_faulty problem_of problem p kind s k is (problem_said problem p read.says_problem) bad
     read_or_rejected d p _ _ read (by_statics d' p' f k good good' first is) =
-        let same = one_value domain_of domain d d' read.says_domain good in
-        let same' = one_value problem_of problem p p' read.says_problem good' in
+        let same = one_value domain_of domain d d' (domain_said domain d read.says_domain) (domain_said domain d' good) in
+        let same' = one_value problem_of problem p p' (problem_said problem p read.says_problem) (problem_said problem p' good') in
         static_or_not d' p' f (subst (λ x. IsStatic d' x) same' (subst (λ x. IsStatic x p) same read.sound)) first
 
     one_pair : (w v : Which) (f g : Fault) → IsRejectedPair domain problem w f → IsRejectedPair domain problem v g → SameAnswer (Rejected w f) (Rejected v g)
     one_pair _ _ _ _ (by_domain kind s k bad is) (by_domain kind' s' k' bad' is') = (refl, one_unread_fault domain_of domain kind kind' s s' k k' is is' bad bad')
-    one_pair _ _ _ _ (by_domain kind s k bad is) (by_problem d kind' s' k' good bad' is') = absurd (read_or_faulty domain_of domain d kind s k is good bad)
-    one_pair _ _ _ _ (by_domain kind s k bad is) (by_statics d p f k' good good' first is') = absurd (read_or_faulty domain_of domain d kind s k is good bad)
-    one_pair _ _ _ _ (by_problem d kind s k good bad is) (by_domain kind' s' k' bad' is') = absurd (read_or_faulty domain_of domain d kind' s' k' is' good bad')
+    one_pair _ _ _ _ (by_domain kind s k bad is) (by_problem d kind' s' k' good bad' is') = absurd (read_or_faulty domain_of domain d kind s k is (domain_said domain d good) bad)
+    one_pair _ _ _ _ (by_domain kind s k bad is) (by_statics d p f k' good good' first is') = absurd (read_or_faulty domain_of domain d kind s k is (domain_said domain d good) bad)
+    one_pair _ _ _ _ (by_problem d kind s k good bad is) (by_domain kind' s' k' bad' is') = absurd (read_or_faulty domain_of domain d kind' s' k' is' (domain_said domain d good) bad')
     one_pair _ _ _ _ (by_problem d kind s k good bad is) (by_problem d' kind' s' k' good' bad' is') = (refl, one_unread_fault problem_of problem kind kind' s s' k k' is is' bad bad')
-    one_pair _ _ _ _ (by_problem d kind s k good bad is) (by_statics d' p f k' good' said first is') = absurd (read_or_faulty problem_of problem p kind s k is said bad)
-    one_pair _ _ _ _ (by_statics d p f k good said first is) (by_domain kind' s' k' bad' is') = absurd (read_or_faulty domain_of domain d kind' s' k' is' good bad')
-    one_pair _ _ _ _ (by_statics d p f k good said first is) (by_problem d' kind' s' k' good' bad' is') = absurd (read_or_faulty problem_of problem p kind' s' k' is' said bad')
+    one_pair _ _ _ _ (by_problem d kind s k good bad is) (by_statics d' p f k' good' said first is') = absurd (read_or_faulty problem_of problem p kind s k is (problem_said problem p said) bad)
+    one_pair _ _ _ _ (by_statics d p f k good said first is) (by_domain kind' s' k' bad' is') = absurd (read_or_faulty domain_of domain d kind' s' k' is' (domain_said domain d good) bad')
+    one_pair _ _ _ _ (by_statics d p f k good said first is) (by_problem d' kind' s' k' good' bad' is') = absurd (read_or_faulty problem_of problem p kind' s' k' is' (problem_said problem p said) bad')
     one_pair _ _ _ _ (by_statics d p f k good said first is) (by_statics d' p' g k' good' said' first' is') =
-        let same = one_value domain_of domain d d' good good' in
-        let same' = one_value problem_of problem p p' said said' in
+        let same = one_value domain_of domain d d' (domain_said domain d good) (domain_said domain d' good') in
+        let same' = one_value problem_of problem p p' (problem_said problem p said) (problem_said problem p' said') in
         let here : IsFirstFault d' p' f = subst (λ x. IsFirstFault d' x f) same' (subst (λ x. IsFirstFault x p f) same first) in
         reported_at domain problem f g k k' (one_static in_order domain problem d' p' f g good' said' here first') is is'
 
@@ -338,8 +343,8 @@ module _ (one_reading : (text : List ℕ) (ts us : Trees) → AreExpressions tex
   module _ (domain problem plan : List ℕ) (limit : ℕ) where
     one_judgement : (a b : Answer) → IsJudgement domain problem plan limit a → IsJudgement domain problem plan limit b → SameAnswer a b
     one_judgement a b (d, p, q, spelled, h) (d', p', q', spelled', g) =
-        let domains = one_value domain_of domain d d' spelled.read.says_domain spelled'.read.says_domain in
-        let problems = one_value problem_of problem p p' spelled.read.says_problem spelled'.read.says_problem in
+        let domains = one_value domain_of domain d d' (domain_said domain d spelled.read.says_domain) (domain_said domain d' spelled'.read.says_domain) in
+        let problems = one_value problem_of problem p p' (problem_said problem p spelled.read.says_problem) (problem_said problem p' spelled'.read.says_problem) in
         let plans_agree = one_plan plan q q' spelled.planned spelled'.planned in
         let here : IsVerdict d' p' q' limit a = subst (λ x. IsVerdict d' p' x limit a) plans_agree (subst (λ x. IsVerdict d' x q limit a) problems (subst (λ x. IsVerdict x p q limit a) domains h)) in
         one_verdict d' p' q' limit spelled'.read.sound a b here g

@@ -5,7 +5,7 @@ use Rattle.std.specs.List.{flat_map}
 use Rattle.std.specs.Str.{bytes_eq}
 use Rattle.hv_text.specs.Words.{Piece, word, left, right, pieces, first_bad}
 use Rattle.hv_text.specs.declared.span.Span.{Span}
-use Rattle.hv_judge.specs.PlanLines.{NumberedLine}
+use Rattle.hv_judge.specs.PlanLines.{NumberedLine, has_start, has_end, between}
 use Rattle.hv_judge.specs.PlanForms.{Action, Root, Form, blank, action, root, is_digits, value_from, fits}
 use Rattle.hv_judge.specs.Plans.{Plan}
 use Rattle.hv_judge.specs.declared.plan.PlanFault.{PlanFault}
@@ -66,6 +66,13 @@ pub record SayPlan (ls : List NumberedLine) (p : Plan) : Type 0 where
   pub each : Each Says ls forms
   pub actions : p.actions ≡ actions_among forms
   pub root : roots_among forms ≡ p.root ∷ []
+
+-- a text holds a plan: it is within the limit, has both markers, and the lines between them say the plan
+pub record IsPlan (text : List ℕ) (p : Plan) : Type 0 where
+  pub size : length text ≤ 268435456
+  pub starts : has_start text ≡ true
+  pub ends : has_end text ≡ true
+  pub body : SayPlan (between text) p
 
 -- why a line says no form
 pub data IsFaulty (l : NumberedLine) : PlanFault → Type 0 where

@@ -68,13 +68,6 @@ pub record IsBody (ls : List NumberedLine) (p : Plan) : Type 0 where
   pub actions : p.actions ≡ actions_of ls
   pub root : roots_of ls ≡ p.root ∷ []
 
--- the plan of a text: it is within the limit, has both markers, and the plan is that of the lines between them
-pub record IsPlan (text : List ℕ) (p : Plan) : Type 0 where
-  pub size : length text ≤ 268435456
-  pub starts : has_start text ≡ true
-  pub ends : has_end text ≡ true
-  pub body : IsBody (between text) p
-
 -- the fault of lines between markers
 abbrev pub IsBodyFault : List NumberedLine → PlanFault → Type 0
 IsBodyFault ls (faults.BadByte n) = fault_from false ls ≡ Some (faults.BadByte n)

@@ -9,6 +9,7 @@ use Rattle.hv_judge.specs.declared.syntax.fault.SyntaxKind.TheVariants as kinds
 use Rattle.hv_judge.specs.Values.{Domain, Problem}
 use Rattle.hv_judge.specs.Domains.{domain_of}
 use Rattle.hv_judge.specs.Problems.{problem_of}
+use Rattle.hv_judge.specs.SectionSpellings.{SpellsDomain, SpellsProblem}
 
 -- what a reading gives for the expressions of a text
 abbrev pub IsReadAs : {V : Type 0} → (Trees → Result V (SyntaxKind × Span)) → List ℕ → Result V (SyntaxKind × Span) → Type 0
@@ -20,16 +21,16 @@ IsFaultBy reading text (kinds.Text texts.Memory) s = Unit {0}
 IsFaultBy reading text (kinds.Text kind) s = IsTextFault text kind s
 IsFaultBy reading text kind s = IsReadAs reading text (Err (kind, s))
 
--- the domain that a text says
+-- a text says a domain: its expressions spell it
 abbrev pub IsDomainText : List ℕ → Domain → Type 0
-IsDomainText text d = IsReadAs domain_of text (Ok d)
+IsDomainText text d = (ts : Trees) × AreExpressions text ts × SpellsDomain ts d
 
 abbrev pub IsDomainFault : List ℕ → SyntaxKind → Span → Type 0
 IsDomainFault text kind s = IsFaultBy domain_of text kind s
 
--- the problem that a text says
+-- a text says a problem: its expressions spell it
 abbrev pub IsProblemText : List ℕ → Problem → Type 0
-IsProblemText text p = IsReadAs problem_of text (Ok p)
+IsProblemText text p = (ts : Trees) × AreExpressions text ts × SpellsProblem ts p
 
 abbrev pub IsProblemFault : List ℕ → SyntaxKind → Span → Type 0
 IsProblemFault text kind s = IsFaultBy problem_of text kind s

@@ -20,7 +20,8 @@ use Rattle.hv_judge.specs.declared.tree.TreeFault.TheVariants as trees
 use Rattle.hv_judge.specs.PlanForms as forms
 use Rattle.hv_judge.specs.Values.{Formula, Action, Domain, Problem}
 use Rattle.hv_judge.specs.States.{State, is_true, initial_state, state_after, AreApplicable, IsFirstInapplicable}
-use Rattle.hv_judge.specs.Plans.{Plan, IsPlan, IsPlanFault}
+use Rattle.hv_judge.specs.Plans.{Plan, IsPlanFault}
+use Rattle.hv_judge.specs.PlanSpellings.{IsPlan}
 use Rattle.hv_judge.specs.Statics.{names, action_names}
 use Rattle.hv_judge.specs.Causes.{Fits, IsTreeCause}
 use Rattle.hv_judge.specs.Counting.{count}

@@ -4,7 +4,8 @@ ghost use Rattle.std.specs.Prelude.{◌≡◌, ◌<◌, ◌≤◌, ◌+◌, ℕ,
 ghost use Rattle.std.specs.List.{list_any};
 ghost use Rattle.hv_judge.specs.PlanLines.{is_end, is_start, behind_start, before_end};
 ghost use Rattle.hv_judge.specs.PlanViews.{lines_left, IsWithin};
-ghost use Rattle.hv_judge.specs.Plans.{plan_view, IsPlan, IsPlanFault, IsBody, IsBodyFault};
+ghost use Rattle.hv_judge.specs.Plans.{plan_view, IsPlanFault, IsBody, IsBodyFault};
+ghost use Rattle.hv_judge.specs.PlanSpellings.{IsPlan};
 
 pub(crate) mod form;
 mod id;

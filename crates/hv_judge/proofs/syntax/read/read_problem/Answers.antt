@@ -1,9 +1,13 @@
 use Rattle.hv_text.specs.Trees.{trees}
 use Rattle.hv_judge.specs.Problems.{problem_of}
 use Rattle.hv_judge.specs.ProblemViews.{problem_view}
-use Rattle.hv_judge.proofs.TextLemmas.{fault_of_text}
+use Rattle.hv_judge.proofs.TextLemmas.{fault_of_text, problem_of_text}
 use Rattle.hv_judge.proofs.syntax.read.read_problem.Goals as goal
 
 pub returns-clause-err : goal.returns-clause-err
 returns-clause-err c =
     fault_of_text problem_of c.args.text.now (trees c.deref.result.now) (rw c.deref.ensures.value c.in_ok-es.ensures.ok) problem_view c.read_problem_of.result c.read_problem_of.ensures
+
+pub returns-clause-ok : goal.returns-clause-ok
+returns-clause-ok c =
+    problem_of_text c.args.text.now (trees c.deref.result.now) (rw c.deref.ensures.value c.in_ok-es.ensures.ok) problem_view c.read_problem_of.result c.read_problem_of.ensures
