@@ -11,8 +11,8 @@ use Rattle.hv_judge.specs.declared.answer.Cause.{Cause}
 use Rattle.hv_judge.specs.declared.answer.CauseKind.{CauseKind}
 use Rattle.hv_judge.specs.declared.answer.CauseKind.TheVariants as kinds
 use Rattle.hv_judge.specs.Trees.{at_line, at_action, at_root, ids_of, occurs, repeated, has_arguments, name_of, child_names, or_else, repeated_id as find_repeated, unknown_child as find_unknown_child, two_parents as find_two_parents, unreached as find_unreached, unknown_task as find_unknown_task, unknown_object as find_unknown_object, child_count as find_count, other_names as find_names, tree_cause, fit_cause, children_cause, cause_of}
-use Rattle.hv_judge.specs.Causes.{IdsDiffer, ChildrenAreLines, ChildrenDiffer, IsReached, FormTree, NameActions, HaveNoArguments, FitActions, AreAsMany, IsAsOften, FitSubtasks, Fits, IsFirst, IsFirstRepetition, IsTreeCause, repeated_id, unknown_child, two_parents, unreached, unknown_task, unknown_object, other_count, other_names}
-use Rattle.hv_judge.proofs.Members.{SameNumber, equal_numbers, other_numbers, number_cases, not_true, mem_left, mem_right, MappedFrom, mem_map, mem_map_from}
+use Rattle.hv_judge.specs.Causes.{IdsDiffer, ChildrenAreLines, ChildrenDiffer, IsReached, FormTree, NameActions, HaveNoArguments, FitActions, AreAsMany, IsAsOften, Fits, IsFirst, IsTreeCause, repeated_id, unknown_child, two_parents, unreached, unknown_task, unknown_object, other_count, other_names}
+use Rattle.hv_judge.proofs.Members.{SameNumber, equal_numbers, other_numbers, number_cases, not_true, mem_left, mem_right, MappedFrom, mem_map_from}
 use Rattle.hv_judge.proofs.Occurrences.{mem_from_occurs, occurs_from_mem}
 use Rattle.hv_judge.proofs.CountLemmas.{same_key, key_same}
 

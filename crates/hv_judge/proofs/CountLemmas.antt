@@ -1,5 +1,5 @@
 -- The product of factorials over the declared names is the count, and how a table of multiplicities grows.
-use Rattle.std.proofs.Common.{◌≡◌, ℕ, zero, suc, ◌+◌, ◌-◌, ◌*◌, ◌<◌, ◌≤◌, ◌&&◌, ◌||◌, ◌==◌, Bool, true, false, not, List, [], ◌∷◌, ◌++◌, length, map, take, drop, get_or, slice_set, refl, sym, ap, ◌∙◌, arith, subst, ◌⊎◌, inl, inr, replicate, nat_eq, nat_lt, Option, None, Some, position, cond, is_some, add-one, add-zero, ◌^◌, if◌then◌else◌}
+use Rattle.std.proofs.Common.{◌≡◌, ℕ, zero, suc, ◌+◌, ◌-◌, ◌*◌, ◌<◌, ◌≤◌, ◌&&◌, ◌||◌, Bool, true, false, not, List, [], ◌∷◌, ◌++◌, length, map, take, drop, get_or, slice_set, refl, sym, ap, ◌∙◌, arith, subst, ◌⊎◌, inl, inr, replicate, nat_lt, None, Some, position, cond, add-one, add-zero, ◌^◌, if◌then◌else◌}
 use Rattle.std.specs.Str.{bytes_eq}
 use Rattle.std.specs.List.{list_any, list_all, position_or_len, IsDistinct, AllByRecursion}
 use Rattle.std.proofs.lemmas.Slice.Eq.{bytes_eq-Decides}

@@ -1,5 +1,5 @@
 -- From what was read to the answer of the judge.
-use Rattle.std.proofs.Common.{◌≡◌, ◌≤◌, ◌<◌, ℕ, Bool, true, false, List, length, Option, Some, None, Result, Ok, Err, refl, sym, ◌∙◌, ap, subst, arith, nat_lt, IfOk, inl, inr, ◌⊎◌}
+use Rattle.std.proofs.Common.{◌≡◌, ℕ, List, Option, Some, None, Result, Ok, Err, sym, subst, IfOk, inl, inr}
 use Rattle.hv_text.specs.declared.span.Span.{Span}
 use Rattle.hv_text.specs.declared.refusal.Memory.{Memory}
 use Rattle.hv_judge.specs.declared.answer.Answer.{Answer}
@@ -18,7 +18,7 @@ use Rattle.hv_judge.specs.Statics.{UnlessMemory, IsFirstFault, IsStaticFault}
 use Rattle.hv_judge.specs.Texts.{IsDomainText, IsDomainFault, IsProblemText, IsProblemFault}
 use Rattle.hv_judge.specs.Plans.{Plan, IsPlanFault}
 use Rattle.hv_judge.specs.PlanSpellings.{IsPlan}
-use Rattle.hv_judge.specs.Rejections.{reported, reported_static, reported_plan, which_of, text_of_side, unread_by, first_too_long, AreRead, IsRejectedPair, by_domain, by_problem, by_statics, IsUnread, by_pair, by_plan}
+use Rattle.hv_judge.specs.Rejections.{reported, reported_static, which_of, text_of_side, unread_by, first_too_long, AreRead, by_domain, by_problem, by_statics, IsUnread, by_pair, by_plan}
 use Rattle.hv_judge.specs.Verdicts.{IsVerdict, AreSpelled, Judged, IsUnreadAnswer, IsUnplannedAnswer, IsPlanAnswer}
 
 -- a faulty text

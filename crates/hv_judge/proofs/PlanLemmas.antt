@@ -1,10 +1,10 @@
 -- What the loops of the plan reader keep, and what the words of a line say.
-use Rattle.std.proofs.Common.{◌≡◌, ◌+◌, ◌-◌, ◌*◌, ◌<◌, ◌≤◌, ◌++◌, ◌==◌, ◌&&◌, ℕ, Bool, true, false, not, List, [], ◌∷◌, Vec, Option, None, Some, Result, Ok, Err, refl, ap, sym, subst, add-one, ◌∙◌, arith, length, take, drop, map, suc, get_or, cond, if◌then◌else◌}
+use Rattle.std.proofs.Common.{◌≡◌, ◌+◌, ◌-◌, ◌*◌, ◌<◌, ◌≤◌, ◌++◌, ◌==◌, ◌&&◌, ℕ, Bool, true, false, not, List, [], ◌∷◌, Vec, Option, None, Some, Result, Err, refl, ap, sym, subst, add-one, ◌∙◌, arith, length, take, drop, map, suc, get_or, if◌then◌else◌}
 use Rattle.std.specs.List.{list_all, prefix_len}
 use Rattle.std.specs.Char.{is_ascii_digit, to_ascii_lowercase}
 use Rattle.std.specs.declared.alloc.Global.{Global}
 use Rattle.std.proofs.lemmas.Grind.{common_steps}
-use Rattle.std.proofs.lemmas.List.{map-append, drop_all}
+use Rattle.std.proofs.lemmas.List.{map-append}
 use Rattle.std.proofs.Math.Numerals.{one-add}
 use Rattle.std.proofs.Math.Seq.{drop-cons}
 use Rattle.std.proofs.lemmas.Bool.Decides.{leb_tells}
@@ -14,7 +14,7 @@ use Rattle.hv_text.specs.declared.span.Span.{Span}
 use Rattle.hv_text.specs.declared.words.Word.{Word}
 use Rattle.hv_judge.specs.PlanLines.{NumberedLine, lines, numbered, with_byte, is_end, before_end}
 use Rattle.hv_judge.specs.Plans.{fault_from, IsBodyFault}
-use Rattle.hv_judge.specs.PlanForms.{Form, Root, listed, root_of, both, behind, inside, is_id, said, is_digits, id_of, value_from, greatest}
+use Rattle.hv_judge.specs.PlanForms.{Form, Root, listed, root_of, behind, inside, is_id, said, is_digits, id_of, value_from}
 use Rattle.hv_judge.specs.PlanViews.{as_number, as_id, IsLineFault}
 use Rattle.hv_judge.specs.declared.plan.PlanFault.{PlanFault}
 use Rattle.hv_judge.specs.declared.plan.PlanFault.TheVariants as faults

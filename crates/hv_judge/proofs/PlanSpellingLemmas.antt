@@ -1,13 +1,12 @@
 -- What the table of a plan's lines spells is what is read.
 use Rattle.std.proofs.Common.{◌≡◌, ◌≤◌, ◌||◌, ℕ, Bool, true, false, List, [], ◌∷◌, ◌++◌, length, Option, Some, None, Result, Ok, Err, ◌↔◌, refl, sym, ap, ◌∙◌, subst, arith, codes, if◌then◌else◌}
 use Rattle.std.specs.Prelude.{IfSome, IfOk}
-use Rattle.std.specs.List.{flat_map}
 use Rattle.std.specs.Option.{option_map, option_and_then}
 use Rattle.std.specs.Str.{bytes_eq}
 use Rattle.hv_text.specs.Words.{Piece, word, left, right, bad, pieces, first_bad}
 use Rattle.hv_text.specs.declared.span.Span.{Span}
 use Rattle.hv_judge.specs.PlanLines.{NumberedLine, has_start, has_end, between}
-use Rattle.hv_judge.specs.PlanForms.{Action, Root, Form, blank, action, root, both, every, is_digits, value_from, id_of, id_at, name_at, inside, bare as without_parentheses, names_of, action_of, root_of, form_of, fits, listed, sound, said}
+use Rattle.hv_judge.specs.PlanForms.{Root, Form, blank, action, root, both, every, is_digits, value_from, id_of, id_at, name_at, inside, bare as without_parentheses, names_of, action_of, root_of, form_of, fits, listed, sound, said}
 use Rattle.hv_judge.specs.Plans.{Plan, actions_in, roots_in, actions_of, roots_of, is_root, fault_of, first_of, fault_from, IsBody}
 use Rattle.hv_judge.specs.PlanSpellings.{SpellsId, an_id, SpellsName, a_name, Each, no_more, one_more, SpellsTask, bare, in_parentheses, SpellsForm, no_words, an_action, a_root, Says, action_in, root_in, actions_among, roots_among, SayPlan, IsFaulty, bad_byte, bad_line, id_too_large, IsPlan, IsFirstFault, no_form, second_root}
 use Rattle.hv_judge.specs.declared.plan.PlanFault.{PlanFault}

@@ -1,6 +1,6 @@
 -- What the table of sections spells is what is read.
 use Rattle.std.proofs.Common.{◌≡◌, ◌&&◌, ◌||◌, ℕ, Bool, true, false, not, List, [], ◌∷◌, ◌++◌, map, Option, Some, None, Result, Ok, Err, ◌↔◌, ◌⊎◌, inl, inr, refl, sym, ap, ◌∙◌, subst, codes, option_map, if◌then◌else◌}
-use Rattle.std.specs.Prelude.{IfSome, option_and_then}
+use Rattle.std.specs.Prelude.{option_and_then}
 use Rattle.std.specs.Option.{is_some}
 use Rattle.hv_order.specs.Trees.{Mem, Distinct}
 use Rattle.hv_text.specs.Trees.{Tree, word, list, Trees, none, more, place_of}
@@ -15,15 +15,15 @@ use Rattle.hv_judge.specs.declared.syntax.field.Slot.{Slot}
 use Rattle.hv_judge.specs.declared.syntax.field.Slot.TheVariants as slots
 use Rattle.hv_judge.specs.declared.syntax.section.Standing.{Standing}
 use Rattle.hv_judge.specs.declared.syntax.section.Standing.TheVariants as standings
-use Rattle.hv_judge.specs.Words.{is, sort_of, same_sort, is_sorted_word, head_of}
-use Rattle.hv_judge.specs.Reading.{both, every, all_are, only}
+use Rattle.hv_judge.specs.Words.{is, sort_of, same_sort, head_of}
+use Rattle.hv_judge.specs.Reading.{both, every}
 use Rattle.hv_judge.specs.Values.{WordAt, word_at, Formula, and, no_formulas, Literal, Action, action_with, Domain, Problem}
-use Rattle.hv_judge.specs.Spellings.{SpellsFormula, SpellsAtom, SpellsLiteral, SpellEach, no_more, one_more, SpellsList}
+use Rattle.hv_judge.specs.Spellings.{SpellEach, no_more, one_more}
 use Rattle.hv_judge.specs.Formulas.{formula_of}
-use Rattle.hv_judge.specs.Literals.{symbol_of, symbol_by, atom_of, literal_of, listed}
+use Rattle.hv_judge.specs.Literals.{symbol_by, atom_of, literal_of}
 use Rattle.hv_judge.specs.Fields.{slot_of, same_slot, is_in, field, is_field_list, is_nothing}
-use Rattle.hv_judge.specs.Sections.{headed, occurs, refused, is_title, is_one_name, is_name_at, are_keywords, define_form, sections_of, judged, section_by, section_of, at_place, ◌>>=◌, sections_from, at_start}
-use Rattle.hv_judge.specs.Domains.{DomainSection, requires_much, declares, has_action, formula_at, effect_at, action_named, action_of, domain_standing, domain_section_by, domain_section, no_domain, add_section, domain_in, domain_of}
+use Rattle.hv_judge.specs.Sections.{headed, occurs, refused, is_title, is_one_name, are_keywords, sections_of, judged, section_by, section_of, at_place, ◌>>=◌, sections_from, at_start}
+use Rattle.hv_judge.specs.Domains.{DomainSection, requires_much, declares, has_action, formula_at, effect_at, action_named, action_of, domain_standing, domain_section_by, no_domain, add_section, domain_in, domain_of}
 use Rattle.hv_judge.specs.Problems.{ProblemSection, says_nothing, has_subtasks, begins_with, asks_for, subtasks_at, network_of, goal_by, problem_standing, aside_if, problem_section_by, problem_section, no_problem, add_part, is_whole, members, if_whole, problem_in, problem_of}
 use Rattle.hv_judge.specs.SectionSpellings.{Field, field_of, SpellFields, no_fields, more_fields, AreFields, StandsIn, absent, here, further, SpellsNothing, no_field, empty_list, SpellsPrecondition, no_precondition, a_precondition, SpellsEffect, no_effect, an_effect, SpellsAction, an_action, SpellsNetwork, a_network, AreKeywords, no_keywords, more_keywords, SpellsDomainSection, requirements, predicates, action, SpellsProblemSection, domain_name, requirements as problem_requirements, network, initial, goal, AreOnce, Defines, a_definition, together, SpellsDomain, a_domain, SpellsProblem, a_problem}
 use Rattle.hv_judge.proofs.Members.{not_true}

@@ -1,5 +1,5 @@
 -- A plan without decomposition lines is a solution exactly where its lines have the names of the subtasks, in their order.
-use Rattle.std.proofs.Common.{◌≡◌, ◌+◌, ◌<◌, ◌≤◌, ℕ, suc, true, List, [], ◌∷◌, length, map, Some, None, refl, sym, ap, ◌∙◌, subst, inl, inr, arith}
+use Rattle.std.proofs.Common.{◌≡◌, ◌+◌, ◌<◌, ◌≤◌, ℕ, suc, true, List, [], ◌∷◌, length, map, Some, refl, sym, ap, ◌∙◌, subst, inl, inr, arith}
 use Rattle.hv_order.specs.Trees.{Item, Act, Task, Pre, Mem, Distinct, itself, IsSubtask, IsTree, IsWithin, HasActions}
 use Rattle.hv_order.specs.Candidates.{Candidate, IsOrder, AreCandidates}
 use Rattle.hv_order.specs.Finishes.{FitTogether, RootFitsBy, Fits, FitsAll}

@@ -1,17 +1,15 @@
 -- A domain and a problem have one first static fault: faults of two kinds never stand at one place.
-use Rattle.std.proofs.Common.{◌≡◌, ◌≤◌, ◌<◌, ◌+◌, ◌-◌, ◌++◌, ◌&&◌, ◌||◌, ℕ, zero, suc, Bool, true, false, not, nat_lt, List, [], ◌∷◌, map, length, Option, Some, None, Result, Ok, Err, refl, sym, ◌∙◌, ap, subst, arith, ◌⊎◌, inl, inr, codes, option_map, option_and_then, if◌then◌else◌}
+use Rattle.std.proofs.Common.{◌≡◌, ◌≤◌, ◌<◌, ◌+◌, ◌-◌, ◌++◌, ◌&&◌, ℕ, zero, suc, Bool, true, false, not, nat_lt, List, [], ◌∷◌, Option, Some, None, Result, Ok, Err, refl, sym, ◌∙◌, ap, subst, arith, inl, inr, codes, option_map, option_and_then, if◌then◌else◌}
 use Rattle.std.proofs.lemmas.Bool.{lt-ltb, le-ltb}
 use Rattle.std.proofs.lemmas.List.Elements.{All-contains}
-use Rattle.std.specs.List.{slice_index_or, Contains, All}
-use Rattle.hv_text.specs.Words as found
-use Rattle.hv_text.specs.Words.{Piece, left, right, pieces}
-use Rattle.hv_text.specs.Trees.{Tree, Trees, word, list, none, more, place_of}
-use Rattle.hv_text.specs.Sexps.{spelled, spelled_all, opening, closing, AreExpressions}
-use Rattle.hv_text.specs.Runs.{span_of, IsInOrder}
+use Rattle.std.specs.List.{Contains}
+use Rattle.hv_text.specs.Words.{right, pieces}
+use Rattle.hv_text.specs.Trees.{Tree, Trees, word, list, none, more}
+use Rattle.hv_text.specs.Sexps.{spelled, spelled_all, closing, AreExpressions}
+use Rattle.hv_text.specs.Runs.{IsInOrder}
 use Rattle.hv_text.specs.declared.span.Span.{Span}
 use Rattle.hv_judge.specs.declared.syntax.field.Slot.TheVariants as slots
 use Rattle.hv_judge.specs.declared.syntax.fault.SyntaxKind.{SyntaxKind}
-use Rattle.hv_judge.specs.declared.syntax.fault.SyntaxKind.TheVariants as kinds
 use Rattle.hv_judge.specs.declared.syntax.section.Standing.{Standing}
 use Rattle.hv_judge.specs.declared.world.fault.Side.{Side}
 use Rattle.hv_judge.specs.declared.world.fault.Side.TheVariants as sides
@@ -20,14 +18,14 @@ use Rattle.hv_judge.specs.declared.world.fault.StaticKind.TheVariants as statics
 use Rattle.hv_judge.specs.declared.world.fault.StaticFault.{StaticFault}
 use Rattle.hv_judge.specs.Words.{is, is_the_word}
 use Rattle.hv_judge.specs.Reading.{both, every, only}
-use Rattle.hv_judge.specs.Values.{WordAt, word_at, Formula, and, no_formulas, Literal, Action, action_with, Domain, Problem}
+use Rattle.hv_judge.specs.Values.{WordAt, Formula, and, no_formulas, Literal, Action, action_with, Domain, Problem}
 use Rattle.hv_judge.specs.Formulas.{formula_of}
-use Rattle.hv_judge.specs.Literals.{symbol_of, atom_of, literal_of, listed}
+use Rattle.hv_judge.specs.Literals.{symbol_of, atom_of, literal_of}
 use Rattle.hv_judge.specs.Fields.{field, is_field_list, is_nothing}
-use Rattle.hv_judge.specs.Sections.{headed, occurs, is_title, are_keywords, is_one_name, refused, judged, section_by, at_place, section_of, sections_from, sections_of, define_form, ◌>>=◌}
-use Rattle.hv_judge.specs.Domains.{DomainSection, requires_much, declares, has_action, formula_at, effect_at, action_named, action_of, domain_standing, domain_section_by, domain_section, no_domain, add_section, domain_from, domain_in, domain_of}
-use Rattle.hv_judge.specs.Problems.{ProblemSection, says_nothing, has_subtasks, begins_with, asks_for, subtasks_at, network_of, goal_by, aside_if, problem_standing, problem_section_by, problem_section, no_problem, add_part, problem_from, is_whole, members, if_whole, problem_in, problem_of}
-use Rattle.hv_judge.specs.Statics.{is_among, undeclared, when, repeated, names, atoms, literal_atoms, used, goal_atoms, action_words, predicate_names, action_names, fault_at, faults_at, domain_faults, problem_faults, IsFirst, IsFirstFault}
+use Rattle.hv_judge.specs.Sections.{occurs, is_title, are_keywords, is_one_name, refused, judged, at_place, section_of, sections_from, sections_of, define_form, ◌>>=◌}
+use Rattle.hv_judge.specs.Domains.{DomainSection, requires_much, declares, has_action, formula_at, effect_at, action_named, action_of, domain_standing, domain_section_by, domain_section, no_domain, add_section, domain_in}
+use Rattle.hv_judge.specs.Problems.{ProblemSection, says_nothing, has_subtasks, begins_with, asks_for, subtasks_at, network_of, goal_by, aside_if, problem_standing, problem_section_by, problem_section, no_problem, add_part, problem_from, is_whole, members, if_whole, problem_in}
+use Rattle.hv_judge.specs.Statics.{is_among, undeclared, when, repeated, atoms, literal_atoms, used, goal_atoms, action_words, predicate_names, action_names, faults_at, domain_faults, problem_faults, IsFirst, IsFirstFault}
 use Rattle.hv_judge.specs.Texts.{IsDomainText, IsProblemText}
 use Rattle.hv_judge.proofs.SectionSpellingLemmas.{domain_table, problem_table}
 use Rattle.hv_judge.proofs.WordPlaces.{Each, each_append, each_weaker, each_mapped, EachWord, EachWordAll, end_of, end_append, order_append, end_rises, placed, placed_all, one_member, symbol_word, atom_word, every_word, listed_word, literal_word, formula_words, field_words}

@@ -1,9 +1,9 @@
 -- A text has one fault, and a text with expressions has none.
-use Rattle.std.proofs.Common.{◌≡◌, ◌<◌, ◌≤◌, ℕ, zero, suc, List, [], ◌∷◌, length, take, Option, Some, None, refl, sym, ◌∙◌, ap, subst, arith, ◌⊎◌, inl, inr}
+use Rattle.std.proofs.Common.{◌≡◌, ◌<◌, ◌≤◌, ℕ, zero, suc, List, [], ◌∷◌, length, Some, None, refl, ap, subst, arith}
 use Rattle.std.specs.List.{slice_get}
 use Rattle.hv_text.specs.Words.{Piece, left, pieces}
 use Rattle.hv_text.specs.Trees.{Trees}
-use Rattle.hv_text.specs.Sexps.{fault_at, open_before, IsSound, IsFirstFault, StaysOpen, IsUnclosed, AreExpressions, IsTextFault}
+use Rattle.hv_text.specs.Sexps.{fault_at, open_before, IsSound, IsFirstFault, IsUnclosed, AreExpressions, IsTextFault}
 use Rattle.hv_text.specs.declared.span.Span.{Span}
 use Rattle.hv_text.specs.declared.fault.TextKind.{TextKind}
 use Rattle.hv_text.specs.declared.fault.TextKind.TheVariants as kinds

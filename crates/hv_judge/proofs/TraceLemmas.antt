@@ -4,7 +4,7 @@ use Rattle.std.proofs.lemmas.Option.{slice_get_read, slice_get-map}
 use Rattle.std.proofs.Math.Seq.{drop-cons}
 use Rattle.std.specs.List.{slice_get, cons_option}
 use Rattle.std.specs.Option.{option_map}
-use Rattle.hv_judge.specs.Values.{Action, Literal}
+use Rattle.hv_judge.specs.Values.{Action}
 use Rattle.hv_judge.specs.States.{State, is_true, result_of, state_after}
 use Rattle.hv_judge.specs.Traces.{performed, first_stop}
 

@@ -1,10 +1,9 @@
 -- What the steps of building a tree keep.
-use Rattle.std.proofs.Common.{◌≡◌, ℕ, zero, suc, ◌+◌, ◌<◌, ◌≤◌, ◌&&◌, ◌||◌, ◌==◌, Bool, true, false, not, List, [], ◌∷◌, ◌++◌, append_assoc, length, map, take, drop, get_or, slice_get, refl, sym, ap, ◌∙◌, arith, subst, nat_eq, nat_lt, Option, None, Some, position, cond, add-one, if◌then◌else◌}
+use Rattle.std.proofs.Common.{◌≡◌, ℕ, zero, suc, ◌+◌, ◌<◌, ◌&&◌, ◌==◌, Bool, true, false, not, List, [], ◌∷◌, ◌++◌, append_assoc, length, map, drop, get_or, slice_get, refl, sym, ap, ◌∙◌, arith, nat_eq, nat_lt, Option, None, Some, position, cond, add-one, if◌then◌else◌}
 use Rattle.std.specs.Str.{bytes_eq}
-use Rattle.std.specs.List.{list_any, list_all, find, filter_map, cons_option, position_or_len}
+use Rattle.std.specs.List.{list_all, find, filter_map, cons_option, position_or_len}
 use Rattle.std.specs.Option.{option_map}
 use Rattle.std.specs.Cmp.Lexicographic.{pointwise}
-use Rattle.std.proofs.lemmas.Grind.{common_steps}
 use Rattle.std.proofs.lemmas.List.{map-append, length-map}
 use Rattle.std.proofs.lemmas.List.Folds.{find_at}
 use Rattle.std.proofs.lemmas.Bool.{eqb-true, eq-eqb, ltb-true}
@@ -15,7 +14,7 @@ use Rattle.hv_text.specs.declared.name.Name.{Name}
 use Rattle.hv_text.specs.Names.{text_of}
 use Rattle.hv_judge.specs.PlanForms.{Action}
 use Rattle.hv_judge.specs.Plans.{action_view}
-use Rattle.hv_judge.specs.Counting.{multiplicity, multiplicities, stands_in}
+use Rattle.hv_judge.specs.Counting.{multiplicity, multiplicities}
 use Rattle.hv_judge.specs.declared.plan.ActionLine.{ActionLine}
 use Rattle.hv_judge.specs.declared.answer.Cause.{Cause}
 use Rattle.hv_judge.specs.declared.tree.TreeFault.{TreeFault}

@@ -1,11 +1,11 @@
 -- Three texts and a limit have one answer.
-use Rattle.std.proofs.Common.{◌≡◌, ◌<◌, ◌≤◌, ◌==◌, ◌+◌, ℕ, zero, suc, Bool, true, false, not, List, [], ◌∷◌, length, take, map, Option, Some, None, Result, Ok, Err, refl, sym, ◌∙◌, ap, subst, arith, ◌⊎◌, inl, inr}
-use Rattle.std.specs.List.{slice_get, Contains, All}
+use Rattle.std.proofs.Common.{◌≡◌, ◌<◌, ◌≤◌, ℕ, true, false, List, [], ◌∷◌, length, Some, None, Result, Ok, Err, refl, sym, ◌∙◌, ap, subst, arith, inl, inr}
+use Rattle.std.specs.List.{slice_get}
 use Rattle.std.specs.Option.{option_map}
 use Rattle.hv_text.specs.Words.{pieces}
 use Rattle.hv_text.specs.Trees.{Trees}
 use Rattle.hv_text.specs.Runs.{IsInOrder}
-use Rattle.hv_text.specs.Sexps.{AreExpressions, IsTextFault}
+use Rattle.hv_text.specs.Sexps.{AreExpressions}
 use Rattle.hv_text.specs.declared.span.Span.{Span}
 use Rattle.hv_text.specs.declared.fault.TextKind.{TextKind}
 use Rattle.hv_text.specs.declared.fault.TextKind.TheVariants as texts
@@ -17,34 +17,30 @@ use Rattle.hv_judge.specs.declared.answer.Certificate.{Certificate}
 use Rattle.hv_judge.specs.declared.answer.Fault.{Fault}
 use Rattle.hv_judge.specs.declared.answer.FaultKind.{FaultKind}
 use Rattle.hv_judge.specs.declared.answer.Which.{Which}
-use Rattle.hv_judge.specs.declared.answer.Which.TheVariants as which
 use Rattle.hv_judge.specs.declared.plan.PlanFault.{PlanFault}
 use Rattle.hv_judge.specs.declared.plan.PlanFault.TheVariants as plans
 use Rattle.hv_judge.specs.declared.syntax.fault.SyntaxKind.{SyntaxKind}
 use Rattle.hv_judge.specs.declared.syntax.fault.SyntaxKind.TheVariants as kinds
-use Rattle.hv_judge.specs.declared.world.fault.Side.{Side}
-use Rattle.hv_judge.specs.declared.world.fault.Side.TheVariants as sides
-use Rattle.hv_judge.specs.declared.world.fault.StaticKind.{StaticKind}
 use Rattle.hv_judge.specs.declared.world.fault.StaticFault.{StaticFault}
 use Rattle.hv_judge.specs.Values.{Action, Domain, Problem}
-use Rattle.hv_judge.specs.States.{State, IsApplicable, AreApplicable, IsFirstInapplicable}
+use Rattle.hv_judge.specs.States.{State, AreApplicable, IsFirstInapplicable}
 use Rattle.hv_judge.specs.PlanForms as forms
 use Rattle.hv_judge.specs.PlanSpellings.{IsPlan}
 use Rattle.hv_judge.specs.Plans.{Plan, IsPlanFault, IsFaultWithin, IsBodyFault, fault_from, roots_of}
 use Rattle.hv_judge.specs.PlanLines.{NumberedLine, has_start, has_end, between}
-use Rattle.hv_judge.specs.Statics.{action_names, domain_faults, problem_faults, IsStatic, IsFirst, IsFirstFault}
-use Rattle.hv_judge.specs.Texts.{IsReadAs, IsFaultBy, IsDomainText, IsProblemText}
+use Rattle.hv_judge.specs.Statics.{action_names, domain_faults, problem_faults, IsStatic, IsFirstFault}
+use Rattle.hv_judge.specs.Texts.{IsReadAs, IsFaultBy}
 use Rattle.hv_judge.specs.Domains.{domain_of}
 use Rattle.hv_judge.specs.Problems.{problem_of}
-use Rattle.hv_judge.specs.Rejections.{reported, reported_static, reported_plan, fault_in, first_too_long, which_of, text_of_side, AreRead, IsRejectedPair, by_domain, by_problem, by_statics, IsRejected, by_length, by_pair, by_plan}
-use Rattle.hv_judge.specs.Verdicts.{AreSpelled, IsRun, Certifies, IsCauseOf, by_tree, by_action, by_goal, by_order, IsOrdered, IsVerdict, IsJudgement, Judged, count_of, first_state, FitsProblem, subtasks_of, actions_of}
+use Rattle.hv_judge.specs.Rejections.{reported, reported_static, reported_plan, fault_in, which_of, text_of_side, AreRead, IsRejectedPair, by_domain, by_problem, by_statics, IsRejected, by_length, by_pair, by_plan}
+use Rattle.hv_judge.specs.Verdicts.{AreSpelled, IsRun, Certifies, IsCauseOf, by_tree, by_action, by_goal, by_order, IsOrdered, IsVerdict, IsJudgement, count_of, first_state, FitsProblem, subtasks_of, actions_of}
 use Rattle.hv_judge.specs.Causes.{IsTreeCause}
 use Rattle.hv_judge.proofs.VerdictLemmas.{no_cause_of_fit, cause_of_tree}
 use Rattle.hv_judge.proofs.PlanSpellingLemmas.{plan_table}
 use Rattle.hv_judge.proofs.TextLemmas.{domain_said, problem_said}
 use Rattle.hv_judge.specs.Answers.{SameAnswer, OneAnswerLaw}
 use Rattle.hv_judge.proofs.StaticPlaces.{SameStatic, one_static, none_first}
-use Rattle.hv_judge.proofs.TextFaults.{Compared, less, equal, more, compare, Faulty, is_faulty, SameFault, one_fault, no_fault}
+use Rattle.hv_judge.proofs.TextFaults.{Compared, less, equal, more, compare, Faulty, is_faulty, one_fault, no_fault}
 
 -- the verdict on one domain, problem and plan
 

@@ -1,12 +1,12 @@
 -- From what the parts of the judge know to the verdict.
-use Rattle.std.proofs.Common.{◌≡◌, ◌<◌, ◌≤◌, ◌+◌, ◌++◌, ◌&&◌, ◌||◌, ℕ, zero, suc, Bool, true, false, not, List, [], ◌∷◌, length, take, map, get_or, Option, Some, None, Result, Ok, Err, IfOk, refl, sym, ◌∙◌, ap, subst, arith, nat_lt}
+use Rattle.std.proofs.Common.{◌≡◌, ◌<◌, ◌≤◌, ◌++◌, ◌||◌, ℕ, zero, suc, Bool, true, false, List, [], ◌∷◌, length, map, get_or, Option, Some, None, Result, Ok, Err, IfOk, refl, sym, ◌∙◌, ap, subst, arith, nat_lt}
 use Rattle.std.proofs.lemmas.Slice.Eq.{bytes_eq-Decides, slice_eq-Decides}
 use Rattle.std.proofs.lemmas.Bool.{ltb-false}
 use Rattle.std.proofs.lemmas.Option.{slice_get-map}
 use Rattle.std.proofs.lemmas.List.{length-map}
 use Rattle.std.proofs.lemmas.List.Folds.{list_any-append}
 use Rattle.std.specs.Cmp.Lexicographic.{pointwise}
-use Rattle.std.specs.List.{slice_get, cons_option, filter, filter_map, find, list_all, list_any}
+use Rattle.std.specs.List.{slice_get, filter_map, find, list_all, list_any}
 use Rattle.std.specs.Option.{option_map}
 use Rattle.std.specs.Str.{bytes_eq}
 use Rattle.hv_order.specs.Trees.{Mem}
@@ -22,9 +22,9 @@ use Rattle.hv_judge.specs.declared.plan.ActionLine.{ActionLine}
 use Rattle.hv_judge.specs.declared.syntax.word.Placed.{Placed}
 use Rattle.hv_judge.specs.Values.{WordAt, Literal, Action, Domain, Problem}
 use Rattle.hv_judge.specs.Views.{word_view}
-use Rattle.hv_judge.specs.States.{State, initial_state, is_true, result_of, state_after, IsApplicable, AreApplicable, IsFirstInapplicable}
+use Rattle.hv_judge.specs.States.{State, initial_state, is_true, result_of, IsApplicable, AreApplicable, IsFirstInapplicable}
 use Rattle.hv_judge.specs.Traces.{performed, first_stop, IsStop}
-use Rattle.hv_judge.specs.Statics.{names, is_among, undeclared, when, repeated, action_words, action_names, faults_at, domain_faults, problem_faults, IsStatic}
+use Rattle.hv_judge.specs.Statics.{names, is_among, undeclared, repeated, action_words, action_names, IsStatic}
 use Rattle.hv_judge.specs.Counting.{subtask_names, stands_in}
 use Rattle.hv_judge.specs.PlanForms as forms
 use Rattle.hv_judge.specs.Plans.{Plan, action_view}

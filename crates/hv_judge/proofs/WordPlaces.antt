@@ -1,21 +1,19 @@
 -- Where the words of expressions stand, and that what is read of expressions has their words.
-use Rattle.std.proofs.Common.{◌≡◌, ◌<◌, ◌≤◌, ◌+◌, ◌-◌, ◌++◌, ℕ, zero, suc, Bool, true, false, List, [], ◌∷◌, map, Option, Some, None, refl, sym, ◌∙◌, ap, subst, arith, option_map, option_and_then, append_assoc, if◌then◌else◌}
-use Rattle.hv_text.specs.Words as found
-use Rattle.hv_text.specs.Words.{Piece, left, right, bad}
+use Rattle.std.proofs.Common.{◌≡◌, ◌<◌, ◌≤◌, ◌+◌, ◌-◌, ◌++◌, ℕ, Bool, true, false, List, [], ◌∷◌, map, Option, Some, None, refl, subst, arith, option_map, option_and_then, if◌then◌else◌}
+use Rattle.hv_text.specs.Words.{Piece, right}
 use Rattle.hv_text.specs.Trees.{Tree, Trees, word, list, none, more}
-use Rattle.hv_text.specs.Sexps.{spelled, spelled_all, opening, closing}
+use Rattle.hv_text.specs.Sexps.{spelled, spelled_all, closing}
 use Rattle.hv_text.specs.Runs.{span_of, IsInOrder}
-use Rattle.hv_text.specs.declared.span.Span.{Span}
 use Rattle.hv_judge.specs.declared.syntax.word.Head.{Head}
 use Rattle.hv_judge.specs.declared.syntax.word.Head.TheVariants as heads
 use Rattle.hv_judge.specs.declared.syntax.field.Slot.{Slot}
 use Rattle.hv_judge.specs.Words.{head_of}
 use Rattle.hv_judge.specs.Reading.{both, every, all_some, only}
-use Rattle.hv_judge.specs.Values.{WordAt, word_at, Formula, holds, and, not as negation_of, Formulas, no_formulas, more_formulas, formulas_of, Literal, literal}
-use Rattle.hv_judge.specs.Formulas.{formula_of, formula_among, formula_by, each_formula, and_all, negation, atom_alone}
+use Rattle.hv_judge.specs.Values.{WordAt, word_at, Formula, holds, and, not as negation_of, no_formulas, formulas_of, Literal, literal}
+use Rattle.hv_judge.specs.Formulas.{formula_of, formula_by, each_formula, and_all, negation, atom_alone}
 use Rattle.hv_judge.specs.Literals.{symbol_by, symbol_of, atom_of, behind_and, conjuncts, behind_not, negated, literal_by, literal_of, single, listed_by, listed}
 use Rattle.hv_judge.specs.Fields.{field, same_slot, slot_of}
-use Rattle.hv_judge.specs.Statics.{atoms, atoms_of_all, literal_atoms}
+use Rattle.hv_judge.specs.Statics.{atoms, atoms_of_all}
 
 -- P for each of a list
 abbrev pub Each : {A : Type 0} → (A → Type 0) → List A → Type 0

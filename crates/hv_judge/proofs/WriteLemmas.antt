@@ -1,5 +1,5 @@
 -- What was written where a later write fails.
-use Rattle.std.proofs.Common.{◌≡◌, ◌<◌, ◌+◌, ◌++◌, ◌∷◌, ℕ, List, Option, suc, Result, Ok, Err, OnOk, OnErr, length, take, drop, refl, sym, ◌∙◌, ap, subst, get_or, append_assoc}
+use Rattle.std.proofs.Common.{◌≡◌, ◌<◌, ◌+◌, ◌++◌, ◌∷◌, ℕ, List, Option, suc, Result, Ok, Err, OnOk, OnErr, length, take, drop, sym, ◌∙◌, ap, subst, get_or, append_assoc}
 use Rattle.std.proofs.lemmas.List.{take-append-drop, map-append}
 use Rattle.std.proofs.lemmas.Grind.{flat_map-append}
 use Rattle.std.proofs.Math.Seq.{take-append-add, take-append_seam, take-add, drop-cons}

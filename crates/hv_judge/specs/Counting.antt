@@ -1,9 +1,8 @@
 -- In how many ways subtasks of one name can change places.
-use Rattle.std.specs.Prelude.{◌≡◌, ◌+◌, ◌*◌, ℕ, zero, suc, Bool, true, false, List, [], ◌∷◌, map, if◌then◌else◌}
+use Rattle.std.specs.Prelude.{◌+◌, ◌*◌, ℕ, zero, suc, Bool, List, [], ◌∷◌, map, if◌then◌else◌}
 use Rattle.std.specs.List.{list_any}
 use Rattle.std.specs.Str.{bytes_eq}
 use Rattle.hv_text.specs.Names.{text_of}
-use Rattle.hv_text.specs.declared.name.Name.{Name}
 use Rattle.hv_judge.specs.declared.syntax.word.Placed.{Placed}
 
 -- how often a name stands among names

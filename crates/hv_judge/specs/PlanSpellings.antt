@@ -1,6 +1,6 @@
 -- The forms of a plan's lines, row by row, as a relation between the words of a line and what it says; the plan that lines
 -- say, and the first fault of lines that say none.
-use Rattle.std.specs.Prelude.{◌≡◌, ◌≤◌, ℕ, true, false, List, [], ◌∷◌, ◌++◌, codes, Option, None, Some, length}
+use Rattle.std.specs.Prelude.{◌≡◌, ◌≤◌, ℕ, true, false, List, [], ◌∷◌, ◌++◌, codes, None, Some, length}
 use Rattle.std.specs.List.{flat_map}
 use Rattle.std.specs.Str.{bytes_eq}
 use Rattle.hv_text.specs.Words.{Piece, word, left, right, pieces, first_bad}

@@ -1,5 +1,5 @@
 -- What the code's lines and forms stand for.
-use Rattle.std.specs.Prelude.{◌≡◌, ◌==◌, ◌+◌, ◌≤◌, ℕ, List, [], ◌∷◌, Option, None, Some, Result, Ok, Err, length, map, if◌then◌else◌}
+use Rattle.std.specs.Prelude.{◌≡◌, ◌+◌, ◌≤◌, ℕ, List, Option, None, Some, Result, Ok, Err, length, if◌then◌else◌}
 use Rattle.hv_judge.specs.PlanLines.{NumberedLine, lines, numbered}
 use Rattle.hv_judge.specs.PlanForms.{Form, blank, action, root, is_id}
 use Rattle.hv_judge.specs.Plans.{action_view}

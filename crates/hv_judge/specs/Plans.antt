@@ -1,5 +1,5 @@
 -- The plan that a text holds, and the fault of a text that holds none.
-use Rattle.std.specs.Prelude.{◌≡◌, ◌<◌, ◌≤◌, ◌||◌, ℕ, Bool, true, false, List, [], ◌∷◌, Option, None, Some, Result, Ok, Err, map, IsTrue, length, if◌then◌else◌}
+use Rattle.std.specs.Prelude.{◌≡◌, ◌<◌, ◌≤◌, ◌||◌, ℕ, Bool, true, false, List, [], ◌∷◌, Option, None, Some, Result, Ok, Err, map, length, if◌then◌else◌}
 use Rattle.std.specs.List.{flat_map}
 use Rattle.hv_text.specs.Names.{text_of}
 use Rattle.hv_judge.specs.PlanLines.{NumberedLine, has_start, has_end, between}

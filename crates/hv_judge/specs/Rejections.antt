@@ -1,5 +1,5 @@
 -- Which texts are rejected, and with which fault at which place.
-use Rattle.std.specs.Prelude.{◌≡◌, ◌==◌, ◌+◌, ◌<◌, ◌≤◌, ℕ, not, nat_lt, List, length, take, count_by, Option, None, Some, if◌then◌else◌}
+use Rattle.std.specs.Prelude.{◌≡◌, ◌==◌, ◌+◌, ℕ, not, nat_lt, List, length, take, count_by, Option, None, Some, if◌then◌else◌}
 use Rattle.std.specs.List.{suffix_len}
 use Rattle.hv_text.specs.declared.span.Span.{Span}
 use Rattle.hv_text.specs.declared.fault.TextKind.TheVariants as texts

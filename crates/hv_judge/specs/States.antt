@@ -1,8 +1,8 @@
 -- States, truth, and what actions do: states are sets of atoms, and an atom is here a predicate's name in lower case.
-use Rattle.std.specs.Prelude.{◌≡◌, ℕ, ◌<◌, Bool, true, false, not, ◌&&◌, ◌||◌, List, [], ◌∷◌, length, take, Option, None, Some, slice_get, MatchOption, IsTrue}
+use Rattle.std.specs.Prelude.{◌≡◌, ℕ, ◌<◌, Bool, true, not, ◌&&◌, ◌||◌, List, [], ◌∷◌, length, take, slice_get, MatchOption}
 use Rattle.std.specs.List.{list_any}
 use Rattle.std.specs.Str.{bytes_eq}
-use Rattle.hv_judge.specs.Values.{WordAt, Formula, holds, and, not as negation, Formulas, no_formulas, more_formulas, Literal, Action, Problem}
+use Rattle.hv_judge.specs.Values.{Formula, holds, and, not as negation, Formulas, no_formulas, more_formulas, Literal, Action}
 
 -- a set of atoms, as the test of what is in it; what is not in it is false
 abbrev pub State : Type 0

@@ -1,5 +1,5 @@
 -- The domain or problem of a text, and the faults of texts.
-use Rattle.std.specs.Prelude.{◌≡◌, ℕ, List, Result, Ok, Err}
+use Rattle.std.specs.Prelude.{◌≡◌, ℕ, List, Result, Err}
 use Rattle.hv_text.specs.Trees.{Trees}
 use Rattle.hv_text.specs.Sexps.{AreExpressions, IsTextFault}
 use Rattle.hv_text.specs.declared.span.Span.{Span}

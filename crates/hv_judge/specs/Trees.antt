@@ -1,11 +1,11 @@
 -- The tree of a plan without decomposition lines, and the causes for which there is none.
-use Rattle.std.specs.Prelude.{◌≡◌, ◌==◌, ◌&&◌, ◌++◌, ℕ, Bool, true, false, not, nat_eq, List, [], ◌∷◌, map, length, slice_get, position, Option, None, Some, if◌then◌else◌}
+use Rattle.std.specs.Prelude.{◌≡◌, ◌==◌, ◌++◌, ℕ, Bool, not, nat_eq, List, [], ◌∷◌, map, length, slice_get, position, Option, None, Some, if◌then◌else◌}
 use Rattle.std.specs.List.{list_any, list_all, find, filter_map}
 use Rattle.std.specs.Option.{option_map}
 use Rattle.indexmap.specs.IndexSet.{IndexSet}
 use Rattle.hv_text.specs.Names.{text_of}
 use Rattle.hv_text.specs.declared.name.Name.{Name}
-use Rattle.hv_judge.specs.PlanForms.{Action, Root}
+use Rattle.hv_judge.specs.PlanForms.{Action}
 use Rattle.hv_judge.specs.Plans.{Plan}
 use Rattle.hv_judge.specs.Counting.{multiplicity, stands_in}
 use Rattle.hv_judge.specs.declared.answer.Cause.{Cause}

@@ -1,4 +1,3 @@
-use Rattle.std.proofs.Common.{ap}
 use Rattle.hv_judge.specs.DomainViews.{domain_view}
 use Rattle.hv_judge.specs.ProblemViews.{problem_view}
 use Rattle.hv_judge.proofs.JudgementLemmas.{plan_judged, unread_judged}

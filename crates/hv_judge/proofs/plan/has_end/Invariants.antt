@@ -1,4 +1,4 @@
-use Rattle.std.proofs.Common.{◌≡◌, ℕ, length}
+use Rattle.std.proofs.Common.{◌≡◌, length}
 use Rattle.std.specs.List.{list_any}
 use Rattle.hv_judge.specs.PlanLines.{is_end}
 use Rattle.hv_judge.specs.PlanViews.{lines_left, IsWithin}

@@ -1,4 +1,4 @@
-use Rattle.std.proofs.Common.{◌≡◌, false, sym, is_some}
+use Rattle.std.proofs.Common.{◌≡◌, false, is_some}
 use Rattle.std.proofs.lemmas.Result.{err_from_is_err_and}
 use Rattle.hv_judge.specs.PlanLines.{is_end, before_end}
 use Rattle.hv_judge.specs.PlanViews.{line_view, lines_left}

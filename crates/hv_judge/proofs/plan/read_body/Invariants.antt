@@ -1,4 +1,4 @@
-use Rattle.std.proofs.Common.{◌≡◌, ◌++◌, ℕ, length, map, is_some, false}
+use Rattle.std.proofs.Common.{◌≡◌, ◌++◌, length, map, is_some, false}
 use Rattle.hv_judge.specs.PlanLines.{before_end}
 use Rattle.hv_judge.specs.PlanViews.{lines_left, IsWithin}
 use Rattle.hv_judge.specs.Plans.{action_view, actions_of, roots_of, fault_from}

@@ -1,8 +1,6 @@
-use Rattle.std.proofs.Common.{rules, ◌≡◌, ◌+◌, ◌∷◌, suc, true, false, map, drop, get_or, sym, ◌∙◌, ap, arith, add-one, Some}
-use Rattle.std.specs.List.{slice_get}
-use Rattle.hv_judge.specs.Views.{formula_view, literal_view}
+use Rattle.std.proofs.Common.{rules, ◌≡◌, ◌+◌, ◌∷◌, suc, map, drop, get_or, sym, ◌∙◌, ap, arith}
 use Rattle.hv_judge.specs.DomainViews.{action_view}
-use Rattle.hv_judge.specs.States.{is_true, initial_state, state_after}
+use Rattle.hv_judge.specs.States.{state_after}
 use Rattle.hv_judge.specs.Atoms.{atoms_of}
 use Rattle.hv_judge.specs.Traces.{performed, first_stop}
 use Rattle.hv_judge.proofs.TraceLemmas.{moved-none, action_at, performed_at, stops_here, goes_on, ends_there}

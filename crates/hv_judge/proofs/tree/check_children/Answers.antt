@@ -1,4 +1,4 @@
-use Rattle.std.proofs.Common.{◌≡◌, ◌==◌, length, true, false, None, refl, arith, rules, vec_len, map, sym, ◌∙◌}
+use Rattle.std.proofs.Common.{◌≡◌, ◌==◌, length, true, false, None, refl, arith, map, ◌∙◌}
 use Rattle.std.specs.List.{list_all}
 use Rattle.std.proofs.lemmas.List.{length-map}
 use Rattle.hv_text.specs.Names.{text_of}

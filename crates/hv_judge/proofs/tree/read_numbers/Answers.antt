@@ -1,5 +1,4 @@
-use Rattle.std.proofs.Common.{◌≡◌, refl, sym, arith, true, false, not, Some, ◌∙◌, ap, slice_get, map, get_or}
-use Rattle.std.specs.List.{find}
+use Rattle.std.proofs.Common.{◌≡◌, refl, sym, arith, true, false, not, Some, ◌∙◌, slice_get}
 use Rattle.hv_text.specs.Names.{text_of}
 use Rattle.hv_judge.specs.Plans.{action_view}
 use Rattle.hv_judge.specs.Counting.{stands_in}

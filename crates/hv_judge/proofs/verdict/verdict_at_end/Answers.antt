@@ -1,4 +1,4 @@
-use Rattle.std.proofs.Common.{◌≡◌, ◌≤◌, ℕ, List, true, false, map, ap, subst, sym, ◌∙◌, nat_lt}
+use Rattle.std.proofs.Common.{◌≡◌, false, map, ap, subst, sym, ◌∙◌, nat_lt}
 use Rattle.std.specs.Cmp.Lexicographic.{pointwise}
 use Rattle.std.specs.Str.{bytes_eq}
 use Rattle.hv_text.specs.Names.{text_of}
@@ -7,9 +7,8 @@ use Rattle.hv_judge.specs.ProblemViews.{problem_view}
 use Rattle.hv_judge.specs.Counting.{count}
 use Rattle.hv_judge.specs.Plans.{plan_view}
 use Rattle.hv_judge.specs.Solutions.{IsMatching, IsOrderedBy}
-use Rattle.hv_judge.specs.Statics.{action_names}
 use Rattle.hv_judge.specs.Trees.{ids_of}
-use Rattle.hv_judge.specs.Verdicts.{is_goal_true, last_state, subtasks_of, count_of, IsRun, by_goal, by_order}
+use Rattle.hv_judge.specs.Verdicts.{is_goal_true, subtasks_of, count_of, IsRun, by_goal, by_order}
 use Rattle.hv_judge.proofs.VerdictLemmas.{subtasks_declared, lines_named, lines_numbered, not_less, in_order, out_of_order}
 use Rattle.hv_judge.proofs.SolutionLemmas.{in_order_solves, solves_in_order}
 use Rattle.hv_judge.proofs.verdict.verdict_at_end.Goals as goal

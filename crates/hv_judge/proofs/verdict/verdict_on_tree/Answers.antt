@@ -1,13 +1,13 @@
-use Rattle.std.proofs.Common.{◌≡◌, IfOk, ℕ, List, length, map, ap, sym, subst, ◌∙◌}
+use Rattle.std.proofs.Common.{◌≡◌, IfOk, length, map, ap, sym, subst, ◌∙◌}
 use Rattle.std.proofs.lemmas.List.{length-map}
 use Rattle.hv_judge.specs.Views.{literal_view}
 use Rattle.hv_judge.specs.DomainViews.{action_view, domain_view}
 use Rattle.hv_judge.specs.ProblemViews.{problem_view}
 use Rattle.hv_judge.specs.Plans.{plan_view}
 use Rattle.hv_judge.specs.Plans as plans
-use Rattle.hv_judge.specs.States.{State, initial_state, state_after}
-use Rattle.hv_judge.specs.Traces.{performed, first_stop, IsStop}
-use Rattle.hv_judge.specs.Verdicts.{actions_of, first_state, IsStopped, IsStopWithin}
+use Rattle.hv_judge.specs.States.{state_after}
+use Rattle.hv_judge.specs.Traces.{first_stop, IsStop}
+use Rattle.hv_judge.specs.Verdicts.{actions_of, first_state, IsStopped}
 use Rattle.hv_judge.proofs.VerdictLemmas.{run_as, runs_lines, as_many_actions, known_within, all_applicable, stop_within, stopped_verdict}
 use Rattle.hv_judge.proofs.verdict.verdict_on_tree.Goals as goal
 

@@ -1,5 +1,5 @@
-use Rattle.std.proofs.Common.{rules, ℕ, List, [], ◌∷◌, ◌++◌, codes, decimal}
-use Rattle.hv_judge.specs.Kinds.{which_name, fault_number, fault_name, cause_number, cause_name}
+use Rattle.std.proofs.Common.{rules, [], ◌∷◌, codes, decimal}
+use Rattle.hv_judge.specs.Kinds.{cause_number, cause_name}
 use Rattle.hv_judge.specs.Text.{joined, line_text}
 use Rattle.hv_judge.proofs.WriteLemmas.{first_fails, on_err, then_err}
 use Rattle.hv_judge.proofs.write.write_cause.Goals as goal

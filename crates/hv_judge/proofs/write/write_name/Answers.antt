@@ -1,6 +1,6 @@
-use Rattle.std.proofs.Common.{rules, ℕ, List, [], ◌∷◌, ◌++◌, codes, decimal}
+use Rattle.std.proofs.Common.{rules, codes}
 use Rattle.hv_text.specs.Names.{text_of}
-use Rattle.hv_judge.proofs.WriteLemmas.{first_fails, on_err, then_err}
+use Rattle.hv_judge.proofs.WriteLemmas.{then_err}
 use Rattle.hv_judge.proofs.write.write_name.Goals as goal
 
 pub returns-clause-err : goal.returns-clause-err

@@ -1,4 +1,4 @@
-use Rattle.std.proofs.Common.{refl, ap, ◌∙◌, sym}
+use Rattle.std.proofs.Common.{refl, ap}
 use Rattle.hv_text.specs.Words.{piece_of}
 use Rattle.hv_judge.proofs.PlanLemmas.{inside_right, inside_other}
 use Rattle.hv_judge.proofs.plan.form.inside.Goals as goal

@@ -1,5 +1,4 @@
 use Rattle.hv_judge.proofs.PlanLemmas.{id_there, id_large, id_none}
-use Rattle.std.proofs.Common.{sym, ◌∙◌}
 use Rattle.hv_judge.proofs.plan.id.read_id.Goals as goal
 
 pub returns-then-not-is_digits : goal.returns-then-not-is_digits

@@ -1,6 +1,5 @@
-use Rattle.std.proofs.Common.{refl, ◌≡◌, ◌≤◌, length, sym, ◌∙◌, arith, drop}
+use Rattle.std.proofs.Common.{refl, ◌≤◌, length, arith}
 use Rattle.std.proofs.lemmas.List.{drop_all}
-use Rattle.hv_judge.specs.PlanForms.{value_from}
 use Rattle.hv_judge.proofs.PlanLemmas.{too_large}
 use Rattle.hv_judge.proofs.plan.id.value_of.Goals as goal
 

@@ -1,5 +1,5 @@
 use mathlib.Core.Path.{fun_ext}
-use Rattle.std.proofs.Common.{rules, ◌≡◌, ◌∙◌, ap, not, ◌&&◌, ◌||◌, map, List, ℕ}
+use Rattle.std.proofs.Common.{◌∙◌, ap, ◌||◌, map, List, ℕ}
 use Rattle.std.specs.List.{list_any}
 use Rattle.hv_judge.specs.Views.{literal_view}
 use Rattle.hv_judge.specs.States.{adds}

@@ -1,4 +1,4 @@
-use Rattle.std.proofs.Common.{◌≡◌, ◌==◌, length, false, sym}
+use Rattle.std.proofs.Common.{◌≡◌, ◌==◌, length, false}
 use Rattle.hv_judge.proofs.PlanLemmas.{next_line}
 use Rattle.hv_judge.proofs.plan.lines.Lines.next.Goals as goal
 

@@ -1,0 +1,57 @@
+#!/usr/bin/env python3
+"""Refuses each request for memory of a run in turn, over every example, and looks at how the program ends.
+
+A run whose request was refused must end as it does without, or with status 5 and its line on standard error.
+Wants gcc and the built program: sweep/run.py [PROGRAM]."""
+
+import collections
+import os
+import subprocess
+import sys
+import tempfile
+
+TOP = os.path.dirname(os.path.dirname(os.path.abspath(__file__)))
+PROGRAM = os.path.abspath(sys.argv[1] if len(sys.argv) > 1 else f"{TOP}/crates/hddlv/out/hddlv")
+OUT_OF_MEMORY = (5, "", "hddlv: out of memory\n")
+
+
+def build_library(folder):
+    library = f"{folder}/refuse.so"
+    subprocess.run(["gcc", "-O2", "-shared", "-fPIC", "-o", library, f"{TOP}/sweep/refuse.c"], check=True)
+    return library
+
+
+def end_of(words, library, count, number):
+    environment = {"PATH": os.environ["PATH"], "LD_PRELOAD": library, "COUNT": count, "REFUSE": str(number)}
+    run = subprocess.run([PROGRAM, *words], env=environment, capture_output=True, text=True)
+    return run.returncode, run.stdout, run.stderr
+
+
+def sweep(words, library, count):
+    """How the runs of one command ended, and those that ended otherwise than they may."""
+    right = end_of(words, library, count, 0)
+    ends, wrong = collections.Counter(), []
+    for number in range(1, int(open(count).read()) + 1):
+        end = end_of(words, library, count, number)
+        ends["as without" if end == right else "out of memory" if end == OUT_OF_MEMORY else "WRONG"] += 1
+        if end not in (right, OUT_OF_MEMORY):
+            wrong.append((number, end))
+    return ends, wrong
+
+
+def main():
+    failed = False
+    with tempfile.TemporaryDirectory() as folder:
+        library, count = build_library(folder), f"{folder}/count"
+        for example in sorted(entry.name for entry in os.scandir(f"{TOP}/examples") if entry.is_dir()):
+            texts = [f"{TOP}/examples/{example}/{name}" for name in ("domain.hddl", "problem.hddl", "plan.txt")]
+            ends, wrong = sweep(["judge", "--explain", *texts], library, count)
+            print(example, *(f"{n} {end}" for end, n in sorted(ends.items())), sep=", ")
+            for number, end in wrong:
+                print(f"  request {number}: {end}")
+            failed = failed or bool(wrong)
+    sys.exit(failed)
+
+
+if __name__ == "__main__":
+    main()
