@@ -1,0 +1,5 @@
+pub mod Lists
+pub mod Exits
+pub mod FieldLemmas
+pub mod TypedLemmas
+pub mod FormulaLemmas

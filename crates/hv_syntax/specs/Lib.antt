@@ -1,0 +1,12 @@
+pub mod Values
+pub mod Reading
+pub mod Words
+pub mod Terms
+pub mod TypedLists
+pub mod Lists
+pub mod Formulas
+pub mod Literals
+pub mod Fields
+pub mod Networks
+pub mod Views
+pub mod NetworkViews
