@@ -3,3 +3,5 @@ pub mod Exits
 pub mod FieldLemmas
 pub mod TypedLemmas
 pub mod FormulaLemmas
+pub mod TextLemmas
+pub mod SectionLemmas

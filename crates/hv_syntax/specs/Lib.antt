@@ -8,5 +8,15 @@ pub mod Formulas
 pub mod Literals
 pub mod Fields
 pub mod Networks
+pub mod Declarations
+pub mod Unsupported
+pub mod Sections
+pub mod Domains
+pub mod Problems
+pub mod Faults
+pub mod Texts
 pub mod Views
 pub mod NetworkViews
+pub mod DeclarationViews
+pub mod DomainViews
+pub mod ProblemViews

@@ -110,3 +110,73 @@ pub record Network : Type 0 where
 
 abbrev pub network : List Subtask → Bool → List Pair → List Constraint → Network
 network xs b ps cs = record { subtasks = xs; is_ordered = b; pairs = ps; constraints = cs }
+
+-- a predicate, and its parameters
+pub record Predicate : Type 0 where
+  pub name : WordAt
+  pub parameters : List Typed
+
+abbrev pub predicate : WordAt → List Typed → Predicate
+predicate w ps = record { name = w; parameters = ps }
+
+-- a task that methods decompose, with the place of its section
+pub record Task : Type 0 where
+  pub name : WordAt
+  pub parameters : List Typed
+  pub place : Span
+
+abbrev pub task : Span → WordAt → List Typed → Task
+task s w ps = record { name = w; parameters = ps; place = s }
+
+-- a method: the task that it is for, when it may be used, and its network; with the place of its section
+pub record Method : Type 0 where
+  pub name : WordAt
+  pub parameters : List Typed
+  pub task : Atom
+  pub precondition : Formula
+  pub network : Network
+  pub place : Span
+
+abbrev pub method : Span → WordAt → (List Typed × Atom) × Network → Formula → Method
+method s w ((ps, t), n) f = record { name = w; parameters = ps; task = t; precondition = f; network = n; place = s }
+
+-- an action: when it may be done, and what it brings about; with the place of its section
+pub record Action : Type 0 where
+  pub name : WordAt
+  pub parameters : List Typed
+  pub precondition : Formula
+  pub effect : Effect
+  pub place : Span
+
+abbrev pub action : Span → WordAt → List Typed × Effect → Formula → Action
+action s w (ps, e) f = record { name = w; parameters = ps; precondition = f; effect = e; place = s }
+
+-- a domain: what each kind of section says, tasks, methods and actions each in the order of the text
+pub record Domain : Type 0 where
+  pub name : WordAt
+  pub requirements : List WordAt
+  pub types : List Typed
+  pub constants : List Typed
+  pub predicates : List Predicate
+  pub tasks : List Task
+  pub methods : List Method
+  pub actions : List Action
+
+-- the initial network of a problem, with the place of its section
+pub record Htn : Type 0 where
+  pub parameters : List Typed
+  pub network : Network
+  pub place : Span
+
+abbrev pub htn : Span → List Typed → Network → Htn
+htn s ps n = record { parameters = ps; network = n; place = s }
+
+-- a problem: what each kind of section says; a goal may be absent
+pub record Problem : Type 0 where
+  pub name : WordAt
+  pub domain : WordAt
+  pub requirements : List WordAt
+  pub objects : List Typed
+  pub htn : Htn
+  pub init : List Literal
+  pub goal : Option Formula

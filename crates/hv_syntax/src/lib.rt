@@ -1,19 +1,37 @@
 //! The language of domains and problems: what a text says, with the place of every word.
 #![tactic(auto)]
 
+mod action;
+mod domain;
+mod fault;
 mod field;
 mod formula;
 mod list;
 mod literal;
+mod method;
 mod network;
+mod predicate;
+mod problem;
+mod read;
 mod refusal;
+mod section;
+mod task;
 mod term;
 mod typed;
+mod unsupported;
 mod word;
 
+pub use action::ActionText;
+pub use domain::DomainText;
+pub use fault::{SyntaxFault, SyntaxKind};
 pub use formula::FormulaText;
 pub use literal::{EffectText, LiteralText};
+pub use method::MethodText;
 pub use network::{ConstraintText, NetworkText, PairText, SubtaskText};
+pub use predicate::PredicateText;
+pub use problem::{HtnText, ProblemText};
+pub use read::{read_domain, read_problem};
+pub use task::TaskText;
 pub use term::{AtomText, TermText};
 pub use typed::{TypeText, TypedText};
 pub use word::Placed;
