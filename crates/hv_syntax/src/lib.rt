@@ -17,6 +17,8 @@ mod refusal;
 mod section;
 mod task;
 mod term;
+#[cfg(test)]
+mod tests;
 mod typed;
 mod unsupported;
 mod word;
