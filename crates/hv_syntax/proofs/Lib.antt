@@ -5,3 +5,7 @@ pub mod TypedLemmas
 pub mod FormulaLemmas
 pub mod TextLemmas
 pub mod SectionLemmas
+pub mod SpellingLemmas
+pub mod PartSpellings
+pub mod TableLemmas
+pub mod TextSpellings

@@ -15,6 +15,8 @@ pub mod Domains
 pub mod Problems
 pub mod Faults
 pub mod Texts
+pub mod Spellings
+pub mod Tables
 pub mod Views
 pub mod NetworkViews
 pub mod DeclarationViews

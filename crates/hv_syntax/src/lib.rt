@@ -6,6 +6,7 @@ mod domain;
 mod fault;
 mod field;
 mod formula;
+mod laws;
 mod list;
 mod literal;
 mod method;
@@ -27,6 +28,10 @@ pub use action::ActionText;
 pub use domain::DomainText;
 pub use fault::{SyntaxFault, SyntaxKind};
 pub use formula::FormulaText;
+pub use laws::{
+    a_text_says_one_thing, atoms_are_spelled, effects_are_spelled, formulas_are_spelled,
+    networks_are_spelled, texts_are_spelled, typed_lists_are_spelled,
+};
 pub use literal::{EffectText, LiteralText};
 pub use method::MethodText;
 pub use network::{ConstraintText, NetworkText, PairText, SubtaskText};
