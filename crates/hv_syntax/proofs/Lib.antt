@@ -1,0 +1,11 @@
+pub mod Lists
+pub mod Exits
+pub mod FieldLemmas
+pub mod TypedLemmas
+pub mod FormulaLemmas
+pub mod TextLemmas
+pub mod SectionLemmas
+pub mod SpellingLemmas
+pub mod PartSpellings
+pub mod TableLemmas
+pub mod TextSpellings

@@ -1,0 +1,52 @@
+-- What the values of the code say.
+use Rattle.std.specs.Prelude.{map}
+use Rattle.hv_text.specs.Names.{text_of}
+use Rattle.hv_syntax.specs.declared.word.Placed.{Placed}
+use Rattle.hv_syntax.specs.declared.term.TermText.{TermText}
+use Rattle.hv_syntax.specs.declared.term.TermText.TheVariants as terms
+use Rattle.hv_syntax.specs.declared.term.AtomText.{AtomText}
+use Rattle.hv_syntax.specs.declared.typed.TypeText.{TypeText}
+use Rattle.hv_syntax.specs.declared.typed.TypeText.TheVariants as types
+use Rattle.hv_syntax.specs.declared.typed.TypedText.{TypedText}
+use Rattle.hv_syntax.specs.declared.formula.FormulaText.{FormulaText, fold-FormulaText}
+use Rattle.hv_syntax.specs.declared.formula.FormulaText.TheOpen.{FormulaText-F}
+use Rattle.hv_syntax.specs.declared.literal.LiteralText.{LiteralText}
+use Rattle.hv_syntax.specs.declared.literal.EffectText.{EffectText}
+use Rattle.hv_syntax.specs.Values.{WordAt, word_at, Term, constant, variable, Atom, atom_with, TypeOf, no_type, of_type, Typed, typed, Formula, holds, and, or, not, imply, forall, exists, equal, formulas_of, Literal, literal, Effect, effect}
+
+abbrev pub word_view : Placed → WordAt
+word_view p = word_at (text_of p.name) p.span
+
+abbrev pub term_view : TermText → Term
+term_view (terms.Constant p) = constant (word_view p)
+term_view (terms.Variable p) = variable (word_view p)
+
+abbrev pub atom_view : AtomText → Atom
+atom_view a = atom_with (word_view a.symbol) (map term_view a.terms.items)
+
+abbrev pub type_view : TypeText → TypeOf
+type_view types.Object = no_type
+type_view (types.Named p) = of_type (word_view p)
+
+abbrev pub typed_view : TypedText → Typed
+typed_view t = typed (type_view t.of) (word_view t.name)
+
+-- one level, with each formula inside already seen
+abbrev pub formula_step : FormulaText-F Formula → Formula
+formula_step (FormulaText-F.Holds a) = holds (atom_view a)
+formula_step (FormulaText-F.And v) = and (formulas_of v.items)
+formula_step (FormulaText-F.Or v) = or (formulas_of v.items)
+formula_step (FormulaText-F.Not f) = not f.value
+formula_step (FormulaText-F.Imply f g) = imply f.value g.value
+formula_step (FormulaText-F.Forall vs f) = forall (map typed_view vs.items) f.value
+formula_step (FormulaText-F.Exists vs f) = exists (map typed_view vs.items) f.value
+formula_step (FormulaText-F.Equal s t) = equal (term_view s) (term_view t)
+
+abbrev pub formula_view : FormulaText → Formula
+formula_view = fold-FormulaText Formula formula_step
+
+abbrev pub literal_view : LiteralText → Literal
+literal_view l = literal l.is_positive (atom_view l.atom)
+
+abbrev pub effect_view : EffectText → Effect
+effect_view e = effect (map literal_view e.literals.items)

@@ -1,0 +1,250 @@
+//! Domains.
+
+ghost use Rattle.std.specs.Prelude.{◌≡◌, [], map, option_map, OnOk, IfErr};
+ghost use Rattle.hv_text.specs.Names.{text_of};
+ghost use Rattle.hv_text.specs.Trees.{tree, trees};
+ghost use Rattle.hv_syntax.specs.Reading.{Gives};
+ghost use Rattle.hv_syntax.specs.Faults.{Answers, IsMemory};
+ghost use Rattle.hv_syntax.specs.Domains.{domain_standing, domain_section_by, domain_section, add_section, no_domain, domain_from, domain_of};
+ghost use Rattle.hv_syntax.specs.Views.{word_view, typed_view};
+ghost use Rattle.hv_syntax.specs.DeclarationViews.{predicate_view, task_view, method_view, action_view};
+ghost use Rattle.hv_syntax.specs.DomainViews.{domain_section_view, domain_view};
+
+use crate::action::{ActionText, read_action};
+use crate::fault::{SyntaxFault, SyntaxKind};
+use crate::method::{MethodText, read_method};
+use crate::predicate::{PredicateText, read_predicates};
+use crate::refusal::Refusal;
+use crate::section::{
+    Standing, definition_in, headed, is_unsupported, read_keywords, refused, unread,
+};
+use crate::task::{TaskText, read_task};
+use crate::typed::{TypedText, read_typed_list};
+use crate::word::{Placed, Sort, span_of};
+use hv_text::{Name, Sexp, Span};
+use std::alloc::Global;
+
+/// A domain, as its text says it.
+#[derive(Drop)]
+pub struct DomainText<'s> {
+    name: Placed<'s>,
+    requirements: Vec<Placed<'s>>,
+    types: Vec<TypedText<'s>>,
+    constants: Vec<TypedText<'s>>,
+    predicates: Vec<PredicateText<'s>>,
+    tasks: Vec<TaskText<'s>>,
+    methods: Vec<MethodText<'s>>,
+    actions: Vec<ActionText<'s>>,
+}
+
+impl<'s> DomainText<'s> {
+    /// Its name.
+    pub fn name(&self) -> Placed<'s>
+        ensures { word_view result ≡ (domain_view self.now).name }
+    {
+        self.name
+    }
+
+    /// The keywords of `:requirements`, as written.
+    pub fn requirements(&self) -> &[Placed<'s>]
+        ensures { map word_view result.now ≡ (domain_view self.now).requirements }
+    {
+        &self.requirements
+    }
+
+    /// The types, each with its parent, as written.
+    pub fn types(&self) -> &[TypedText<'s>]
+        ensures { map typed_view result.now ≡ (domain_view self.now).types }
+    {
+        &self.types
+    }
+
+    /// The constants, each with its type, as written.
+    pub fn constants(&self) -> &[TypedText<'s>]
+        ensures { map typed_view result.now ≡ (domain_view self.now).constants }
+    {
+        &self.constants
+    }
+
+    /// The predicates, as written.
+    pub fn predicates(&self) -> &[PredicateText<'s>]
+        ensures { map predicate_view result.now ≡ (domain_view self.now).predicates }
+    {
+        &self.predicates
+    }
+
+    /// The tasks, in the order of the text.
+    pub fn tasks(&self) -> &[TaskText<'s>]
+        ensures { map task_view result.now ≡ (domain_view self.now).tasks }
+    {
+        &self.tasks
+    }
+
+    /// The methods, in the order of the text.
+    pub fn methods(&self) -> &[MethodText<'s>]
+        ensures { map method_view result.now ≡ (domain_view self.now).methods }
+    {
+        &self.methods
+    }
+
+    /// The actions, in the order of the text.
+    pub fn actions(&self) -> &[ActionText<'s>]
+        ensures { map action_view result.now ≡ (domain_view self.now).actions }
+    {
+        &self.actions
+    }
+}
+
+/// What a section of a domain says.
+#[derive(Drop)]
+pub enum DomainSection<'s> {
+    Requirements(Vec<Placed<'s>>),
+    Types(Vec<TypedText<'s>>),
+    Constants(Vec<TypedText<'s>>),
+    Predicates(Vec<PredicateText<'s>>),
+    Task(TaskText<'s>),
+    Method(MethodText<'s>),
+    Action(ActionText<'s>),
+}
+
+fn standing_of(name: Name<'_>) -> Standing
+    ensures { result ≡ domain_standing (text_of name.entry) }
+{
+    if name.is(b":requirements")
+        || name.is(b":types")
+        || name.is(b":constants")
+        || name.is(b":predicates")
+    {
+        return Standing::Once;
+    }
+    if name.is(b":task") || name.is(b":method") || name.is(b":action") {
+        return Standing::Often;
+    }
+    if is_unsupported(name) {
+        return Standing::Unsupported;
+    }
+    Standing::Unknown
+}
+
+// The section that a head and the members behind it spell, at this place.
+fn read_members<'s>(
+    alloc: Global,
+    name: Name<'s>,
+    span: Span,
+    es: &[Sexp<'s>],
+) -> Result<DomainSection<'s>, Refusal>
+    ensures { Gives domain_section_view result (domain_section_by (text_of name.entry) span (trees es.now)) }
+{
+    if name.is(b":requirements") {
+        return Ok(DomainSection::Requirements(read_keywords(alloc, es)?));
+    }
+    if name.is(b":types") {
+        return Ok(DomainSection::Types(read_typed_list(alloc, Sort::Name, es)?));
+    }
+    if name.is(b":constants") {
+        return Ok(DomainSection::Constants(read_typed_list(alloc, Sort::Name, es)?));
+    }
+    if name.is(b":predicates") {
+        return Ok(DomainSection::Predicates(read_predicates(alloc, es)?));
+    }
+    if name.is(b":task") {
+        return Ok(DomainSection::Task(read_task(alloc, span, es)?));
+    }
+    if name.is(b":method") {
+        return Ok(DomainSection::Method(read_method(alloc, span, es)?));
+    }
+    if name.is(b":action") {
+        return Ok(DomainSection::Action(read_action(alloc, span, es)?));
+    }
+    Err(Refusal::NoSpelling)
+}
+
+// The section that an expression is, behind these.
+fn read_section<'s>(
+    alloc: Global,
+    before: &[Sexp<'s>],
+    e: &Sexp<'s>,
+) -> Result<DomainSection<'s>, SyntaxFault>
+    ensures { Answers domain_section_view result (domain_section (map tree before.now) (tree e.now)) }
+{
+    let span = span_of(e);
+    let Some((name, members)) = headed(e) else {
+        return Err(SyntaxFault {
+            kind: SyntaxKind::UnknownSection,
+            span,
+        });
+    };
+    match refused(standing_of(name), name, before) {
+        Some(kind) => Err(SyntaxFault { kind, span }),
+        None => match read_members(alloc, name, span, members) {
+            Ok(section) => Ok(section),
+            Err(refusal) => Err(unread(refusal, name, members, span)),
+        },
+    }
+}
+
+fn add<'s>(domain: &mut DomainText<'s>, section: DomainSection<'s>) -> Result<(), SyntaxFault>
+    ensures ok { OnOk result (domain_view domain.new ≡ add_section (domain_view domain.old) (domain_section_view section.entry)) }
+    ensures err { IfErr result (λ f. IsMemory f) }
+{
+    match section {
+        DomainSection::Requirements(requirements) => domain.requirements = requirements,
+        DomainSection::Types(types) => domain.types = types,
+        DomainSection::Constants(constants) => domain.constants = constants,
+        DomainSection::Predicates(predicates) => domain.predicates = predicates,
+        DomainSection::Task(task) => domain.tasks.push(task)?,
+        DomainSection::Method(method) => domain.methods.push(method)?,
+        DomainSection::Action(action) => domain.actions.push(action)?,
+    }
+    Ok(())
+}
+
+fn no_domain<'s>(alloc: Global, name: Placed<'s>) -> DomainText<'s>
+    ensures { domain_view result ≡ no_domain (word_view name.entry) }
+{
+    DomainText {
+        name,
+        requirements: Vec::new(alloc),
+        types: Vec::new(alloc),
+        constants: Vec::new(alloc),
+        predicates: Vec::new(alloc),
+        tasks: Vec::new(alloc),
+        methods: Vec::new(alloc),
+        actions: Vec::new(alloc),
+    }
+}
+
+fn read_sections<'s>(
+    alloc: Global,
+    name: Placed<'s>,
+    es: &[Sexp<'s>],
+) -> Result<DomainText<'s>, SyntaxFault>
+    ensures { Answers domain_view result (domain_from (no_domain (word_view name.entry)) [] (trees es.now)) }
+{
+    let mut domain = no_domain(alloc, name);
+    for i in 0..es.len() {
+        let section = read_section(alloc, &es[..i], &es[i])?;
+        add(&mut domain, section)?;
+    }
+    Ok(domain)
+}
+
+/// Reads the domain that the expressions of a text spell.
+///
+/// # Errors
+///
+/// The first fault: of what stands around the sections, or of the first faulty section.
+pub(crate) fn read_domain_of<'s>(
+    alloc: Global,
+    es: &[Sexp<'s>],
+) -> Result<DomainText<'s>, SyntaxFault>
+    ensures { Answers domain_view result (domain_of (trees es.now)) }
+{
+    let Some(text) = definition_in(es, b"domain") else {
+        return Err(SyntaxFault {
+            kind: SyntaxKind::NotDefine,
+            span: Span { start: 0, past: 0 },
+        });
+    };
+    read_sections(alloc, text.name, text.sections)
+}

@@ -1,0 +1,66 @@
+//! What holds of the grammar. These functions do nothing: their contracts are the laws.
+
+ghost use Rattle.std.specs.Prelude.{◌≡◌, ◌↔◌, ℕ, List, Some, Ok};
+ghost use Rattle.hv_text.specs.Trees.{Tree, Trees};
+ghost use Rattle.hv_syntax.specs.declared.word.Sort.{Sort};
+ghost use Rattle.hv_syntax.specs.Values.{Term, Atom, Typed, Formula, Literal, Effect, Subtask, Pair, Constraint, Domain, Problem};
+ghost use Rattle.hv_syntax.specs.Terms.{term_of, atom_of};
+ghost use Rattle.hv_syntax.specs.TypedLists.{typed_list_of};
+ghost use Rattle.hv_syntax.specs.Formulas.{formula_of};
+ghost use Rattle.hv_syntax.specs.Lists.{listed};
+ghost use Rattle.hv_syntax.specs.Literals.{literal_of, effect_of};
+ghost use Rattle.hv_syntax.specs.Networks.{subtask_of, pair_of, constraint_of};
+ghost use Rattle.hv_syntax.specs.Domains.{domain_of};
+ghost use Rattle.hv_syntax.specs.Problems.{problem_of};
+ghost use Rattle.hv_syntax.specs.Tables.{IsDomain, IsProblem};
+ghost use Rattle.hv_syntax.specs.Texts.{IsDomainText, IsProblemText};
+ghost use Rattle.hv_syntax.specs.Spellings.{SpellsTerm, SpellsAtom, SpellsTyped, SpellsFormula, SpellsLiteral, SpellsEffect, SpellsList, SpellsSubtask, SpellsPair, SpellsConstraint};
+
+use hv_text::a_text_has_one_reading;
+
+/// Terms, and atoms and tasks over them, are read exactly where the table of the grammar spells them.
+pub fn atoms_are_spelled()
+    ensures terms { (t : Tree) (x : Term) → SpellsTerm t x ↔ (term_of t ≡ Some x) }
+    ensures atoms { (t : Tree) (a : Atom) → SpellsAtom t a ↔ (atom_of t ≡ Some a) }
+{}
+
+/// So are typed lists: the type behind a group is that of all its names.
+pub fn typed_lists_are_spelled()
+    ensures { (sort : Sort) (ts : Trees) (xs : List Typed) → SpellsTyped sort ts xs ↔ (typed_list_of sort ts ≡ Some xs) }
+{}
+
+/// So are formulas.
+pub fn formulas_are_spelled()
+    ensures { (t : Tree) (f : Formula) → SpellsFormula t f ↔ (formula_of t ≡ Some f) }
+{}
+
+/// So are literals and effects.
+pub fn effects_are_spelled()
+    ensures literals { (t : Tree) (l : Literal) → SpellsLiteral t l ↔ (literal_of t ≡ Some l) }
+    ensures effects { (t : Tree) (e : Effect) → SpellsEffect t e ↔ (effect_of t ≡ Some e) }
+{}
+
+/// So are the subtasks, the ordering and the constraints of a network.
+pub fn networks_are_spelled()
+    ensures subtasks { (t : Tree) (xs : List Subtask) → SpellsList SpellsSubtask t xs ↔ (listed subtask_of t ≡ Some xs) }
+    ensures ordering { (t : Tree) (ps : List Pair) → SpellsList SpellsPair t ps ↔ (listed pair_of t ≡ Some ps) }
+    ensures constraints { (t : Tree) (cs : List Constraint) → SpellsList SpellsConstraint t cs ↔ (listed constraint_of t ≡ Some cs) }
+{}
+
+/// So are whole domains and problems: each section as the table has it, those that may stand once no
+/// more than once, and those that must stand among them.
+pub fn texts_are_spelled()
+    ensures domains { (es : Trees) (d : Domain) → IsDomain es d ↔ (domain_of es ≡ Ok d) }
+    ensures problems { (es : Trees) (p : Problem) → IsProblem es p ↔ (problem_of es ≡ Ok p) }
+{}
+
+/// A text says at most one domain and at most one problem, and the expressions of a text at most one
+/// of each.
+pub fn a_text_says_one_thing()
+    ensures domain { (es : Trees) (d e : Domain) → IsDomain es d → IsDomain es e → d ≡ e }
+    ensures problem { (es : Trees) (p q : Problem) → IsProblem es p → IsProblem es q → p ≡ q }
+    ensures domain_text { (text : List ℕ) (d e : Domain) → IsDomainText text d → IsDomainText text e → d ≡ e }
+    ensures problem_text { (text : List ℕ) (p q : Problem) → IsProblemText text p → IsProblemText text q → p ≡ q }
+{
+    a_text_has_one_reading();
+}

@@ -1,0 +1,44 @@
+//! The language of domains and problems: what a text says, with the place of every word.
+#![tactic(auto)]
+
+mod action;
+mod domain;
+mod fault;
+mod field;
+mod formula;
+mod laws;
+mod list;
+mod literal;
+mod method;
+mod network;
+mod predicate;
+mod problem;
+mod read;
+mod refusal;
+mod section;
+mod task;
+mod term;
+#[cfg(test)]
+mod tests;
+mod typed;
+mod unsupported;
+mod word;
+
+pub use action::ActionText;
+pub use domain::DomainText;
+pub use fault::{SyntaxFault, SyntaxKind};
+pub use formula::FormulaText;
+pub use laws::{
+    a_text_says_one_thing, atoms_are_spelled, effects_are_spelled, formulas_are_spelled,
+    networks_are_spelled, texts_are_spelled, typed_lists_are_spelled,
+};
+pub use literal::{EffectText, LiteralText};
+pub use method::MethodText;
+pub use network::{ConstraintText, NetworkText, PairText, SubtaskText};
+pub use predicate::PredicateText;
+pub use problem::{HtnText, ProblemText};
+pub use read::{read_domain, read_problem};
+pub use task::TaskText;
+pub use term::{AtomText, TermText};
+pub use typed::{TypeText, TypedText};
+pub use word::Placed;

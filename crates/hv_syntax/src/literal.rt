@@ -1,0 +1,128 @@
+//! Literals and effects.
+
+ghost use Rattle.std.specs.Prelude.{◌≡◌, map};
+ghost use Rattle.hv_text.specs.Trees.{tree, trees};
+ghost use Rattle.hv_syntax.specs.Reading.{Gives, every};
+ghost use Rattle.hv_syntax.specs.Lists.{listed};
+ghost use Rattle.hv_syntax.specs.Literals.{literal_of, effect_of, is_constant, are_constants, ground_literal_of};
+ghost use Rattle.hv_syntax.specs.Views.{term_view, literal_view, effect_view};
+
+use crate::list::{conjuncts, negated};
+use crate::refusal::Refusal;
+use crate::term::{AtomText, TermText, read_atom};
+use hv_text::Sexp;
+use std::alloc::Global;
+
+/// An atom, or the negation of one.
+#[derive(Drop)]
+pub struct LiteralText<'s> {
+    pub is_positive: bool,
+    pub atom: AtomText<'s>,
+}
+
+/// What an action brings about: all of its literals become true.
+#[derive(Drop)]
+pub struct EffectText<'s> {
+    pub literals: Vec<LiteralText<'s>>,
+}
+
+// An atom, or `(not atom)`.
+fn read_literal<'s>(alloc: Global, e: &Sexp<'s>) -> Result<LiteralText<'s>, Refusal>
+    ensures { Gives literal_view result (literal_of (tree e.now)) }
+{
+    match negated(e) {
+        Some(part) => Ok(LiteralText {
+            is_positive: false,
+            atom: read_atom(alloc, part)?,
+        }),
+        None => Ok(LiteralText {
+            is_positive: true,
+            atom: read_atom(alloc, e)?,
+        }),
+    }
+}
+
+fn read_literals<'s>(alloc: Global, es: &[Sexp<'s>]) -> Result<Vec<LiteralText<'s>>, Refusal>
+    ensures { Gives (λ v. map literal_view v.items) result (every literal_of (trees es.now)) }
+{
+    let mut literals = Vec::new(alloc);
+    for e in es {
+        literals.push(read_literal(alloc, e)?)?;
+    }
+    Ok(literals)
+}
+
+// `()`, a literal, or literals behind `and`.
+fn read_listed_literals<'s>(alloc: Global, e: &Sexp<'s>) -> Result<Vec<LiteralText<'s>>, Refusal>
+    ensures { Gives (λ v. map literal_view v.items) result (listed literal_of (tree e.now)) }
+{
+    match conjuncts(e) {
+        Some(es) => read_literals(alloc, es),
+        None => {
+            let mut one = Vec::new(alloc);
+            one.push(read_literal(alloc, e)?)?;
+            Ok(one)
+        }
+    }
+}
+
+/// Reads an effect: `()`, a literal, or literals behind `and`.
+///
+/// # Errors
+///
+/// `NoSpelling` where the expression is no effect, and `Memory`.
+pub(crate) fn read_effect<'s>(alloc: Global, e: &Sexp<'s>) -> Result<EffectText<'s>, Refusal>
+    ensures { Gives effect_view result (effect_of (tree e.now)) }
+{
+    let literals = read_listed_literals(alloc, e)?;
+    Ok(EffectText { literals })
+}
+
+fn is_constant(term: TermText<'_>) -> bool
+    ensures { result ≡ is_constant (term_view term.entry) }
+{
+    match term {
+        TermText::Constant(_) => true,
+        TermText::Variable(_) => false,
+    }
+}
+
+fn are_constants(terms: &[TermText<'_>]) -> bool
+    ensures { result ≡ are_constants (map term_view terms.now) }
+{
+    for term in terms {
+        if !is_constant(*term) {
+            return false;
+        }
+    }
+    true
+}
+
+// A literal whose terms are names.
+fn read_ground_literal<'s>(alloc: Global, e: &Sexp<'s>) -> Result<LiteralText<'s>, Refusal>
+    ensures { Gives literal_view result (ground_literal_of (tree e.now)) }
+{
+    let literal = read_literal(alloc, e)?;
+    if !are_constants(&literal.atom.terms) {
+        return Err(Refusal::NoSpelling);
+    }
+    Ok(literal)
+}
+
+/// Reads literals whose terms are names, one after another.
+///
+/// # Errors
+///
+/// `NoSpelling` where one of the expressions is none, and `Memory`.
+pub(crate) fn read_ground_literals<'s>(
+    alloc: Global,
+    es: &[Sexp<'s>],
+) -> Result<Vec<LiteralText<'s>>, Refusal>
+    ensures { Gives (λ v. map literal_view v.items) result (every ground_literal_of (trees es.now)) }
+{
+    let mut literals = Vec::new(alloc);
+    for e in es {
+        literals.push(read_ground_literal(alloc, e)?)?;
+    }
+    Ok(literals)
+}

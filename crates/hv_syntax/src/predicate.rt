@@ -1,0 +1,72 @@
+//! Predicates.
+
+ghost use Rattle.std.specs.Prelude.{◌≡◌, map};
+ghost use Rattle.hv_text.specs.Trees.{tree, trees};
+ghost use Rattle.hv_syntax.specs.Reading.{Gives, every};
+ghost use Rattle.hv_syntax.specs.Declarations.{predicate_of};
+ghost use Rattle.hv_syntax.specs.Views.{word_view, typed_view};
+ghost use Rattle.hv_syntax.specs.DeclarationViews.{predicate_view};
+
+use crate::refusal::Refusal;
+use crate::typed::{TypedText, read_typed_list};
+use crate::word::{Placed, Sort, read_symbol};
+use hv_text::Sexp;
+use std::alloc::Global;
+
+/// A predicate, and its parameters.
+#[derive(Drop)]
+pub struct PredicateText<'s> {
+    name: Placed<'s>,
+    parameters: Vec<TypedText<'s>>,
+}
+
+impl<'s> PredicateText<'s> {
+    /// Its name.
+    pub fn name(&self) -> Placed<'s>
+        ensures { word_view result ≡ (predicate_view self.now).name }
+    {
+        self.name
+    }
+
+    /// Its parameters, as written.
+    pub fn parameters(&self) -> &[TypedText<'s>]
+        ensures { map typed_view result.now ≡ (predicate_view self.now).parameters }
+    {
+        &self.parameters
+    }
+}
+
+// A symbol and variables with their types, between parentheses.
+fn read_predicate<'s>(alloc: Global, e: &Sexp<'s>) -> Result<PredicateText<'s>, Refusal>
+    ensures { Gives predicate_view result (predicate_of (tree e.now)) }
+{
+    let Sexp::List(members, _) = e else {
+        return Err(Refusal::NoSpelling);
+    };
+    match members.as_slice() {
+        [] => Err(Refusal::NoSpelling),
+        [symbol, others @ ..] => {
+            let name = read_symbol(symbol)?;
+            let parameters = read_typed_list(alloc, Sort::Variable, others)?;
+            Ok(PredicateText { name, parameters })
+        }
+    }
+}
+
+/// Reads predicates, one after another.
+///
+/// # Errors
+///
+/// `NoSpelling` where one of the expressions is none, and `Memory`.
+pub(crate) fn read_predicates<'s>(
+    alloc: Global,
+    es: &[Sexp<'s>],
+) -> Result<Vec<PredicateText<'s>>, Refusal>
+    ensures { Gives (λ v. map predicate_view v.items) result (every predicate_of (trees es.now)) }
+{
+    let mut predicates = Vec::new(alloc);
+    for e in es {
+        predicates.push(read_predicate(alloc, e)?)?;
+    }
+    Ok(predicates)
+}
