@@ -1,8 +1,9 @@
 -- How the program ends.
 use Rattle.std.specs.Prelude.{ℕ, List, [], ◌++◌, codes}
 use Rattle.hv_judge.specs.declared.running.Kind.TheVariants as kinds
+use Rattle.hv_judge.specs.declared.printing.Printed.TheVariants as printed
 use Rattle.hddlv.specs.declared.end.End.{End}
-use Rattle.hddlv.specs.declared.end.End.TheVariants.{Judged, Words, CannotRead, CannotWrite, OutOfMemory}
+use Rattle.hddlv.specs.declared.end.End.TheVariants.{Judged, Printed, Words, CannotRead, CannotWrite, OutOfMemory}
 
 -- the exit status
 abbrev pub status_of : End → ℕ
@@ -10,6 +11,8 @@ status_of (Judged kinds.Solves) = 0
 status_of (Judged kinds.Fails) = 1
 status_of (Judged kinds.Undecided) = 2
 status_of (Judged kinds.Rejected) = 3
+status_of (Printed printed.Done) = 0
+status_of (Printed printed.Rejected) = 3
 status_of Words = 4
 status_of (CannotRead name) = 5
 status_of CannotWrite = 5
@@ -18,6 +21,7 @@ status_of OutOfMemory = 5
 -- the line on standard error
 abbrev pub line_of : End → List ℕ
 line_of (Judged kind) = []
+line_of (Printed end) = []
 line_of Words = []
 line_of (CannotRead name) = codes "hddlv: cannot read " ++ (name.now ++ codes "\n")
 line_of CannotWrite = codes "hddlv: cannot write\n"

@@ -5,7 +5,7 @@ ghost use Rattle.std.specs.Io.KnownBytes.{Appends};
 ghost use Rattle.hv_judge.specs.Text.{AppendsBeginning};
 ghost use Rattle.hddlv.specs.Ends.{status_of, line_of};
 
-use hv_judge::{Kind, write_parts};
+use hv_judge::{Kind, Printed, write_parts};
 use hv_text::{Sink, WriteFault};
 
 /// How a run of the program ends.
@@ -13,26 +13,28 @@ use hv_text::{Sink, WriteFault};
 pub enum End<'a> {
     /// A verdict of this kind was written.
     Judged(Kind),
+    /// A canonical text was written, or the line of a rejection.
+    Printed(Printed),
     /// The words of the command line do not parse, or ask for help.
     Words,
     /// The file of this name cannot be opened or read.
     CannotRead(&'a str),
-    /// The verdict cannot be written.
+    /// The verdict or the canonical text cannot be written.
     CannotWrite,
     /// A growth of memory was refused.
     OutOfMemory,
 }
 
-/// The exit status: 0 for a plan that solves its problem, 1 for one that fails, 2 for undecided, 3 for a rejected text, 4 for words that
+/// The exit status: 0 for a plan that solves its problem or a text that was printed, 1 for one that fails, 2 for undecided, 3 for a rejected text, 4 for words that
 /// do not parse, and 5 where a file, the output or memory failed.
 pub fn status(end: &End<'_>) -> u8
     ensures { result ≡ status_of end.now }
 {
     match end {
-        End::Judged(Kind::Solves) => 0,
+        End::Judged(Kind::Solves) | End::Printed(Printed::Done) => 0,
         End::Judged(Kind::Fails) => 1,
         End::Judged(Kind::Undecided) => 2,
-        End::Judged(Kind::Rejected) => 3,
+        End::Judged(Kind::Rejected) | End::Printed(Printed::Rejected) => 3,
         End::Words => 4,
         End::CannotRead(_) | End::CannotWrite | End::OutOfMemory => 5,
     }
@@ -56,6 +58,6 @@ pub fn write_end<W: Sink>(end: &End<'_>, out: &mut W) -> Result<(), WriteFault>
         ),
         End::CannotWrite => write_parts(out, &[b"hddlv: cannot write\n"]),
         End::OutOfMemory => write_parts(out, &[b"hddlv: out of memory\n"]),
-        End::Judged(_) | End::Words => Ok(()),
+        End::Judged(_) | End::Printed(_) | End::Words => Ok(()),
     }
 }

@@ -1,12 +1,13 @@
 //! The command line.
 
-ghost use Rattle.std.specs.Prelude.{◌≡◌, ◌↔◌, codes, map, IfOk, Some, true, false, string_bytes};
+ghost use Rattle.std.specs.Prelude.{◌≡◌, ◌↔◌, codes, map, IfOk, IfSome, Some, true, false, string_bytes};
 ghost use Rattle.clap.specs.Words.{app_of, subcommand_of, rule_of, rows_of, found_of, first_of, with_rule, with_subcommand};
 ghost use Rattle.clap.specs.declared.builder.command.Command.TheViews.{out-Command};
-ghost use Rattle.hddlv.specs.Line.{line, judge_line, limit_rule, explain_rule, file_rule, HasLimit, HasOptions, IsJobOf};
+ghost use Rattle.hddlv.specs.Line.{line, judge_line, print_line, print_name, limit_rule, explain_rule, file_rule, HasLimit, HasOptions, IsJobOf};
 
-use crate::task::{Job, JobFault};
+use crate::task::{Job, JobFault, JudgeJob};
 use clap::{Arg, ArgAction, ArgMatches, Command};
+use hv_judge::Which;
 use std::alloc::{AllocError, Global};
 
 fn limit_arg<'a>(alloc: Global) -> Arg<'a>
@@ -69,12 +70,37 @@ fn judge_command<'a>(alloc: Global) -> Result<Command<'a>, AllocError>
     Ok(command)
 }
 
+// The name of the command that prints a text of this kind.
+fn print_name(which: Which) -> &'static str
+    ensures { result.now ≡ print_name which }
+{
+    match which {
+        Which::Domain => "print-domain",
+        Which::Problem => "print-problem",
+        Which::Plan => "print-plan",
+    }
+}
+
+fn print_command<'a>(alloc: Global, which: Which) -> Result<Command<'a>, AllocError>
+    ensures app { IfOk result (λ c. app_of c ≡ print_line (print_name which)) }
+    ensures local { IfOk result (λ c. (out-Command c).has_globals ≡ false) }
+{
+    let command = Command::new(alloc, print_name(which));
+    let command = with_arg(
+        command,
+        file_arg(alloc, "file", "The text whose canonical form is written"),
+    )?;
+    Ok(command)
+}
+
 fn command<'a>(alloc: Global) -> Result<Command<'a>, AllocError>
     ensures { IfOk result (λ c. app_of c ≡ line) }
 {
-    let judge = judge_command(alloc)?;
     let command = Command::new(alloc, "hddlv").subcommand_required(true);
-    let command = with_command(command, judge)?;
+    let command = with_command(command, judge_command(alloc)?)?;
+    let command = with_command(command, print_command(alloc, Which::Domain)?)?;
+    let command = with_command(command, print_command(alloc, Which::Problem)?)?;
+    let command = with_command(command, print_command(alloc, Which::Plan)?)?;
     Ok(command)
 }
 
@@ -105,7 +131,7 @@ fn is_explained(matches: &ArgMatches<'_>) -> bool
     }
 }
 
-fn judge_job(alloc: Global, matches: &ArgMatches<'_>) -> Result<Job, JobFault>
+fn judge_job(alloc: Global, matches: &ArgMatches<'_>) -> Result<JudgeJob, JobFault>
     ensures { IfOk result (HasOptions (rows_of (found_of matches.now))) }
 {
     let domain = text_of(alloc, matches, "domain")?;
@@ -113,13 +139,29 @@ fn judge_job(alloc: Global, matches: &ArgMatches<'_>) -> Result<Job, JobFault>
     let plan = text_of(alloc, matches, "plan")?;
     let limit = limit_of(matches)?;
     let explain = is_explained(matches);
-    Ok(Job {
+    Ok(JudgeJob {
         domain,
         problem,
         plan,
         limit,
         explain,
     })
+}
+
+// What kind of text the command of this name prints.
+fn printed_by(name: &str) -> Option<Which>
+    ensures { IfSome result (λ which. name.now ≡ print_name which) }
+{
+    if name == "print-domain" {
+        return Some(Which::Domain);
+    }
+    if name == "print-problem" {
+        return Some(Which::Problem);
+    }
+    if name == "print-plan" {
+        return Some(Which::Plan);
+    }
+    None
 }
 
 /// The job that the words name: what the definition of the command reads in them. The first word is the program's own.
@@ -135,8 +177,11 @@ pub fn job<'a>(alloc: Global, words: &'a [&'a str]) -> Result<Job, JobFault>
     let Some((name, inner)) = matches.subcommand() else {
         return Err(JobFault::Memory);
     };
-    if name != "judge" {
-        return Err(JobFault::Memory);
+    if name == "judge" {
+        return Ok(Job::Judge(judge_job(alloc, inner)?));
     }
-    judge_job(alloc, inner)
+    match printed_by(name) {
+        Some(which) => Ok(Job::Print(which, text_of(alloc, inner, "file")?)),
+        None => Err(JobFault::Memory),
+    }
 }

@@ -1,12 +1,22 @@
 //! What the words of the command line ask for.
 
+use hv_judge::Which;
 use std::alloc::{AllocError, AllocFailed};
 use thiserror::Error;
+
+/// What the program is to do.
+#[derive(Drop)]
+pub enum Job {
+    /// To judge three files.
+    Judge(JudgeJob),
+    /// To write the canonical text of one file, by its name as given, which is a text of this kind.
+    Print(Which, String),
+}
 
 /// Three files to be judged, by their names as given, with the limit on the choices of a node that are searched, and whether a
 /// certificate is written.
 #[derive(Drop)]
-pub struct Job {
+pub struct JudgeJob {
     pub domain: String,
     pub problem: String,
     pub plan: String,

@@ -1,16 +1,25 @@
 use crate::end::{End, status, write_end};
 use crate::line::job;
-use hv_judge::Kind;
+use crate::task::Job;
+use hv_judge::{Kind, Printed, Which};
 use hv_text::ToMemory;
 use std::alloc::Global;
 use std::io;
 use std::test::Fail;
 
-// What the words come to: the limit of the job, or none where they name none.
+// The limit of the job that the words name, where they ask for a verdict.
 fn limit_in<'a>(alloc: Global, words: &'a [&'a str]) -> Option<u64> {
     match job(alloc, words) {
-        Ok(job) => Some(job.limit),
-        Err(_) => None,
+        Ok(Job::Judge(job)) => Some(job.limit),
+        Ok(Job::Print(_, _)) | Err(_) => None,
+    }
+}
+
+// The kind of text that the words ask to print.
+fn printed_in<'a>(alloc: Global, words: &'a [&'a str]) -> Option<Which> {
+    match job(alloc, words) {
+        Ok(Job::Print(which, _)) => Some(which),
+        Ok(Job::Judge(_)) | Err(_) => None,
     }
 }
 
@@ -34,6 +43,14 @@ fn reads_the_words(rt: HostRuntime) -> io::Result<()> {
     );
     assert_eq!(rt; limit_in(alloc, &["hddlv", "--help"]), None);
     assert_eq!(rt; limit_in(alloc, &["hddlv"]), None);
+    for (command, which) in [
+        ("print-domain", Which::Domain),
+        ("print-problem", Which::Problem),
+        ("print-plan", Which::Plan),
+    ] {
+        assert_eq!(rt; printed_in(alloc, &["hddlv", command, "f"]), Some(which));
+        assert_eq!(rt; printed_in(alloc, &["hddlv", command]), None);
+    }
     Ok(())
 }
 
@@ -44,6 +61,8 @@ fn ends(rt: HostRuntime) -> Result<(), Fail> {
         (End::Judged(Kind::Fails), 1, ""),
         (End::Judged(Kind::Undecided), 2, ""),
         (End::Judged(Kind::Rejected), 3, ""),
+        (End::Printed(Printed::Done), 0, ""),
+        (End::Printed(Printed::Rejected), 3, ""),
         (End::Words, 4, ""),
         (End::CannotRead("a b"), 5, "hddlv: cannot read a b\n"),
         (End::CannotWrite, 5, "hddlv: cannot write\n"),

@@ -30,3 +30,4 @@ pub mod SectionSpellingLemmas
 pub mod PlanSpellingLemmas
 pub mod Members
 pub mod RunLemmas
+pub mod PrintingLemmas

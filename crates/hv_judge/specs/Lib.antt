@@ -34,3 +34,4 @@ pub mod Rejections
 pub mod Verdicts
 pub mod Runs
 pub mod Answers
+pub mod Prints

@@ -46,14 +46,14 @@ is_same texts.Plan texts.Problem = false
 is_same texts.Plan texts.Plan = true
 
 -- how many reads of a text failed in a run that ended so
-abbrev pub reads_failed : Which → Result Kind RunFault → ℕ
+abbrev pub reads_failed : {K : Type 0} → Which → Result K RunFault → ℕ
 reads_failed w (Ok k) = 0
 reads_failed w (Err (runs.Read v)) = if is_same w v then 1 else 0
 reads_failed w (Err runs.Memory) = 0
 reads_failed w (Err runs.Write) = 0
 
 -- how many writes failed in a run that ended so
-abbrev pub writes_failed : Result Kind RunFault → ℕ
+abbrev pub writes_failed : {K : Type 0} → Result K RunFault → ℕ
 writes_failed (Ok k) = 0
 writes_failed (Err (runs.Read w)) = 0
 writes_failed (Err runs.Memory) = 0

@@ -24,7 +24,7 @@ pub(crate) enum Unread {
 }
 
 // The fault of this kind at a place of a text.
-fn fault_in(kind: FaultKind, text: &[u8], span: Span) -> Fault
+pub(crate) fn fault_in(kind: FaultKind, text: &[u8], span: Span) -> Fault
     requires { length text.now ≤ MOST_BYTES }
     ensures { result ≡ fault_in kind text.now span }
 {
@@ -84,7 +84,7 @@ fn nowhere(kind: FaultKind) -> Option<Fault>
     })
 }
 
-fn reported_plan(fault: PlanFault) -> Option<Fault>
+pub(crate) fn reported_plan(fault: PlanFault) -> Option<Fault>
     ensures { result ≡ reported_plan fault }
 {
     match fault {

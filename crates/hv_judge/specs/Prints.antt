@@ -1,0 +1,111 @@
+-- What is written where a text is printed.
+use Rattle.std.specs.Prelude.{◌≡◌, ℕ, Bool, false, List, [], ◌∷◌, ◌++◌, map, Option, Some, None, Result, Ok, Err, codes, decimal}
+use Rattle.std.specs.List.{flat_map}
+use Rattle.std.specs.Io.KnownBytes.{Appends}
+use Rattle.hv_text.specs.Io.{IsRead}
+use Rattle.hv_text.specs.declared.fault.TheConstants.{MOST_BYTES}
+use Rattle.hv_text.specs.declared.fault.TextKind.TheVariants as texts
+use Rattle.hv_text.specs.declared.span.Span.{Span}
+use Rattle.hv_text.specs.declared.io.ReadFault.{ReadFault}
+use Rattle.hv_text.specs.declared.io.ReadFault.TheVariants as reads
+use Rattle.hv_syntax.specs.declared.fault.SyntaxFault.{SyntaxFault}
+use Rattle.hv_syntax.specs.declared.fault.SyntaxKind.{SyntaxKind}
+use Rattle.hv_syntax.specs.declared.fault.SyntaxKind.TheVariants as kinds
+use Rattle.hv_syntax.specs.Values.{Domain, Problem}
+use Rattle.hv_syntax.specs.Texts.{IsDomainText, IsDomainFault, IsProblemText, IsProblemFault}
+use Rattle.hv_syntax.specs.CanonicalSections.{canonical_domain, canonical_problem}
+use Rattle.hv_judge.specs.declared.answer.Answer.TheVariants as answers
+use Rattle.hv_judge.specs.declared.answer.Fault.{Fault}
+use Rattle.hv_judge.specs.declared.answer.FaultKind.{FaultKind}
+use Rattle.hv_judge.specs.declared.answer.FaultKind.TheVariants as faults
+use Rattle.hv_judge.specs.declared.answer.Which.{Which}
+use Rattle.hv_judge.specs.declared.answer.Which.TheVariants as which
+use Rattle.hv_judge.specs.declared.plan.PlanFault.{PlanFault}
+use Rattle.hv_judge.specs.declared.printing.Printed.{Printed}
+use Rattle.hv_judge.specs.declared.printing.Printed.TheVariants as ends
+use Rattle.hv_judge.specs.declared.running.RunFault.{RunFault}
+use Rattle.hv_judge.specs.declared.running.RunFault.TheVariants as runs
+use Rattle.hv_judge.specs.PlanForms.{Action}
+use Rattle.hv_judge.specs.PlanSpellings.{IsPlan}
+use Rattle.hv_judge.specs.Plans.{Plan, IsPlanFault}
+use Rattle.hv_judge.specs.Rejections.{fault_in, fault_nowhere, reported_plan}
+use Rattle.hv_judge.specs.Text.{joined, ids_text, answer_text, AppendsBeginning}
+use Rattle.hv_judge.specs.Runs.{IsTooLong}
+
+-- names, each behind a space
+abbrev pub words_text : List (List ℕ) → List ℕ
+words_text ws = flat_map (λ w. codes " " ++ w) ws
+
+-- the line of an action: its id, its name and its arguments
+abbrev pub action_text : Action → List ℕ
+action_text a = decimal a.id ++ words_text (a.name ∷ a.arguments) ++ codes "\n"
+
+-- the canonical text of a plan: the action lines and `root` with its ids, between the markers
+abbrev pub plan_text : Plan → List ℕ
+plan_text p = codes "==>\n" ++ flat_map action_text p.actions ++ codes "root" ++ ids_text p.root.ids ++ codes "\n<==\n"
+
+-- the kind under which a fault of a domain's or a problem's text is reported; want of memory is reported as no fault
+abbrev pub reported_kind : SyntaxKind → Option FaultKind
+reported_kind (kinds.Text texts.BadByte) = Some faults.BadByte
+reported_kind (kinds.Text texts.Unclosed) = Some faults.Unclosed
+reported_kind (kinds.Text texts.Unopened) = Some faults.Unopened
+reported_kind (kinds.Text texts.TooDeep) = Some faults.TooDeep
+reported_kind (kinds.Text texts.TooLong) = Some faults.TooLong
+reported_kind (kinds.Text texts.Memory) = None
+reported_kind kinds.NotDefine = Some faults.NotDefine
+reported_kind kinds.UnknownSection = Some faults.UnknownSection
+reported_kind kinds.RepeatedSection = Some faults.RepeatedSection
+reported_kind kinds.MissingSection = Some faults.MissingSection
+reported_kind kinds.BadShape = Some faults.BadShape
+reported_kind kinds.Unsupported = Some faults.Unsupported
+
+-- the line of a rejection
+abbrev pub rejection : Which → Fault → List ℕ
+rejection w f = answer_text (answers.Rejected w f) false
+
+-- what is written of a text, and how that ends: the canonical text of what it says, or the line of its rejection
+pub data IsPrint (text : List ℕ) : Which → Printed → List ℕ → Type 0 where
+  a_domain : (d : Domain) → IsDomainText text d → IsPrint text which.Domain ends.Done (canonical_domain d)
+  a_problem : (p : Problem) → IsProblemText text p → IsPrint text which.Problem ends.Done (canonical_problem p)
+  a_plan : (p : Plan) → IsPlan text p → IsPrint text which.Plan ends.Done (plan_text p)
+  no_domain : (kind : SyntaxKind) (s : Span) (k : FaultKind) → IsDomainFault text kind s → reported_kind kind ≡ Some k
+      → IsPrint text which.Domain ends.Rejected (rejection which.Domain (fault_in k text s))
+  no_problem : (kind : SyntaxKind) (s : Span) (k : FaultKind) → IsProblemFault text kind s → reported_kind kind ≡ Some k
+      → IsPrint text which.Problem ends.Rejected (rejection which.Problem (fault_in k text s))
+  no_plan : (f : PlanFault) (r : Fault) → IsPlanFault text f → reported_plan f ≡ Some r → IsPrint text which.Plan ends.Rejected (rejection which.Plan r)
+
+-- what is written of a reader's bytes; a text that is too long is rejected
+pub data IsPrintOf {R : Type 0} (w : Which) (left : R → Option (List ℕ)) (old new : R) : Printed → List ℕ → Type 0 where
+  text_read : (text : List ℕ) (end : Printed) (bytes : List ℕ) → IsRead (left old) (left new) MOST_BYTES text → IsPrint text w end bytes
+      → IsPrintOf w left old new end bytes
+  text_too_long : IsTooLong (left old) (left new) → IsPrintOf w left old new ends.Rejected (rejection w (fault_nowhere faults.TooLong))
+
+-- what `P` allows was written, and that is how it ended; a beginning of it, where the writer failed; nothing was done with the
+-- writer, where the text was not read or memory was refused
+abbrev pub WrotePrint : {W : Type 0} → (Printed → List ℕ → Type 0) → (W → Option (List ℕ)) → W → W → Result Printed RunFault → Type 0
+WrotePrint P taken old new (Ok end) = (bytes : List ℕ) × P end bytes × Appends (taken old) (taken new) bytes
+WrotePrint P taken old new (Err (runs.Read w)) = new ≡ old
+WrotePrint P taken old new (Err runs.Memory) = new ≡ old
+WrotePrint P taken old new (Err runs.Write) = (end : Printed) × (bytes : List ℕ) × P end bytes × AppendsBeginning (taken old) (taken new) bytes
+
+-- what the parts of the code do
+
+-- these bytes are written, and the text is printed
+abbrev pub IsDone : List ℕ → Printed → List ℕ → Type 0
+IsDone text end bytes = (end ≡ ends.Done) × (bytes ≡ text)
+
+-- the line of this rejection is written
+abbrev pub IsRejection : Which → Fault → Printed → List ℕ → Type 0
+IsRejection w f end bytes = (end ≡ ends.Rejected) × (bytes ≡ rejection w f)
+
+-- the line of the rejection of a domain or a problem
+abbrev pub IsTextRejection : Which → List ℕ → SyntaxFault → Printed → List ℕ → Type 0
+IsTextRejection w text f end bytes = (k : FaultKind) × (reported_kind f.kind ≡ Some k) × IsRejection w (fault_in k text f.span) end bytes
+
+-- the line of the rejection of a plan
+abbrev pub IsPlanRejection : PlanFault → Printed → List ℕ → Type 0
+IsPlanRejection f end bytes = (r : Fault) × (reported_plan f ≡ Some r) × IsRejection which.Plan r end bytes
+
+-- the line of the rejection of a text that is too long
+abbrev pub IsUnreadRejection : Which → ReadFault → Printed → List ℕ → Type 0
+IsUnreadRejection w fault end bytes = (fault ≡ reads.TooLong) × IsRejection w (fault_nowhere faults.TooLong) end bytes

@@ -1,0 +1,261 @@
+//! A text printed anew: its canonical text, or the line of its rejection.
+
+ghost use Rattle.std.specs.Prelude.{◌≡◌, ◌<◌, ◌≤◌, ◌+◌, ◌-◌, ◌^◌, length, OnOk, OnErr, is_ok, if◌then◌else◌};
+ghost use Rattle.std.specs.List.{flat_map};
+ghost use Rattle.std.specs.Io.KnownBytes.{Appends};
+ghost use Rattle.hv_text.specs.declared.fault.TheConstants.{MOST_BYTES};
+ghost use Rattle.hv_judge.specs.declared.answer.Which.{Which};
+ghost use Rattle.hv_judge.specs.declared.answer.Which.TheVariants as texts;
+ghost use Rattle.hv_judge.specs.Plans.{action_view, plan_view};
+ghost use Rattle.hv_judge.specs.Text.{AppendsBeginning};
+ghost use Rattle.hv_judge.specs.Runs.{reads_failed, writes_failed, failures_at};
+ghost use Rattle.hv_judge.specs.Prints.{action_text, plan_text, reported_kind, IsPrint, IsPrintOf, WrotePrint, IsDone, IsRejection, IsTextRejection, IsPlanRejection, IsUnreadRejection};
+
+use crate::answer::{Answer, Fault, FaultKind, Which};
+use crate::judgement::{fault_in, reported_plan};
+use crate::plan::{ActionLine, PlanFault, PlanText, read_plan};
+use crate::running::RunFault;
+use crate::write::{write_answer, write_ids, write_name, write_names};
+use hv_syntax::{SyntaxFault, SyntaxKind, print_domain, print_problem, read_domain, read_problem};
+use hv_text::{MOST_BYTES, ReadFault, Sink, Source, TextKind, WriteFault, read_all, write_all};
+use itoa::Buffer;
+use std::alloc::Global;
+
+/// How a text was printed.
+#[derive(Clone, Copy, Debug, PartialEq, Eq)]
+pub enum Printed {
+    /// Its canonical text was written.
+    Done,
+    /// It says nothing of its kind, and the line of its rejection was written.
+    Rejected,
+}
+
+// The kind under which a fault of a domain or a problem is reported; None for want of memory.
+fn reported_kind(kind: SyntaxKind) -> Option<FaultKind>
+    ensures { result ≡ reported_kind kind }
+{
+    match kind {
+        SyntaxKind::Text(TextKind::BadByte) => Some(FaultKind::BadByte),
+        SyntaxKind::Text(TextKind::Unclosed) => Some(FaultKind::Unclosed),
+        SyntaxKind::Text(TextKind::Unopened) => Some(FaultKind::Unopened),
+        SyntaxKind::Text(TextKind::TooDeep) => Some(FaultKind::TooDeep),
+        SyntaxKind::Text(TextKind::TooLong) => Some(FaultKind::TooLong),
+        SyntaxKind::Text(TextKind::Memory) => None,
+        SyntaxKind::NotDefine => Some(FaultKind::NotDefine),
+        SyntaxKind::UnknownSection => Some(FaultKind::UnknownSection),
+        SyntaxKind::RepeatedSection => Some(FaultKind::RepeatedSection),
+        SyntaxKind::MissingSection => Some(FaultKind::MissingSection),
+        SyntaxKind::BadShape => Some(FaultKind::BadShape),
+        SyntaxKind::Unsupported => Some(FaultKind::Unsupported),
+    }
+}
+
+// Writes the line of a rejection.
+fn reject<W: Sink>(which: Which, fault: Fault, out: &mut W) -> Result<Printed, RunFault>
+    requires { W.failures out.old < 2 ^ 64 - 1 }
+    ensures wrote { WrotePrint (IsRejection which fault) W.taken out.old out.new result }
+    ensures reads { (w : Which) → reads_failed w result ≡ 0 }
+    ensures writes { W.failures out.new ≡ W.failures out.old + writes_failed result }
+{
+    write_answer(&Answer::Rejected(which, fault), false, out)?;
+    Ok(Printed::Rejected)
+}
+
+// Writes the line of the rejection of a domain or a problem.
+fn reject_text<W: Sink>(
+    which: Which,
+    text: &[u8],
+    fault: SyntaxFault,
+    out: &mut W,
+) -> Result<Printed, RunFault>
+    requires text { length text.now ≤ MOST_BYTES }
+    requires out { W.failures out.old < 2 ^ 64 - 1 }
+    ensures wrote { WrotePrint (IsTextRejection which text.now fault) W.taken out.old out.new result }
+    ensures reads { (w : Which) → reads_failed w result ≡ 0 }
+    ensures writes { W.failures out.new ≡ W.failures out.old + writes_failed result }
+{
+    match reported_kind(fault.kind) {
+        Some(kind) => reject(which, fault_in(kind, text, fault.span), out),
+        None => Err(RunFault::Memory),
+    }
+}
+
+// Writes bytes that are the canonical text of something.
+fn write_canonical<W: Sink>(bytes: &[u8], out: &mut W) -> Result<Printed, RunFault>
+    requires { W.failures out.old < 2 ^ 64 - 1 }
+    ensures wrote { WrotePrint (IsDone bytes.now) W.taken out.old out.new result }
+    ensures reads { (w : Which) → reads_failed w result ≡ 0 }
+    ensures writes { W.failures out.new ≡ W.failures out.old + writes_failed result }
+{
+    write_all(out, bytes)?;
+    Ok(Printed::Done)
+}
+
+// Prints a domain.
+fn print_domain_text<W: Sink>(alloc: Global, text: &[u8], out: &mut W) -> Result<Printed, RunFault>
+    requires text { length text.now ≤ MOST_BYTES }
+    requires out { W.failures out.old < 2 ^ 64 - 1 }
+    ensures wrote { WrotePrint (IsPrint text.now texts.Domain) W.taken out.old out.new result }
+    ensures reads { (w : Which) → reads_failed w result ≡ 0 }
+    ensures writes { W.failures out.new ≡ W.failures out.old + writes_failed result }
+{
+    match read_domain(alloc, text) {
+        Ok(domain) => {
+            let mut bytes = Vec::new(alloc);
+            print_domain(&domain, &mut bytes)?;
+            write_canonical(&bytes, out)
+        }
+        Err(fault) => reject_text(Which::Domain, text, fault, out),
+    }
+}
+
+// Prints a problem.
+fn print_problem_text<W: Sink>(
+    alloc: Global,
+    text: &[u8],
+    out: &mut W,
+) -> Result<Printed, RunFault>
+    requires text { length text.now ≤ MOST_BYTES }
+    requires out { W.failures out.old < 2 ^ 64 - 1 }
+    ensures wrote { WrotePrint (IsPrint text.now texts.Problem) W.taken out.old out.new result }
+    ensures reads { (w : Which) → reads_failed w result ≡ 0 }
+    ensures writes { W.failures out.new ≡ W.failures out.old + writes_failed result }
+{
+    match read_problem(alloc, text) {
+        Ok(problem) => {
+            let mut bytes = Vec::new(alloc);
+            print_problem(&problem, &mut bytes)?;
+            write_canonical(&bytes, out)
+        }
+        Err(fault) => reject_text(Which::Problem, text, fault, out),
+    }
+}
+
+fn write_action<W: Sink>(out: &mut W, action: &ActionLine<'_>) -> Result<(), WriteFault>
+    requires { W.failures out.old < 2 ^ 64 - 1 }
+    ensures ok { OnOk result (Appends (W.taken out.old) (W.taken out.new) (action_text (action_view action.now))) }
+    ensures err { OnErr result (AppendsBeginning (W.taken out.old) (W.taken out.new) (action_text (action_view action.now))) }
+    ensures failures { W.failures out.new ≡ W.failures out.old + (if is_ok result then 0 else 1) }
+{
+    let mut id = Buffer::new();
+    write_all(out, id.format(action.id).as_bytes())?;
+    write_name(out, &action.name)?;
+    write_names(out, &action.arguments)?;
+    write_all(out, b"\n")
+}
+
+fn write_actions<W: Sink>(out: &mut W, actions: &[ActionLine<'_>]) -> Result<(), WriteFault>
+    requires { W.failures out.old < 2 ^ 64 - 1 }
+    ensures ok { OnOk result (Appends (W.taken out.old) (W.taken out.new) (flat_map (λ a. action_text (action_view a)) actions.now)) }
+    ensures err { OnErr result (AppendsBeginning (W.taken out.old) (W.taken out.new) (flat_map (λ a. action_text (action_view a)) actions.now)) }
+    ensures failures { W.failures out.new ≡ W.failures out.old + (if is_ok result then 0 else 1) }
+{
+    for action in actions {
+        write_action(out, action)?;
+    }
+    Ok(())
+}
+
+fn write_plan<W: Sink>(out: &mut W, plan: &PlanText<'_>) -> Result<(), WriteFault>
+    requires { W.failures out.old < 2 ^ 64 - 1 }
+    ensures ok { OnOk result (Appends (W.taken out.old) (W.taken out.new) (plan_text (plan_view plan.now))) }
+    ensures err { OnErr result (AppendsBeginning (W.taken out.old) (W.taken out.new) (plan_text (plan_view plan.now))) }
+    ensures failures { W.failures out.new ≡ W.failures out.old + (if is_ok result then 0 else 1) }
+{
+    write_all(out, b"==>\n")?;
+    write_actions(out, &plan.actions)?;
+    write_all(out, b"root")?;
+    write_ids(out, &plan.root)?;
+    write_all(out, b"\n<==\n")
+}
+
+// Prints a plan.
+fn print_plan_text<W: Sink>(alloc: Global, text: &[u8], out: &mut W) -> Result<Printed, RunFault>
+    requires { W.failures out.old < 2 ^ 64 - 1 }
+    ensures wrote { WrotePrint (IsPrint text.now texts.Plan) W.taken out.old out.new result }
+    ensures reads { (w : Which) → reads_failed w result ≡ 0 }
+    ensures writes { W.failures out.new ≡ W.failures out.old + writes_failed result }
+{
+    let plan = match read_plan(alloc, text) {
+        Ok(plan) => plan,
+        Err(fault) => return reject_plan(fault, out),
+    };
+    write_plan(out, &plan)?;
+    Ok(Printed::Done)
+}
+
+// Writes the line of the rejection of a plan.
+fn reject_plan<W: Sink>(fault: PlanFault, out: &mut W) -> Result<Printed, RunFault>
+    requires { W.failures out.old < 2 ^ 64 - 1 }
+    ensures wrote { WrotePrint (IsPlanRejection fault) W.taken out.old out.new result }
+    ensures reads { (w : Which) → reads_failed w result ≡ 0 }
+    ensures writes { W.failures out.new ≡ W.failures out.old + writes_failed result }
+{
+    match reported_plan(fault) {
+        Some(fault) => reject(Which::Plan, fault, out),
+        None => Err(RunFault::Memory),
+    }
+}
+
+// Prints a text of this kind.
+fn print_text<W: Sink>(
+    alloc: Global,
+    which: Which,
+    text: &[u8],
+    out: &mut W,
+) -> Result<Printed, RunFault>
+    requires text { length text.now ≤ MOST_BYTES }
+    requires out { W.failures out.old < 2 ^ 64 - 1 }
+    ensures wrote { WrotePrint (IsPrint text.now which) W.taken out.old out.new result }
+    ensures reads { (w : Which) → reads_failed w result ≡ 0 }
+    ensures writes { W.failures out.new ≡ W.failures out.old + writes_failed result }
+{
+    match which {
+        Which::Domain => print_domain_text(alloc, text, out),
+        Which::Problem => print_problem_text(alloc, text, out),
+        Which::Plan => print_plan_text(alloc, text, out),
+    }
+}
+
+// What is done with a text that was not read: one that is too long is rejected.
+fn print_unread<W: Sink>(
+    which: Which,
+    fault: ReadFault,
+    out: &mut W,
+) -> Result<Printed, RunFault>
+    requires { W.failures out.old < 2 ^ 64 - 1 }
+    ensures wrote { WrotePrint (IsUnreadRejection which fault) W.taken out.old out.new result }
+    ensures reads { (w : Which) → reads_failed w result ≡ failures_at w which fault }
+    ensures writes { W.failures out.new ≡ W.failures out.old + writes_failed result }
+{
+    match fault {
+        ReadFault::TooLong => reject(which, Fault::too_long(), out),
+        ReadFault::Device => Err(RunFault::Read(which)),
+        ReadFault::Memory => Err(RunFault::Memory),
+    }
+}
+
+/// Reads a text of this kind and writes its canonical text; where it says nothing of its kind, it writes the line of its
+/// rejection. Domains and problems are those of the whole language, plans those without decomposition lines.
+///
+/// # Errors
+///
+/// `Read` where the reader failed and `Memory` where a growth was refused: nothing was written then. `Write` where the writer failed
+/// or took no byte of a text that is not empty.
+pub fn run_print<R: Source, W: Sink>(
+    alloc: Global,
+    which: Which,
+    reader: &mut R,
+    out: &mut W,
+) -> Result<Printed, RunFault>
+    requires reader { R.failures reader.old < 2 ^ 64 - 1 }
+    requires out { W.failures out.old < 2 ^ 64 - 1 }
+    ensures wrote { WrotePrint (IsPrintOf which R.left reader.old reader.new) W.taken out.old out.new result }
+    ensures reads { R.failures reader.new ≡ R.failures reader.old + reads_failed which result }
+    ensures writes { W.failures out.new ≡ W.failures out.old + writes_failed result }
+{
+    match read_all(alloc, reader, MOST_BYTES) {
+        Ok(text) => print_text(alloc, which, &text, out),
+        Err(fault) => print_unread(which, fault, out),
+    }
+}
