@@ -5,3 +5,4 @@ pub mod TypedLemmas
 pub mod FormulaLemmas
 pub mod TextLemmas
 pub mod SectionLemmas
+pub mod PrintLemmas
