@@ -9,3 +9,4 @@ pub mod SpellingLemmas
 pub mod PartSpellings
 pub mod TableLemmas
 pub mod TextSpellings
+pub mod PrintLemmas

@@ -22,3 +22,5 @@ pub mod NetworkViews
 pub mod DeclarationViews
 pub mod DomainViews
 pub mod ProblemViews
+pub mod Canonical
+pub mod CanonicalSections

@@ -1,0 +1,194 @@
+//! Formulas, literals and effects.
+
+ghost use Rattle.std.specs.Prelude.{◌≡◌, ◌++◌, map, OnOk};
+ghost use Rattle.hv_syntax.specs.Values.{formulas_of, not, forall, exists, equal};
+ghost use Rattle.hv_syntax.specs.Canonical.{text, spaced, each, conjunction, term_expression, formula_expression, formula_expressions, literal_expression, effect_expression};
+ghost use Rattle.hv_syntax.specs.Formulas.{and_all, or_all};
+ghost use Rattle.hv_syntax.specs.Views.{typed_view, term_view, formula_view, literal_view, effect_view};
+
+use crate::formula::FormulaText;
+use crate::literal::{EffectText, LiteralText};
+use crate::print::terms::{put_atom, put_term, put_typed};
+use crate::term::TermText;
+use crate::typed::TypedText;
+use hv_text::Memory;
+
+// Puts that two terms are one.
+fn put_equal(out: &mut Vec<u8>, left: TermText<'_>, right: TermText<'_>) -> Result<(), Memory>
+    ensures { OnOk result (out.new.items ≡ out.old.items ++ text (formula_expression (equal (term_view left.entry) (term_view right.entry)))) }
+{
+    out.extend_from_slice(b"(= ")?;
+    put_term(out, left)?;
+    out.push(b' ')?;
+    put_term(out, right)?;
+    out.push(b')')?;
+    Ok(())
+}
+
+/// Puts a formula.
+///
+/// # Errors
+///
+/// `Memory` where a growth was refused.
+#[cycle(put)]
+pub(crate) fn put_formula(out: &mut Vec<u8>, formula: &FormulaText<'_>) -> Result<(), Memory>
+    ensures { OnOk result (out.new.items ≡ out.old.items ++ text (formula_expression (formula_view formula.now))) }
+{
+    match formula {
+        FormulaText::Holds(atom) => put_atom(out, atom),
+        FormulaText::And(parts) => put_conjunction(out, parts),
+        FormulaText::Or(parts) => put_disjunction(out, parts),
+        FormulaText::Not(part) => put_negation(out, part),
+        FormulaText::Imply(premise, conclusion) => {
+            out.extend_from_slice(b"(imply ")?;
+            put_formula(out, premise)?;
+            out.push(b' ')?;
+            put_formula(out, conclusion)?;
+            out.push(b')')?;
+            Ok(())
+        }
+        FormulaText::Forall(variables, part) => put_forall(out, variables, part),
+        FormulaText::Exists(variables, part) => put_exists(out, variables, part),
+        FormulaText::Equal(left, right) => put_equal(out, *left, *right),
+    }
+}
+
+#[cycle(put)]
+fn put_conjunction(out: &mut Vec<u8>, parts: &[FormulaText<'_>]) -> Result<(), Memory>
+    ensures { OnOk result (out.new.items ≡ out.old.items ++ text (formula_expression (and_all (map formula_view parts.now)))) }
+{
+    match parts {
+        [] => {
+            out.extend_from_slice(b"()")?;
+            Ok(())
+        }
+        [_, ..] => {
+            out.extend_from_slice(b"(and")?;
+            put_formulas(out, parts)?;
+            out.push(b')')?;
+            Ok(())
+        }
+    }
+}
+
+#[cycle(put)]
+fn put_disjunction(out: &mut Vec<u8>, parts: &[FormulaText<'_>]) -> Result<(), Memory>
+    ensures { OnOk result (out.new.items ≡ out.old.items ++ text (formula_expression (or_all (map formula_view parts.now)))) }
+{
+    out.extend_from_slice(b"(or")?;
+    put_formulas(out, parts)?;
+    out.push(b')')?;
+    Ok(())
+}
+
+#[cycle(put)]
+fn put_negation(out: &mut Vec<u8>, part: &FormulaText<'_>) -> Result<(), Memory>
+    ensures { OnOk result (out.new.items ≡ out.old.items ++ text (formula_expression (not (formula_view part.now)))) }
+{
+    out.extend_from_slice(b"(not ")?;
+    put_formula(out, part)?;
+    out.push(b')')?;
+    Ok(())
+}
+
+#[cycle(put)]
+fn put_forall(
+    out: &mut Vec<u8>,
+    variables: &[TypedText<'_>],
+    part: &FormulaText<'_>,
+) -> Result<(), Memory>
+    ensures { OnOk result (out.new.items ≡ out.old.items ++ text (formula_expression (forall (map typed_view variables.now) (formula_view part.now)))) }
+{
+    out.extend_from_slice(b"(forall (")?;
+    put_typed(out, variables)?;
+    out.extend_from_slice(b") ")?;
+    put_formula(out, part)?;
+    out.push(b')')?;
+    Ok(())
+}
+
+#[cycle(put)]
+fn put_exists(
+    out: &mut Vec<u8>,
+    variables: &[TypedText<'_>],
+    part: &FormulaText<'_>,
+) -> Result<(), Memory>
+    ensures { OnOk result (out.new.items ≡ out.old.items ++ text (formula_expression (exists (map typed_view variables.now) (formula_view part.now)))) }
+{
+    out.extend_from_slice(b"(exists (")?;
+    put_typed(out, variables)?;
+    out.extend_from_slice(b") ")?;
+    put_formula(out, part)?;
+    out.push(b')')?;
+    Ok(())
+}
+
+// Puts formulas, a space before each.
+#[cycle(put)]
+fn put_formulas(out: &mut Vec<u8>, formulas: &[FormulaText<'_>]) -> Result<(), Memory>
+    ensures { OnOk result (out.new.items ≡ out.old.items ++ spaced (formula_expressions (formulas_of (map formula_view formulas.now)))) }
+{
+    for formula in formulas {
+        out.push(b' ')?;
+        put_formula(out, formula)?;
+    }
+    Ok(())
+}
+
+// Puts a literal.
+fn put_literal(out: &mut Vec<u8>, literal: &LiteralText<'_>) -> Result<(), Memory>
+    ensures { OnOk result (out.new.items ≡ out.old.items ++ text (literal_expression (literal_view literal.now))) }
+{
+    if literal.is_positive {
+        return put_atom(out, &literal.atom);
+    }
+    out.extend_from_slice(b"(not ")?;
+    put_atom(out, &literal.atom)?;
+    out.push(b')')?;
+    Ok(())
+}
+
+/// Puts literals, a space before each.
+///
+/// # Errors
+///
+/// `Memory` where a growth was refused.
+pub(crate) fn put_literals(out: &mut Vec<u8>, literals: &[LiteralText<'_>]) -> Result<(), Memory>
+    ensures { OnOk result (out.new.items ≡ out.old.items ++ spaced (each literal_expression (map literal_view literals.now))) }
+{
+    for literal in literals {
+        out.push(b' ')?;
+        put_literal(out, literal)?;
+    }
+    Ok(())
+}
+
+// Puts literals as `()` where there are none, and else behind `and`.
+fn put_listed_literals(out: &mut Vec<u8>, literals: &[LiteralText<'_>]) -> Result<(), Memory>
+    ensures { OnOk result (out.new.items ≡ out.old.items ++ text (conjunction (each literal_expression (map literal_view literals.now)))) }
+{
+    match literals {
+        [] => {
+            out.extend_from_slice(b"()")?;
+            Ok(())
+        }
+        [first, others @ ..] => {
+            out.extend_from_slice(b"(and ")?;
+            put_literal(out, first)?;
+            put_literals(out, others)?;
+            out.push(b')')?;
+            Ok(())
+        }
+    }
+}
+
+/// Puts an effect.
+///
+/// # Errors
+///
+/// `Memory` where a growth was refused.
+pub(crate) fn put_effect(out: &mut Vec<u8>, effect: &EffectText<'_>) -> Result<(), Memory>
+    ensures { OnOk result (out.new.items ≡ out.old.items ++ text (effect_expression (effect_view effect.now))) }
+{
+    put_listed_literals(out, &effect.literals)
+}
