@@ -1,6 +1,8 @@
 //! What holds of the grammar. These functions do nothing: their contracts are the laws.
 
-ghost use Rattle.std.specs.Prelude.{◌≡◌, ◌↔◌, ℕ, List, Some, Ok};
+ghost use Rattle.std.specs.Prelude.{◌≡◌, ◌↔◌, ℕ, List, Some, Ok, Err};
+ghost use Rattle.hv_text.specs.Bytes.{lower};
+ghost use Rattle.hv_text.specs.Sexps.{AreExpressions};
 ghost use Rattle.hv_text.specs.Trees.{Tree, Trees};
 ghost use Rattle.hv_syntax.specs.declared.word.Sort.{Sort};
 ghost use Rattle.hv_syntax.specs.Values.{Term, Atom, Typed, Formula, Literal, Effect, Subtask, Pair, Constraint, Domain, Problem};
@@ -13,6 +15,9 @@ ghost use Rattle.hv_syntax.specs.Networks.{subtask_of, pair_of, constraint_of};
 ghost use Rattle.hv_syntax.specs.Domains.{domain_of};
 ghost use Rattle.hv_syntax.specs.Problems.{problem_of};
 ghost use Rattle.hv_syntax.specs.Tables.{IsDomain, IsProblem};
+ghost use Rattle.hv_text.specs.declared.span.Span.{Span};
+ghost use Rattle.hv_syntax.specs.declared.fault.SyntaxKind.{SyntaxKind};
+ghost use Rattle.hv_syntax.specs.FirstFaults.{IsFaultyDomain, IsFaultyProblem};
 ghost use Rattle.hv_syntax.specs.Texts.{IsDomainText, IsProblemText};
 ghost use Rattle.hv_syntax.specs.Spellings.{SpellsTerm, SpellsAtom, SpellsTyped, SpellsFormula, SpellsLiteral, SpellsEffect, SpellsList, SpellsSubtask, SpellsPair, SpellsConstraint};
 
@@ -64,3 +69,16 @@ pub fn a_text_says_one_thing()
 {
     a_text_has_one_reading();
 }
+
+/// The fault that is reported is the one of the table: what stands around the sections, then the first
+/// faulty section by its head, by its standing a second time and by its shape, then a missing one.
+pub fn faults_are_first()
+    ensures domains { (es : Trees) (kind : SyntaxKind) (s : Span) → IsFaultyDomain es kind s ↔ (domain_of es ≡ Err (kind, s)) }
+    ensures problems { (es : Trees) (kind : SyntaxKind) (s : Span) → IsFaultyProblem es kind s ↔ (problem_of es ≡ Err (kind, s)) }
+{}
+
+/// Letter case decides nothing: a text whose lower case is that of another has the same expressions at
+/// the same places, and so says the same.
+pub fn letter_case_decides_nothing()
+    ensures { (text other : List ℕ) (ts : Trees) → lower text ≡ lower other → AreExpressions text ts → AreExpressions other ts }
+{}
