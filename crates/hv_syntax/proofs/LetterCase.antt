@@ -8,11 +8,15 @@ use Rattle.hv_text.specs.Bytes.{is_blank, is_word_byte, lower}
 use Rattle.hv_text.specs.Words.{Piece, class_of, in_comment, uncommented, beginning, pieces_from, pieces}
 use Rattle.hv_text.specs.Words as found
 use Rattle.hv_text.specs.Trees.{Trees}
-use Rattle.hv_text.specs.Sexps.{AreExpressions, IsSound, open_before, spelled_all, IsTextFault}
+use Rattle.hv_text.specs.Sexps.{AreExpressions, IsSound, IsFirstFault, IsUnclosed, open_before, IsTextFault}
 use Rattle.hv_text.specs.declared.words.Class.{Class}
 use Rattle.hv_text.specs.declared.words.Class.TheVariants.{Blank, Semicolon, Left, Right, Inner, Bad}
 use Rattle.hv_text.specs.declared.span.Span.{Span}
 use Rattle.hv_text.specs.declared.fault.TextKind.{TextKind}
+use Rattle.hv_text.specs.declared.fault.TextKind.TheVariants as texts
+use Rattle.hv_syntax.specs.declared.fault.SyntaxKind.{SyntaxKind}
+use Rattle.hv_syntax.specs.declared.fault.SyntaxKind.TheVariants as kinds
+use Rattle.hv_syntax.specs.Texts.{IsSpelledBy, IsFaultBy}
 
 -- what the case of a letter does not change
 same_word_byte : (b : ℕ) → is_word_byte (to_ascii_lowercase b) ≡ is_word_byte b
@@ -93,3 +97,26 @@ module _ (text other : List ℕ) (same : lower text ≡ lower other) where
         closed = subst (λ ps. open_before ps (length ps) ≡ 0) same_pieces are.closed;
         spelled = are.spelled ∙ same_pieces;
       }
+
+  same_size : {n : ℕ} → length text ≤ n → length other ≤ n
+  same_size h = rw (← same_length) h
+
+  same_text_fault : (kind : TextKind) (s : Span) → IsTextFault text kind s → IsTextFault other kind s
+  same_text_fault texts.TooLong s h = (rw (← same_length) h.0, h.1)
+  same_text_fault texts.Memory s h = (same_size h.0, h.1)
+  same_text_fault texts.BadByte s h = (same_size h.0, subst (λ ps. IsFirstFault ps texts.BadByte s) same_pieces h.1)
+  same_text_fault texts.Unopened s h = (same_size h.0, subst (λ ps. IsFirstFault ps texts.Unopened s) same_pieces h.1)
+  same_text_fault texts.TooDeep s h = (same_size h.0, subst (λ ps. IsFirstFault ps texts.TooDeep s) same_pieces h.1)
+  same_text_fault texts.Unclosed s h = (same_size h.0, subst IsSound same_pieces h.1, subst (λ ps. IsUnclosed ps s) same_pieces h.2)
+
+  pub same_value : {V : Type 0} (Spells : Trees → V → Type 0) (v : V) → IsSpelledBy Spells text v → IsSpelledBy Spells other v
+  same_value Spells v (ts, are, h) = (ts, same_expressions ts are, h)
+
+  pub same_fault : (Faulty : Trees → SyntaxKind → Span → Type 0) (kind : SyntaxKind) (s : Span) → IsFaultBy Faulty text kind s → IsFaultBy Faulty other kind s
+  same_fault Faulty (kinds.Text kind) s h = same_text_fault kind s h
+  same_fault Faulty kinds.NotDefine s (ts, are, h) = (ts, same_expressions ts are, h)
+  same_fault Faulty kinds.UnknownSection s (ts, are, h) = (ts, same_expressions ts are, h)
+  same_fault Faulty kinds.RepeatedSection s (ts, are, h) = (ts, same_expressions ts are, h)
+  same_fault Faulty kinds.MissingSection s (ts, are, h) = (ts, same_expressions ts are, h)
+  same_fault Faulty kinds.BadShape s (ts, are, h) = (ts, same_expressions ts are, h)
+  same_fault Faulty kinds.Unsupported s (ts, are, h) = (ts, same_expressions ts are, h)

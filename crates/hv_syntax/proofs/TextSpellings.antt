@@ -21,7 +21,7 @@ use Rattle.hv_syntax.specs.Problems as problems
 use Rattle.hv_syntax.specs.Problems.{ProblemSection, is_for, has_objects, has_htn, has_init, has_goal, problem_standing, problem_section_by, htn_of, goal_of, Parts, no_parts, add_part, parts_from, whole_by, whole, problem_in, problem_of}
 use Rattle.hv_syntax.specs.Spellings.{SpellsWord, SpellEach, SpellsTyped, SpellsFormula, SpellsGround}
 use Rattle.hv_text.specs.Sexps.{AreExpressions}
-use Rattle.hv_syntax.specs.Texts.{IsReadAs}
+use Rattle.hv_syntax.specs.Texts.{IsSpelledBy}
 use Rattle.hv_syntax.specs.Tables as tables
 use Rattle.hv_syntax.specs.Tables.{SpellsPredicate, SpellsTask, SpellsMethod, SpellsAction, SpellsHtn, SpellsDomainSection, SpellsProblemSection, MayStand, for_the_first_time, as_often_as_wanted, SpellsSection, a_section, SpellSections, no_sections, more_sections, SpellsDefine, a_definition, IsDomain, a_domain, IsProblem, a_problem}
 use Rattle.hv_syntax.proofs.SpellingLemmas.{same_word, if_map, if_weaker, word_read, word_spelled, each_read, each_spelled, typed_list_read, typed_list_spelled, formula_is_read, formula_is_spelled}
@@ -261,6 +261,7 @@ pub one_problem : (es : Trees) (p q : Problem) → IsProblem es p → IsProblem 
 one_problem es p q h k = same_value p q (sym (problem_read es p h) ∙ problem_read es q k)
 
 -- of a text, where it has one reading as expressions
-module _ {V : Type 0} (reading : Trees → Result V (SyntaxKind × Span)) (text : List ℕ) (one : (ts us : Trees) → AreExpressions text ts → AreExpressions text us → ts ≡ us) where
-  pub one_text : (a b : V) → IsReadAs reading text (Ok a) → IsReadAs reading text (Ok b) → a ≡ b
-  one_text a b (ts, are, e) (us, be, f) = same_value a b (sym e ∙ ap reading (one ts us are be) ∙ f)
+module _ {V : Type 0} (Spells : Trees → V → Type 0) (single : (es : Trees) (a b : V) → Spells es a → Spells es b → a ≡ b) (text : List ℕ)
+    (one : (ts us : Trees) → AreExpressions text ts → AreExpressions text us → ts ≡ us) where
+  pub one_text : (a b : V) → IsSpelledBy Spells text a → IsSpelledBy Spells text b → a ≡ b
+  one_text a b (ts, are, e) (us, be, f) = single ts a b e (subst (λ es. Spells es b) (one us ts be are) f)

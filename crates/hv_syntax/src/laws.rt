@@ -18,7 +18,7 @@ ghost use Rattle.hv_syntax.specs.Tables.{IsDomain, IsProblem};
 ghost use Rattle.hv_text.specs.declared.span.Span.{Span};
 ghost use Rattle.hv_syntax.specs.declared.fault.SyntaxKind.{SyntaxKind};
 ghost use Rattle.hv_syntax.specs.FirstFaults.{IsFaultyDomain, IsFaultyProblem};
-ghost use Rattle.hv_syntax.specs.Texts.{IsDomainText, IsProblemText};
+ghost use Rattle.hv_syntax.specs.Texts.{IsDomainText, IsDomainFault, IsProblemText, IsProblemFault};
 ghost use Rattle.hv_syntax.specs.Spellings.{SpellsTerm, SpellsAtom, SpellsTyped, SpellsFormula, SpellsLiteral, SpellsEffect, SpellsList, SpellsSubtask, SpellsPair, SpellsConstraint};
 
 use hv_text::a_text_has_one_reading;
@@ -78,7 +78,11 @@ pub fn faults_are_first()
 {}
 
 /// Letter case decides nothing: a text whose lower case is that of another has the same expressions at
-/// the same places, and so says the same.
+/// the same places, says the same, and has the same fault.
 pub fn letter_case_decides_nothing()
-    ensures { (text other : List ℕ) (ts : Trees) → lower text ≡ lower other → AreExpressions text ts → AreExpressions other ts }
+    ensures expressions { (text other : List ℕ) (ts : Trees) → lower text ≡ lower other → AreExpressions text ts → AreExpressions other ts }
+    ensures domain { (text other : List ℕ) (d : Domain) → lower text ≡ lower other → IsDomainText text d → IsDomainText other d }
+    ensures problem { (text other : List ℕ) (p : Problem) → lower text ≡ lower other → IsProblemText text p → IsProblemText other p }
+    ensures domain_fault { (text other : List ℕ) (kind : SyntaxKind) (s : Span) → lower text ≡ lower other → IsDomainFault text kind s → IsDomainFault other kind s }
+    ensures problem_fault { (text other : List ℕ) (kind : SyntaxKind) (s : Span) → lower text ≡ lower other → IsProblemFault text kind s → IsProblemFault other kind s }
 {}
