@@ -1,12 +1,11 @@
 -- Two texts with the same lower case have the same words, expressions and faults, at the same places.
-use Rattle.std.proofs.Common.{◌≡◌, ◌==◌, ℕ, ◌+◌, ◌<◌, ◌≤◌, Bool, true, false, not, List, [], ◌∷◌, ◌++◌, length, take, zero, suc, map, refl, sym, ap, ◌∙◌, subst, arith, if◌then◌else◌}
+use Rattle.std.proofs.Common.{◌≡◌, ◌==◌, ℕ, ◌+◌, ◌≤◌, Bool, true, false, List, [], ◌∷◌, ◌++◌, length, take, zero, suc, refl, sym, ap, ◌∙◌, subst, arith, if◌then◌else◌}
 use Rattle.std.specs.List.{take_while, prefix_len}
 use Rattle.std.specs.Char.{to_ascii_lowercase}
 use Rattle.std.proofs.lemmas.List.{length-map}
 use Rattle.std.proofs.lemmas.Str.Ascii.{lowercase-lowercase}
 use Rattle.hv_text.specs.Bytes.{is_blank, is_word_byte, lower}
-use Rattle.hv_text.specs.Words.{Piece, class_of, in_comment, uncommented, beginning, pieces_from, pieces}
-use Rattle.hv_text.specs.Words as found
+use Rattle.hv_text.specs.Words.{class_of, in_comment, uncommented, beginning, pieces_from, pieces}
 use Rattle.hv_text.specs.Trees.{Trees}
 use Rattle.hv_text.specs.Sexps.{AreExpressions, IsSound, IsFirstFault, IsUnclosed, open_before, IsTextFault}
 use Rattle.hv_text.specs.declared.words.Class.{Class}

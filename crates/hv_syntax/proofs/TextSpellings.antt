@@ -9,7 +9,7 @@ use Rattle.hv_syntax.specs.declared.section.Standing.TheVariants as standings
 use Rattle.hv_syntax.specs.declared.fault.SyntaxKind.{SyntaxKind}
 use Rattle.hv_syntax.specs.Words.{is, sorted_word_of}
 use Rattle.hv_syntax.specs.Reading.{every}
-use Rattle.hv_syntax.specs.Values.{WordAt, Literal, Htn, Domain, Problem, Formula}
+use Rattle.hv_syntax.specs.Values.{WordAt, Literal, Htn, Domain, Problem}
 use Rattle.hv_syntax.specs.TypedLists.{typed_list_of}
 use Rattle.hv_syntax.specs.Formulas.{formula_of}
 use Rattle.hv_syntax.specs.Literals.{ground_literal_of}
@@ -24,7 +24,7 @@ use Rattle.hv_text.specs.Sexps.{AreExpressions}
 use Rattle.hv_syntax.specs.Texts.{IsSpelledBy}
 use Rattle.hv_syntax.specs.Tables as tables
 use Rattle.hv_syntax.specs.Tables.{SpellsPredicate, SpellsTask, SpellsMethod, SpellsAction, SpellsHtn, SpellsDomainSection, SpellsProblemSection, MayStand, for_the_first_time, as_often_as_wanted, SpellsSection, a_section, SpellSections, no_sections, more_sections, SpellsDefine, a_definition, IsDomain, a_domain, IsProblem, a_problem}
-use Rattle.hv_syntax.proofs.SpellingLemmas.{same_word, if_map, if_weaker, word_read, word_spelled, each_read, each_spelled, typed_list_read, typed_list_spelled, formula_is_read, formula_is_spelled}
+use Rattle.hv_syntax.proofs.SpellingLemmas.{same_word, if_map, word_read, word_spelled, each_read, each_spelled, typed_list_read, typed_list_spelled, formula_is_read, formula_is_spelled}
 use Rattle.hv_syntax.proofs.PartSpellings.{ground_read, ground_spelled}
 use Rattle.hv_syntax.proofs.TableLemmas.{if_tested, predicates_read, predicates_spelled, task_read, task_spelled, method_read, method_spelled, action_read, action_spelled, htn_read, htn_spelled}
 

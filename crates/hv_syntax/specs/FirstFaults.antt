@@ -1,6 +1,6 @@
 -- The first fault of a text that is no domain or no problem, row by row.
-use Rattle.std.specs.Prelude.{◌≡◌, ℕ, true, false, List, [], ◌∷◌, ◌++◌, Option, Some, None, codes}
-use Rattle.hv_text.specs.Trees.{Tree, Trees, none, more, place_of}
+use Rattle.std.specs.Prelude.{◌≡◌, ℕ, true, false, List, [], ◌∷◌, ◌++◌, Some, None, codes}
+use Rattle.hv_text.specs.Trees.{Tree, Trees, more, place_of}
 use Rattle.hv_text.specs.declared.span.Span.{Span}
 use Rattle.hv_syntax.specs.declared.section.Standing.{Standing}
 use Rattle.hv_syntax.specs.declared.section.Standing.TheVariants as standings
