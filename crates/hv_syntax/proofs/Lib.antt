@@ -9,3 +9,5 @@ pub mod SpellingLemmas
 pub mod PartSpellings
 pub mod TableLemmas
 pub mod TextSpellings
+pub mod FaultSpellings
+pub mod LetterCase
