@@ -1,7 +1,7 @@
 -- What the members of a list spell as formulas.
-use Rattle.std.proofs.Common.{◌≡◌, ◌≤◌, arith, List, [], ◌∷◌, length, map, Option, Some, None, refl, ap, rules, option_map}
+use Rattle.std.proofs.Common.{◌≡◌, List, [], ◌∷◌, length, map, Option, Some, None, refl, ap, rules}
 use Rattle.std.specs.Global.{Vec, Box}
-use Rattle.hv_text.specs.Trees.{Tree, Trees, none, more, tree, trees}
+use Rattle.hv_text.specs.Trees.{Trees, none, more, tree, trees}
 use Rattle.hv_text.specs.declared.sexp.Sexp.{Sexp}
 use Rattle.hv_syntax.specs.declared.formula.FormulaText.{FormulaText, And, Or, Not, Imply, Forall, Exists, Equal, the_lemmas}
 use Rattle.hv_syntax.specs.declared.term.TermText.{TermText}
@@ -9,7 +9,7 @@ use Rattle.hv_syntax.specs.declared.typed.TypedText.{TypedText}
 use Rattle.hv_syntax.specs.declared.word.Head.{Head}
 use Rattle.hv_syntax.specs.declared.word.Head.TheVariants as heads
 use Rattle.hv_syntax.specs.Reading.{both, every, all_some}
-use Rattle.hv_syntax.specs.Values.{WordAt, Typed, Formula, not, imply, forall, exists, equal}
+use Rattle.hv_syntax.specs.Values.{WordAt, not, imply, forall, exists, equal}
 use Rattle.hv_syntax.specs.Formulas.{formula_of, each_formula, and_all, or_all, formula_by, negation, implication, quantified, variables_of}
 use Rattle.hv_syntax.specs.Views.{formula_view, typed_view, term_view}
 

@@ -10,3 +10,5 @@ pub mod PartSpellings
 pub mod TableLemmas
 pub mod TextSpellings
 pub mod PrintLemmas
+pub mod FaultSpellings
+pub mod LetterCase

@@ -1,11 +1,10 @@
 -- A section that is not read.
-use Rattle.std.proofs.Common.{◌≡◌, ℕ, Bool, true, false, List, Option, Some, None, Result, Err, refl, sym, ◌∙◌}
+use Rattle.std.proofs.Common.{◌≡◌, ℕ, Bool, true, false, List, Option, Some, None, Err, refl}
 use Rattle.hv_text.specs.Trees.{Tree, Trees, place_of}
 use Rattle.hv_text.specs.declared.span.Span.{Span}
 use Rattle.hv_syntax.specs.declared.section.Standing.{Standing}
 use Rattle.hv_syntax.specs.declared.refusal.Refusal.{Refusal}
 use Rattle.hv_syntax.specs.declared.refusal.Refusal.TheVariants as refusals
-use Rattle.hv_syntax.specs.declared.fault.SyntaxKind.{SyntaxKind}
 use Rattle.hv_syntax.specs.declared.fault.SyntaxFault.{SyntaxFault}
 use Rattle.hv_syntax.specs.Reading.{Fails}
 use Rattle.hv_syntax.specs.Faults.{OfExpressions, IsUnread}

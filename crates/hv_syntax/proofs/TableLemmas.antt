@@ -1,27 +1,27 @@
 -- What the table spells of fields, declarations, sections and whole texts is what is read.
-use Rattle.std.proofs.Common.{◌≡◌, ℕ, ◌&&◌, Bool, true, false, List, [], ◌∷◌, ◌++◌, Option, Some, None, ◌↔◌, option_map, refl, sym, ap, ◌∙◌, subst, codes, if◌then◌else◌}
-use Rattle.std.specs.Prelude.{IfSome, IfOk, option_and_then, Result, Ok, Err}
-use Rattle.hv_text.specs.Trees.{Tree, word, list, Trees, none, more, place_of}
+use Rattle.std.proofs.Common.{◌≡◌, ◌&&◌, Bool, true, false, List, [], ◌∷◌, Option, Some, None, option_map, refl, ap, if◌then◌else◌}
+use Rattle.std.specs.Prelude.{IfSome}
+use Rattle.hv_text.specs.Trees.{Tree, word, list, Trees, none, more}
 use Rattle.hv_text.specs.declared.span.Span.{Span}
 use Rattle.hv_syntax.specs.declared.word.Sort.TheVariants as sorts
 use Rattle.hv_syntax.specs.declared.field.Slot.{Slot}
 use Rattle.hv_syntax.specs.declared.field.Slot.TheVariants as slots
-use Rattle.hv_syntax.specs.Words.{symbol_of, sorted_word_of}
-use Rattle.hv_syntax.specs.Reading.{both, every, only, tuple}
+use Rattle.hv_syntax.specs.Words.{symbol_of}
+use Rattle.hv_syntax.specs.Reading.{both, every, tuple}
 use Rattle.hv_syntax.specs.Values.{WordAt, Atom, Typed, Formula, and, no_formulas, Effect, effect, Subtask, Pair, Constraint, Network, Predicate, predicate, Task, task, Method, method, Action, action, Htn, htn}
 use Rattle.hv_syntax.specs.Terms.{atom_of}
 use Rattle.hv_syntax.specs.TypedLists.{typed_list_of}
 use Rattle.hv_syntax.specs.Lists.{listed}
 use Rattle.hv_syntax.specs.Formulas.{formula_of}
-use Rattle.hv_syntax.specs.Literals.{effect_of, ground_literal_of}
+use Rattle.hv_syntax.specs.Literals.{effect_of}
 use Rattle.hv_syntax.specs.Fields.{field, is_field_list}
 use Rattle.hv_syntax.specs.Networks.{pair_of, constraint_of, subtask_of, listed_at, subtasks_by, network_with, network_of}
 use Rattle.hv_syntax.specs.Declarations.{predicate_of, parameters_at, precondition_at, effect_at, task_at, is_nothing, task_named, task_of, method_slots, method_named, method_of, action_named, action_of}
 use Rattle.hv_syntax.specs.Problems.{htn_slots, htn_of}
-use Rattle.hv_syntax.specs.Spellings.{SpellsWord, SpellsSymbol, SpellEach, SpellsList, SpellsAtom, SpellsTyped, SpellsFormula, SpellsGround, SpellsEffect, SpellsSubtask, SpellsPair, SpellsConstraint}
+use Rattle.hv_syntax.specs.Spellings.{SpellsSymbol, SpellEach, SpellsList, SpellsAtom, SpellsTyped, SpellsFormula, SpellsEffect, SpellsSubtask, SpellsPair, SpellsConstraint}
 use Rattle.hv_syntax.specs.Tables.{SpellsIfAny, is_absent, is_present, SpellsField, it_stands, SpellsParameters, parameters, SpellsForm, no_form, unordered, ordered, SpellsNetwork, a_network, SpellsPredicate, a_predicate, SpellsTask, a_task, SpellsMethod, a_method, SpellsAction, an_action, SpellsHtn, an_htn}
-use Rattle.hv_syntax.proofs.SpellingLemmas.{if_map, if_both, if_then, if_weaker, agree, word_read, word_spelled, symbol_read, symbol_spelled, each_read, each_spelled, atom_read, atom_spelled, typed_list_read, typed_list_spelled, formula_is_read, formula_is_spelled}
-use Rattle.hv_syntax.proofs.PartSpellings.{ground_read, ground_spelled, effect_read, effect_spelled, subtasks_read, subtasks_spelled, pairs_read, pairs_spelled, constraints_read, constraints_spelled}
+use Rattle.hv_syntax.proofs.SpellingLemmas.{if_map, if_both, if_then, if_weaker, symbol_read, symbol_spelled, each_read, each_spelled, atom_read, atom_spelled, typed_list_read, typed_list_spelled, formula_is_read, formula_is_spelled}
+use Rattle.hv_syntax.proofs.PartSpellings.{effect_read, effect_spelled, subtasks_read, subtasks_spelled, pairs_read, pairs_spelled, constraints_read, constraints_spelled}
 
 -- fields that may be absent
 parameters_read : (o : Option Tree) (xs : List Typed) → SpellsIfAny SpellsParameters [] o xs → parameters_at o ≡ Some xs

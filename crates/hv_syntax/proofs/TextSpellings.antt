@@ -9,7 +9,7 @@ use Rattle.hv_syntax.specs.declared.section.Standing.TheVariants as standings
 use Rattle.hv_syntax.specs.declared.fault.SyntaxKind.{SyntaxKind}
 use Rattle.hv_syntax.specs.Words.{is, sorted_word_of}
 use Rattle.hv_syntax.specs.Reading.{every}
-use Rattle.hv_syntax.specs.Values.{WordAt, Literal, Htn, Domain, Problem, Formula}
+use Rattle.hv_syntax.specs.Values.{WordAt, Literal, Htn, Domain, Problem}
 use Rattle.hv_syntax.specs.TypedLists.{typed_list_of}
 use Rattle.hv_syntax.specs.Formulas.{formula_of}
 use Rattle.hv_syntax.specs.Literals.{ground_literal_of}
@@ -21,10 +21,10 @@ use Rattle.hv_syntax.specs.Problems as problems
 use Rattle.hv_syntax.specs.Problems.{ProblemSection, is_for, has_objects, has_htn, has_init, has_goal, problem_standing, problem_section_by, htn_of, goal_of, Parts, no_parts, add_part, parts_from, whole_by, whole, problem_in, problem_of}
 use Rattle.hv_syntax.specs.Spellings.{SpellsWord, SpellEach, SpellsTyped, SpellsFormula, SpellsGround}
 use Rattle.hv_text.specs.Sexps.{AreExpressions}
-use Rattle.hv_syntax.specs.Texts.{IsReadAs}
+use Rattle.hv_syntax.specs.Texts.{IsSpelledBy}
 use Rattle.hv_syntax.specs.Tables as tables
 use Rattle.hv_syntax.specs.Tables.{SpellsPredicate, SpellsTask, SpellsMethod, SpellsAction, SpellsHtn, SpellsDomainSection, SpellsProblemSection, MayStand, for_the_first_time, as_often_as_wanted, SpellsSection, a_section, SpellSections, no_sections, more_sections, SpellsDefine, a_definition, IsDomain, a_domain, IsProblem, a_problem}
-use Rattle.hv_syntax.proofs.SpellingLemmas.{same_word, if_map, if_weaker, word_read, word_spelled, each_read, each_spelled, typed_list_read, typed_list_spelled, formula_is_read, formula_is_spelled}
+use Rattle.hv_syntax.proofs.SpellingLemmas.{same_word, if_map, word_read, word_spelled, each_read, each_spelled, typed_list_read, typed_list_spelled, formula_is_read, formula_is_spelled}
 use Rattle.hv_syntax.proofs.PartSpellings.{ground_read, ground_spelled}
 use Rattle.hv_syntax.proofs.TableLemmas.{if_tested, predicates_read, predicates_spelled, task_read, task_spelled, method_read, method_spelled, action_read, action_spelled, htn_read, htn_spelled}
 
@@ -41,7 +41,7 @@ grounds_read = each_read ground_literal_of SpellsGround ground_read ground_spell
 grounds_spelled : (ts : Trees) → IfSome (every ground_literal_of ts) (SpellEach SpellsGround ts)
 grounds_spelled = each_spelled ground_literal_of SpellsGround ground_read ground_spelled
 
-domain_section_read : (w : List ℕ) (s : Span) (ts : Trees) (x : DomainSection) → SpellsDomainSection w s ts x → domain_section_by w s ts ≡ Some x
+pub domain_section_read : (w : List ℕ) (s : Span) (ts : Trees) (x : DomainSection) → SpellsDomainSection w s ts x → domain_section_by w s ts ≡ Some x
 domain_section_read _ _ _ _ (tables.requirements s ts ws h) = ap (option_map has_requirements) (keywords_read ts ws h)
 domain_section_read _ _ _ _ (tables.types s ts xs h) = ap (option_map has_types) (typed_list_read sorts.Name ts xs h)
 domain_section_read _ _ _ _ (tables.constants s ts xs h) = ap (option_map has_constants) (typed_list_read sorts.Name ts xs h)
@@ -56,7 +56,7 @@ headed_so : {S : Type 0} (Spells : List ℕ → S → Type 0) (w v : List ℕ) (
 headed_so Spells w v o r true e h k = subst (λ u. IfSome o (Spells u)) (sym (same_word w v e)) h
 headed_so Spells w v o r false e h k = k
 
-domain_section_spelled : (w : List ℕ) (s : Span) (ts : Trees) → IfSome (domain_section_by w s ts) (SpellsDomainSection w s ts)
+pub domain_section_spelled : (w : List ℕ) (s : Span) (ts : Trees) → IfSome (domain_section_by w s ts) (SpellsDomainSection w s ts)
 domain_section_spelled w s ts =
     let Spells : List ℕ → DomainSection → Type 0 = λ v x. SpellsDomainSection v s ts x in
     headed_so Spells w (codes ":requirements") _ _ (is w (codes ":requirements")) refl
@@ -76,7 +76,7 @@ domain_section_spelled w s ts =
     tt))))))
 
 -- and of a problem
-problem_section_read : (w : List ℕ) (s : Span) (ts : Trees) (x : ProblemSection) → SpellsProblemSection w s ts x → problem_section_by w s ts ≡ Some x
+pub problem_section_read : (w : List ℕ) (s : Span) (ts : Trees) (x : ProblemSection) → SpellsProblemSection w s ts x → problem_section_by w s ts ≡ Some x
 problem_section_read _ _ _ _ (tables.domain_name s t w h) = ap (option_map is_for) (word_read sorts.Name t w h)
 problem_section_read _ _ _ _ (tables.problem_requirements s ts ws h) = ap (option_map problems.has_requirements) (keywords_read ts ws h)
 problem_section_read _ _ _ _ (tables.objects s ts xs h) = ap (option_map has_objects) (typed_list_read sorts.Name ts xs h)
@@ -96,7 +96,7 @@ goal_spelled s (more t none) =
     if_map has_goal (SpellsFormula t) (SpellsProblemSection (codes ":goal") s (more t none)) (λ f h. tables.goal s t f h) (formula_of t) (formula_is_spelled t)
 goal_spelled s (more t (more u ts)) = tt
 
-problem_section_spelled : (w : List ℕ) (s : Span) (ts : Trees) → IfSome (problem_section_by w s ts) (SpellsProblemSection w s ts)
+pub problem_section_spelled : (w : List ℕ) (s : Span) (ts : Trees) → IfSome (problem_section_by w s ts) (SpellsProblemSection w s ts)
 problem_section_spelled w s ts =
     let Spells : List ℕ → ProblemSection → Type 0 = λ v x. SpellsProblemSection v s ts x in
     headed_so Spells w (codes ":domain") _ _ (is w (codes ":domain")) refl (name_spelled s ts)
@@ -118,7 +118,7 @@ if_ok P Q h (Err e) p = tt
 
 module _ {S V : Type 0} (standing : List ℕ → Standing) (spelled : List ℕ → Span → Trees → Option S) (Spells : List ℕ → Span → Trees → S → Type 0) (add : V → S → V)
     (read : (w : List ℕ) (s : Span) (ts : Trees) (x : S) → Spells w s ts x → spelled w s ts ≡ Some x) (found : (w : List ℕ) (s : Span) (ts : Trees) → IfSome (spelled w s ts) (Spells w s ts)) where
-  stands : (before : List Tree) (w : List ℕ) → MayStand standing before w → refused (standing w) (occurs w before) ≡ None
+  pub stands : (before : List Tree) (w : List ℕ) → MayStand standing before w → refused (standing w) (occurs w before) ≡ None
   stands before w (for_the_first_time e f) = rw (e, f) refl
   stands before w (as_often_as_wanted e) = rw e refl
 
@@ -129,7 +129,7 @@ module _ {S V : Type 0} (standing : List ℕ → Standing) (spelled : List ℕ �
   may_stand before w standings.Unsupported b e f h = cc
   may_stand before w standings.Unknown b e f h = cc
 
-  section_read : (before : List Tree) (t : Tree) (x : S) → SpellsSection standing Spells before t x → section_of standing spelled before t ≡ Ok x
+  pub section_read : (before : List Tree) (t : Tree) (x : S) → SpellsSection standing Spells before t x → section_of standing spelled before t ≡ Ok x
   section_read before _ _ (a_section w p s ts x m h) = rw (stands before w m, read w s ts x h) refl
 
   judged_is : (before : List Tree) (w : List ℕ) (p s : Span) (ts : Trees) (o : Option SyntaxKind) (odd : Bool) (r : Option S) → (o ≡ None → MayStand standing before w) → IfSome r (Spells w s ts)
@@ -138,14 +138,14 @@ module _ {S V : Type 0} (standing : List ℕ → Standing) (spelled : List ℕ �
   judged_is before w p s ts None odd None m h = tt
   judged_is before w p s ts None odd (Some x) m h = a_section w p s ts x (m refl) h
 
-  section_is : (before : List Tree) (t : Tree) → IfOk (section_of standing spelled before t) (SpellsSection standing Spells before t)
+  pub section_is : (before : List Tree) (t : Tree) → IfOk (section_of standing spelled before t) (SpellsSection standing Spells before t)
   section_is before (word w s) = tt
   section_is before (list none s) = tt
   section_is before (list (more (list us p) ts) s) = tt
   section_is before (list (more (word w p) ts) s) =
       judged_is before w p s ts (refused (standing w) (occurs w before)) (has_unsupported w ts) (spelled w s ts) (λ e. may_stand before w (standing w) (occurs w before) refl refl e) (found w s ts)
 
-  sections_read : (v : V) (before : List Tree) (ts : Trees) (u : V) → SpellSections standing Spells add v before ts u → sections_from (section_of standing spelled) add v before ts ≡ Ok u
+  pub sections_read : (v : V) (before : List Tree) (ts : Trees) (u : V) → SpellSections standing Spells add v before ts u → sections_from (section_of standing spelled) add v before ts ≡ Ok u
   sections_read _ _ _ _ (no_sections v before) = refl
   sections_read _ _ _ _ (more_sections v u before t ts x h k) =
       ap (λ r. r >>= (λ y. sections_from (section_of standing spelled) add (add v y) (before ++ t ∷ []) ts)) (section_read before t x h) ∙ sections_read (add v x) (before ++ t ∷ []) ts u k
@@ -158,16 +158,16 @@ module _ {S V : Type 0} (standing : List ℕ → Standing) (spelled : List ℕ �
       if_ok (SpellSections standing Spells add (add v x) (before ++ t ∷ []) ts) (SpellSections standing Spells add v before (more t ts)) (λ u l. more_sections v u before t ts x h l)
       (sections_from (section_of standing spelled) add (add v x) (before ++ t ∷ []) ts) (k x)
 
-  sections_are : (ts : Trees) (v : V) (before : List Tree) → IfOk (sections_from (section_of standing spelled) add v before ts) (SpellSections standing Spells add v before ts)
+  pub sections_are : (ts : Trees) (v : V) (before : List Tree) → IfOk (sections_from (section_of standing spelled) add v before ts) (SpellSections standing Spells add v before ts)
   sections_are none v before = no_sections v before
   sections_are (more t ts) v before =
       next_is v before t ts (section_of standing spelled before t) (section_is before t) (λ x. sections_are ts (add v x) (before ++ t ∷ []))
 
 -- what stands around them
-define_read : (kind : List ℕ) (es : Trees) (n : WordAt) (ts : Trees) (s : Span) → SpellsDefine kind es n ts s → sections_of kind es ≡ Some (n, ts, s)
+pub define_read : (kind : List ℕ) (es : Trees) (n : WordAt) (ts : Trees) (s : Span) → SpellsDefine kind es n ts s → sections_of kind es ≡ Some (n, ts, s)
 define_read kind _ _ _ _ (a_definition d p k q t n r ts s e f h) = rw (e, f, word_read sorts.Name t n h) refl
 
-abbrev Defines : List ℕ → Trees → WordAt × Trees × Span → Type 0
+abbrev pub Defines : List ℕ → Trees → WordAt × Trees × Span → Type 0
 Defines kind es (n, ts, s) = SpellsDefine kind es n ts s
 
 title_spelled : (kind : List ℕ) (d : List ℕ) (p : Span) (t : Tree) (ts : Trees) (s : Span) → is d (codes "define") ≡ true
@@ -194,7 +194,7 @@ title_spelled kind d p (list (more (word k q) (more t (more u us))) r) ts s e = 
     named true = tt
     named false = tt
 
-define_spelled : (kind : List ℕ) (es : Trees) → IfSome (sections_of kind es) (Defines kind es)
+pub define_spelled : (kind : List ℕ) (es : Trees) → IfSome (sections_of kind es) (Defines kind es)
 define_spelled kind none = tt
 define_spelled kind (more t (more u ts)) = tt
 define_spelled kind (more (word w s) none) = tt
@@ -261,6 +261,7 @@ pub one_problem : (es : Trees) (p q : Problem) → IsProblem es p → IsProblem 
 one_problem es p q h k = same_value p q (sym (problem_read es p h) ∙ problem_read es q k)
 
 -- of a text, where it has one reading as expressions
-module _ {V : Type 0} (reading : Trees → Result V (SyntaxKind × Span)) (text : List ℕ) (one : (ts us : Trees) → AreExpressions text ts → AreExpressions text us → ts ≡ us) where
-  pub one_text : (a b : V) → IsReadAs reading text (Ok a) → IsReadAs reading text (Ok b) → a ≡ b
-  one_text a b (ts, are, e) (us, be, f) = same_value a b (sym e ∙ ap reading (one ts us are be) ∙ f)
+module _ {V : Type 0} (Spells : Trees → V → Type 0) (single : (es : Trees) (a b : V) → Spells es a → Spells es b → a ≡ b) (text : List ℕ)
+    (one : (ts us : Trees) → AreExpressions text ts → AreExpressions text us → ts ≡ us) where
+  pub one_text : (a b : V) → IsSpelledBy Spells text a → IsSpelledBy Spells text b → a ≡ b
+  one_text a b (ts, are, e) (us, be, f) = single ts a b e (subst (λ es. Spells es b) (one us ts be are) f)

@@ -2,7 +2,7 @@
 use Rattle.std.proofs.Common.{◌≡◌, ◌==◌, map, ℕ, ◌+◌, ◌<◌, Bool, true, false, List, [], ◌∷◌, ◌++◌, length, drop, get_or, Option, Some, None, refl, sym, ap, ◌∙◌, codes}
 use Rattle.std.proofs.lemmas.List.{append_assoc}
 use Rattle.hv_text.specs.Names.{text_of}
-use Rattle.hv_text.specs.Trees.{Tree, word, Trees, none, more, tree, trees}
+use Rattle.hv_text.specs.Trees.{word, Trees, more, tree, trees}
 use Rattle.hv_text.specs.declared.name.Name.{Name}
 use Rattle.hv_text.specs.declared.span.Span.{Span}
 use Rattle.hv_text.specs.declared.sexp.Sexp.{Sexp, Word}

@@ -7,7 +7,7 @@ use Rattle.hv_syntax.specs.declared.field.Slot.{Slot}
 use Rattle.hv_syntax.specs.declared.field.Slot.TheVariants as slots
 use Rattle.hv_syntax.specs.Words.{symbol_of}
 use Rattle.hv_syntax.specs.Reading.{both, tuple}
-use Rattle.hv_syntax.specs.Values.{WordAt, Atom, Typed, Formula, and, no_formulas, Effect, effect, Network, Predicate, predicate, Task, task, Method, method, Action, action}
+use Rattle.hv_syntax.specs.Values.{WordAt, Atom, Typed, Formula, and, no_formulas, Effect, effect, Predicate, predicate, Task, task, Method, method, Action, action}
 use Rattle.hv_syntax.specs.Terms.{atom_of}
 use Rattle.hv_syntax.specs.TypedLists.{typed_list_of}
 use Rattle.hv_syntax.specs.Lists.{conjuncts}

@@ -6,7 +6,7 @@ use Rattle.hv_syntax.specs.declared.word.Head.{Head}
 use Rattle.hv_syntax.specs.declared.word.Head.TheVariants as heads
 use Rattle.hv_syntax.specs.Words.{head_of}
 use Rattle.hv_syntax.specs.Reading.{both, every, all_some, tuple, two}
-use Rattle.hv_syntax.specs.Values.{WordAt, word_at, Term, Atom, atom_with, Typed, Formula, holds, and, or, not, imply, forall, exists, equal, no_formulas, formulas_of}
+use Rattle.hv_syntax.specs.Values.{WordAt, word_at, atom_with, Typed, Formula, holds, and, or, not, imply, forall, exists, equal, no_formulas, formulas_of}
 use Rattle.hv_syntax.specs.Terms.{term_of}
 use Rattle.hv_syntax.specs.TypedLists.{typed_list_of}
 

@@ -17,6 +17,7 @@ pub mod Faults
 pub mod Texts
 pub mod Spellings
 pub mod Tables
+pub mod FirstFaults
 pub mod Views
 pub mod NetworkViews
 pub mod DeclarationViews

@@ -1,6 +1,6 @@
 -- The grammar of terms, atoms and tasks.
-use Rattle.std.specs.Prelude.{Option, Some, None, List}
-use Rattle.hv_text.specs.Trees.{Tree, word, list, Trees, none, more}
+use Rattle.std.specs.Prelude.{Option, Some, None}
+use Rattle.hv_text.specs.Trees.{Tree, word, list, none, more}
 use Rattle.hv_syntax.specs.declared.word.Sort.{Sort}
 use Rattle.hv_syntax.specs.declared.word.Sort.TheVariants as sorts
 use Rattle.hv_syntax.specs.Words.{sort_of, symbol_of}

@@ -1,33 +1,35 @@
 -- The domain or problem of a text, and the faults of texts.
-use Rattle.std.specs.Prelude.{◌≡◌, ℕ, List, Result, Ok, Err}
+use Rattle.std.specs.Prelude.{ℕ, List}
 use Rattle.hv_text.specs.Trees.{Trees}
 use Rattle.hv_text.specs.Sexps.{AreExpressions, IsTextFault}
 use Rattle.hv_text.specs.declared.span.Span.{Span}
 use Rattle.hv_syntax.specs.declared.fault.SyntaxKind.{SyntaxKind}
 use Rattle.hv_syntax.specs.declared.fault.SyntaxKind.TheVariants as kinds
 use Rattle.hv_syntax.specs.Values.{Domain, Problem}
-use Rattle.hv_syntax.specs.Domains.{domain_of}
-use Rattle.hv_syntax.specs.Problems.{problem_of}
+use Rattle.hv_syntax.specs.Tables.{IsDomain, IsProblem}
+use Rattle.hv_syntax.specs.FirstFaults.{IsFaultyDomain, IsFaultyProblem}
 
--- what a reading gives for the expressions of a text
-abbrev pub IsReadAs : {V : Type 0} → (Trees → Result V (SyntaxKind × Span)) → List ℕ → Result V (SyntaxKind × Span) → Type 0
-IsReadAs reading text r = (ts : Trees) × AreExpressions text ts × (reading ts ≡ r)
+-- a text has expressions, and they spell this value
+abbrev pub IsSpelledBy : {V : Type 0} → (Trees → V → Type 0) → List ℕ → V → Type 0
+IsSpelledBy Spells text v = (ts : Trees) × AreExpressions text ts × Spells ts v
 
 -- the fault of a text: it has no expressions, or they are faulty; that memory ran out is said of a text within the limit
-abbrev pub IsFaultBy : {V : Type 0} → (Trees → Result V (SyntaxKind × Span)) → List ℕ → SyntaxKind → Span → Type 0
-IsFaultBy reading text (kinds.Text kind) s = IsTextFault text kind s
-IsFaultBy reading text kind s = IsReadAs reading text (Err (kind, s))
+abbrev pub IsFaultBy : (Trees → SyntaxKind → Span → Type 0) → List ℕ → SyntaxKind → Span → Type 0
+IsFaultBy Faulty text (kinds.Text kind) s = IsTextFault text kind s
+IsFaultBy Faulty text kind s = (ts : Trees) × AreExpressions text ts × Faulty ts kind s
 
 -- the domain that a text says
 abbrev pub IsDomainText : List ℕ → Domain → Type 0
-IsDomainText text d = IsReadAs domain_of text (Ok d)
+IsDomainText text d = IsSpelledBy IsDomain text d
 
+-- the fault of a text that says no domain
 abbrev pub IsDomainFault : List ℕ → SyntaxKind → Span → Type 0
-IsDomainFault text kind s = IsFaultBy domain_of text kind s
+IsDomainFault text kind s = IsFaultBy IsFaultyDomain text kind s
 
 -- the problem that a text says
 abbrev pub IsProblemText : List ℕ → Problem → Type 0
-IsProblemText text p = IsReadAs problem_of text (Ok p)
+IsProblemText text p = IsSpelledBy IsProblem text p
 
+-- the fault of a text that says no problem
 abbrev pub IsProblemFault : List ℕ → SyntaxKind → Span → Type 0
-IsProblemFault text kind s = IsFaultBy problem_of text kind s
+IsProblemFault text kind s = IsFaultBy IsFaultyProblem text kind s

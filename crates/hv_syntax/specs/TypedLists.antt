@@ -1,6 +1,6 @@
 -- The grammar of typed lists: names wait for their type, which stands behind the next `-`; at the end it is `object`.
 use Rattle.std.specs.Prelude.{Bool, true, false, List, [], ◌∷◌, ◌++◌, map, Option, Some, None, codes, if◌then◌else◌}
-use Rattle.hv_text.specs.Trees.{Tree, word, list, Trees, none, more}
+use Rattle.hv_text.specs.Trees.{word, list, Trees, none, more}
 use Rattle.hv_syntax.specs.declared.word.Sort.{Sort}
 use Rattle.hv_syntax.specs.declared.word.Sort.TheVariants as sorts
 use Rattle.hv_syntax.specs.Words.{is, is_sort}

@@ -1,6 +1,8 @@
 //! What holds of the grammar. These functions do nothing: their contracts are the laws.
 
-ghost use Rattle.std.specs.Prelude.{◌≡◌, ◌↔◌, ℕ, List, Some, Ok};
+ghost use Rattle.std.specs.Prelude.{◌≡◌, ◌↔◌, ℕ, List, Some, Ok, Err};
+ghost use Rattle.hv_text.specs.Bytes.{lower};
+ghost use Rattle.hv_text.specs.Sexps.{AreExpressions};
 ghost use Rattle.hv_text.specs.Trees.{Tree, Trees};
 ghost use Rattle.hv_syntax.specs.declared.word.Sort.{Sort};
 ghost use Rattle.hv_syntax.specs.Values.{Term, Atom, Typed, Formula, Literal, Effect, Subtask, Pair, Constraint, Domain, Problem};
@@ -13,7 +15,10 @@ ghost use Rattle.hv_syntax.specs.Networks.{subtask_of, pair_of, constraint_of};
 ghost use Rattle.hv_syntax.specs.Domains.{domain_of};
 ghost use Rattle.hv_syntax.specs.Problems.{problem_of};
 ghost use Rattle.hv_syntax.specs.Tables.{IsDomain, IsProblem};
-ghost use Rattle.hv_syntax.specs.Texts.{IsDomainText, IsProblemText};
+ghost use Rattle.hv_text.specs.declared.span.Span.{Span};
+ghost use Rattle.hv_syntax.specs.declared.fault.SyntaxKind.{SyntaxKind};
+ghost use Rattle.hv_syntax.specs.FirstFaults.{IsFaultyDomain, IsFaultyProblem};
+ghost use Rattle.hv_syntax.specs.Texts.{IsDomainText, IsDomainFault, IsProblemText, IsProblemFault};
 ghost use Rattle.hv_syntax.specs.Spellings.{SpellsTerm, SpellsAtom, SpellsTyped, SpellsFormula, SpellsLiteral, SpellsEffect, SpellsList, SpellsSubtask, SpellsPair, SpellsConstraint};
 
 use hv_text::a_text_has_one_reading;
@@ -64,3 +69,20 @@ pub fn a_text_says_one_thing()
 {
     a_text_has_one_reading();
 }
+
+/// The fault that is reported is the one of the table: what stands around the sections, then the first
+/// faulty section by its head, by its standing a second time and by its shape, then a missing one.
+pub fn faults_are_first()
+    ensures domains { (es : Trees) (kind : SyntaxKind) (s : Span) → IsFaultyDomain es kind s ↔ (domain_of es ≡ Err (kind, s)) }
+    ensures problems { (es : Trees) (kind : SyntaxKind) (s : Span) → IsFaultyProblem es kind s ↔ (problem_of es ≡ Err (kind, s)) }
+{}
+
+/// Letter case decides nothing: a text whose lower case is that of another has the same expressions at
+/// the same places, says the same, and has the same fault.
+pub fn letter_case_decides_nothing()
+    ensures expressions { (text other : List ℕ) (ts : Trees) → lower text ≡ lower other → AreExpressions text ts → AreExpressions other ts }
+    ensures domain { (text other : List ℕ) (d : Domain) → lower text ≡ lower other → IsDomainText text d → IsDomainText other d }
+    ensures problem { (text other : List ℕ) (p : Problem) → lower text ≡ lower other → IsProblemText text p → IsProblemText other p }
+    ensures domain_fault { (text other : List ℕ) (kind : SyntaxKind) (s : Span) → lower text ≡ lower other → IsDomainFault text kind s → IsDomainFault other kind s }
+    ensures problem_fault { (text other : List ℕ) (kind : SyntaxKind) (s : Span) → lower text ≡ lower other → IsProblemFault text kind s → IsProblemFault other kind s }
+{}

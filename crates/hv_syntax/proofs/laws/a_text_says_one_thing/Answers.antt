@@ -1,5 +1,4 @@
-use Rattle.hv_syntax.specs.Domains.{domain_of}
-use Rattle.hv_syntax.specs.Problems.{problem_of}
+use Rattle.hv_syntax.specs.Tables.{IsDomain, IsProblem}
 use Rattle.hv_syntax.proofs.TextSpellings.{one_domain, one_problem, one_text}
 use Rattle.hv_syntax.proofs.laws.a_text_says_one_thing.Goals as goal
 
@@ -10,7 +9,7 @@ pub returns-clause-problem : goal.returns-clause-problem
 returns-clause-problem c = one_problem
 
 pub returns-clause-domain_text : goal.returns-clause-domain_text
-returns-clause-domain_text c text = one_text domain_of text (c.a_text_has_one_reading.ensures text)
+returns-clause-domain_text c text = one_text IsDomain one_domain text (c.a_text_has_one_reading.ensures text)
 
 pub returns-clause-problem_text : goal.returns-clause-problem_text
-returns-clause-problem_text c text = one_text problem_of text (c.a_text_has_one_reading.ensures text)
+returns-clause-problem_text c text = one_text IsProblem one_problem text (c.a_text_has_one_reading.ensures text)
