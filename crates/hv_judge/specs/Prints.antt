@@ -25,7 +25,7 @@ use Rattle.hv_judge.specs.declared.printing.Printed.{Printed}
 use Rattle.hv_judge.specs.declared.printing.Printed.TheVariants as ends
 use Rattle.hv_judge.specs.declared.running.RunFault.{RunFault}
 use Rattle.hv_judge.specs.declared.running.RunFault.TheVariants as runs
-use Rattle.hv_judge.specs.PlanForms.{Action}
+use Rattle.hv_judge.specs.PlanForms.{Action, Root}
 use Rattle.hv_judge.specs.PlanSpellings.{IsPlan}
 use Rattle.hv_judge.specs.Plans.{Plan, IsPlanFault}
 use Rattle.hv_judge.specs.Rejections.{fault_in, fault_nowhere, reported_plan}
@@ -37,12 +37,22 @@ abbrev pub words_text : List (List ℕ) → List ℕ
 words_text ws = flat_map (λ w. codes " " ++ w) ws
 
 -- the line of an action: its id, its name and its arguments
+abbrev pub task_text : Action → List ℕ
+task_text a = words_text (a.name ∷ a.arguments)
+
 abbrev pub action_text : Action → List ℕ
-action_text a = decimal a.id ++ words_text (a.name ∷ a.arguments) ++ codes "\n"
+action_text a = (decimal a.id ++ task_text a) ++ codes "\n"
+
+-- the line of `root`, without its end
+abbrev pub root_line : Root → List ℕ
+root_line r = codes "root" ++ ids_text r.ids
 
 -- the canonical text of a plan: the action lines and `root` with its ids, between the markers
+abbrev pub plan_lines : Plan → List ℕ
+plan_lines p = flat_map action_text p.actions ++ root_line p.root
+
 abbrev pub plan_text : Plan → List ℕ
-plan_text p = codes "==>\n" ++ flat_map action_text p.actions ++ codes "root" ++ ids_text p.root.ids ++ codes "\n<==\n"
+plan_text p = (codes "==>\n" ++ plan_lines p) ++ codes "\n<==\n"
 
 -- the kind under which a fault of a domain's or a problem's text is reported; want of memory is reported as no fault
 abbrev pub reported_kind : SyntaxKind → Option FaultKind

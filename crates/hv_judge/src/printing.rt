@@ -1,6 +1,6 @@
 //! A text printed anew: its canonical text, or the line of its rejection.
 
-ghost use Rattle.std.specs.Prelude.{◌≡◌, ◌<◌, ◌≤◌, ◌+◌, ◌-◌, ◌^◌, length, OnOk, OnErr, is_ok, if◌then◌else◌};
+ghost use Rattle.std.specs.Prelude.{◌≡◌, ◌<◌, ◌≤◌, ◌+◌, ◌-◌, ◌^◌, ◌++◌, length, codes, decimal, OnOk, OnErr, is_ok, if◌then◌else◌};
 ghost use Rattle.std.specs.List.{flat_map};
 ghost use Rattle.std.specs.Io.KnownBytes.{Appends};
 ghost use Rattle.hv_text.specs.declared.fault.TheConstants.{MOST_BYTES};
@@ -9,7 +9,7 @@ ghost use Rattle.hv_judge.specs.declared.answer.Which.TheVariants as texts;
 ghost use Rattle.hv_judge.specs.Plans.{action_view, plan_view};
 ghost use Rattle.hv_judge.specs.Text.{AppendsBeginning};
 ghost use Rattle.hv_judge.specs.Runs.{reads_failed, writes_failed, failures_at};
-ghost use Rattle.hv_judge.specs.Prints.{action_text, plan_text, reported_kind, IsPrint, IsPrintOf, WrotePrint, IsDone, IsRejection, IsTextRejection, IsPlanRejection, IsUnreadRejection};
+ghost use Rattle.hv_judge.specs.Prints.{task_text, action_text, root_line, plan_lines, plan_text, reported_kind, IsPrint, IsPrintOf, WrotePrint, IsDone, IsRejection, IsTextRejection, IsPlanRejection, IsUnreadRejection};
 
 use crate::answer::{Answer, Fault, FaultKind, Which};
 use crate::judgement::{fault_in, reported_plan};
@@ -110,11 +110,7 @@ fn print_domain_text<W: Sink>(alloc: Global, text: &[u8], out: &mut W) -> Result
 }
 
 // Prints a problem.
-fn print_problem_text<W: Sink>(
-    alloc: Global,
-    text: &[u8],
-    out: &mut W,
-) -> Result<Printed, RunFault>
+fn print_problem_text<W: Sink>(alloc: Global, text: &[u8], out: &mut W) -> Result<Printed, RunFault>
     requires text { length text.now ≤ MOST_BYTES }
     requires out { W.failures out.old < 2 ^ 64 - 1 }
     ensures wrote { WrotePrint (IsPrint text.now texts.Problem) W.taken out.old out.new result }
@@ -131,16 +127,35 @@ fn print_problem_text<W: Sink>(
     }
 }
 
+// The name of an action and its arguments, each behind a space.
+fn write_task<W: Sink>(out: &mut W, action: &ActionLine<'_>) -> Result<(), WriteFault>
+    requires { W.failures out.old < 2 ^ 64 - 1 }
+    ensures ok { OnOk result (Appends (W.taken out.old) (W.taken out.new) (task_text (action_view action.now))) }
+    ensures err { OnErr result (AppendsBeginning (W.taken out.old) (W.taken out.new) (task_text (action_view action.now))) }
+    ensures failures { W.failures out.new ≡ W.failures out.old + (if is_ok result then 0 else 1) }
+{
+    write_name(out, &action.name)?;
+    write_names(out, &action.arguments)
+}
+
+fn write_id_and_task<W: Sink>(out: &mut W, action: &ActionLine<'_>) -> Result<(), WriteFault>
+    requires { W.failures out.old < 2 ^ 64 - 1 }
+    ensures ok { OnOk result (Appends (W.taken out.old) (W.taken out.new) (decimal action.now.id ++ task_text (action_view action.now))) }
+    ensures err { OnErr result (AppendsBeginning (W.taken out.old) (W.taken out.new) (decimal action.now.id ++ task_text (action_view action.now))) }
+    ensures failures { W.failures out.new ≡ W.failures out.old + (if is_ok result then 0 else 1) }
+{
+    let mut id = Buffer::new();
+    write_all(out, id.format(action.id).as_bytes())?;
+    write_task(out, action)
+}
+
 fn write_action<W: Sink>(out: &mut W, action: &ActionLine<'_>) -> Result<(), WriteFault>
     requires { W.failures out.old < 2 ^ 64 - 1 }
     ensures ok { OnOk result (Appends (W.taken out.old) (W.taken out.new) (action_text (action_view action.now))) }
     ensures err { OnErr result (AppendsBeginning (W.taken out.old) (W.taken out.new) (action_text (action_view action.now))) }
     ensures failures { W.failures out.new ≡ W.failures out.old + (if is_ok result then 0 else 1) }
 {
-    let mut id = Buffer::new();
-    write_all(out, id.format(action.id).as_bytes())?;
-    write_name(out, &action.name)?;
-    write_names(out, &action.arguments)?;
+    write_id_and_task(out, action)?;
     write_all(out, b"\n")
 }
 
@@ -156,17 +171,55 @@ fn write_actions<W: Sink>(out: &mut W, actions: &[ActionLine<'_>]) -> Result<(),
     Ok(())
 }
 
+fn write_root_line<W: Sink>(out: &mut W, plan: &PlanText<'_>) -> Result<(), WriteFault>
+    requires { W.failures out.old < 2 ^ 64 - 1 }
+    ensures ok { OnOk result (Appends (W.taken out.old) (W.taken out.new) (root_line (plan_view plan.now).root)) }
+    ensures err { OnErr result (AppendsBeginning (W.taken out.old) (W.taken out.new) (root_line (plan_view plan.now).root)) }
+    ensures failures { W.failures out.new ≡ W.failures out.old + (if is_ok result then 0 else 1) }
+{
+    write_all(out, b"root")?;
+    write_ids(out, &plan.root)
+}
+
+fn write_plan_lines<W: Sink>(out: &mut W, plan: &PlanText<'_>) -> Result<(), WriteFault>
+    requires { W.failures out.old < 2 ^ 64 - 1 }
+    ensures ok { OnOk result (Appends (W.taken out.old) (W.taken out.new) (plan_lines (plan_view plan.now))) }
+    ensures err { OnErr result (AppendsBeginning (W.taken out.old) (W.taken out.new) (plan_lines (plan_view plan.now))) }
+    ensures failures { W.failures out.new ≡ W.failures out.old + (if is_ok result then 0 else 1) }
+{
+    write_actions(out, &plan.actions)?;
+    write_root_line(out, plan)
+}
+
+fn write_plan_beginning<W: Sink>(out: &mut W, plan: &PlanText<'_>) -> Result<(), WriteFault>
+    requires { W.failures out.old < 2 ^ 64 - 1 }
+    ensures ok { OnOk result (Appends (W.taken out.old) (W.taken out.new) (codes "==>\n" ++ plan_lines (plan_view plan.now))) }
+    ensures err { OnErr result (AppendsBeginning (W.taken out.old) (W.taken out.new) (codes "==>\n" ++ plan_lines (plan_view plan.now))) }
+    ensures failures { W.failures out.new ≡ W.failures out.old + (if is_ok result then 0 else 1) }
+{
+    write_all(out, b"==>\n")?;
+    write_plan_lines(out, plan)
+}
+
 fn write_plan<W: Sink>(out: &mut W, plan: &PlanText<'_>) -> Result<(), WriteFault>
     requires { W.failures out.old < 2 ^ 64 - 1 }
     ensures ok { OnOk result (Appends (W.taken out.old) (W.taken out.new) (plan_text (plan_view plan.now))) }
     ensures err { OnErr result (AppendsBeginning (W.taken out.old) (W.taken out.new) (plan_text (plan_view plan.now))) }
     ensures failures { W.failures out.new ≡ W.failures out.old + (if is_ok result then 0 else 1) }
 {
-    write_all(out, b"==>\n")?;
-    write_actions(out, &plan.actions)?;
-    write_all(out, b"root")?;
-    write_ids(out, &plan.root)?;
+    write_plan_beginning(out, plan)?;
     write_all(out, b"\n<==\n")
+}
+
+// Writes the canonical text of a plan.
+fn write_canonical_plan<W: Sink>(plan: &PlanText<'_>, out: &mut W) -> Result<Printed, RunFault>
+    requires { W.failures out.old < 2 ^ 64 - 1 }
+    ensures wrote { WrotePrint (IsDone (plan_text (plan_view plan.now))) W.taken out.old out.new result }
+    ensures reads { (w : Which) → reads_failed w result ≡ 0 }
+    ensures writes { W.failures out.new ≡ W.failures out.old + writes_failed result }
+{
+    write_plan(out, plan)?;
+    Ok(Printed::Done)
 }
 
 // Prints a plan.
@@ -176,12 +229,10 @@ fn print_plan_text<W: Sink>(alloc: Global, text: &[u8], out: &mut W) -> Result<P
     ensures reads { (w : Which) → reads_failed w result ≡ 0 }
     ensures writes { W.failures out.new ≡ W.failures out.old + writes_failed result }
 {
-    let plan = match read_plan(alloc, text) {
-        Ok(plan) => plan,
-        Err(fault) => return reject_plan(fault, out),
-    };
-    write_plan(out, &plan)?;
-    Ok(Printed::Done)
+    match read_plan(alloc, text) {
+        Ok(plan) => write_canonical_plan(&plan, out),
+        Err(fault) => reject_plan(fault, out),
+    }
 }
 
 // Writes the line of the rejection of a plan.
@@ -218,11 +269,7 @@ fn print_text<W: Sink>(
 }
 
 // What is done with a text that was not read: one that is too long is rejected.
-fn print_unread<W: Sink>(
-    which: Which,
-    fault: ReadFault,
-    out: &mut W,
-) -> Result<Printed, RunFault>
+fn print_unread<W: Sink>(which: Which, fault: ReadFault, out: &mut W) -> Result<Printed, RunFault>
     requires { W.failures out.old < 2 ^ 64 - 1 }
     ensures wrote { WrotePrint (IsUnreadRejection which fault) W.taken out.old out.new result }
     ensures reads { (w : Which) → reads_failed w result ≡ failures_at w which fault }

@@ -354,7 +354,12 @@ fn writers_that_falter(rt: HostRuntime) -> Result<(), Fail> {
 // What `run_print` writes.
 fn printed(alloc: Global, which: Which, text: &str) -> Result<(Printed, String), Fail> {
     let mut out = ToMemory::new(alloc);
-    let end = run_print(alloc, which, &mut FromMemory::new(text.as_bytes()), &mut out)?;
+    let end = run_print(
+        alloc,
+        which,
+        &mut FromMemory::new(text.as_bytes()),
+        &mut out,
+    )?;
     Ok((end, String::from_utf8_lossy(alloc, out.written())?))
 }
 
