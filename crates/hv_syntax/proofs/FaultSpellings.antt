@@ -1,5 +1,5 @@
 -- The first fault by the table is the one that is reported.
-use Rattle.std.proofs.Common.{◌≡◌, ℕ, Bool, true, false, List, [], ◌∷◌, ◌++◌, Option, Some, None, ◌↔◌, refl, sym, ap, ◌∙◌, subst, codes}
+use Rattle.std.proofs.Common.{◌≡◌, ℕ, Bool, true, false, List, [], ◌∷◌, ◌++◌, Option, Some, None, ◌↔◌, refl, sym, ap, ◌∙◌, subst, codes, inl, inr, ◌⊎◌}
 use Rattle.std.specs.Prelude.{IfSome, IfOk, IfErr, Result, Ok, Err}
 use Rattle.hv_text.specs.Trees.{Tree, Trees, none, more, place_of}
 use Rattle.hv_text.specs.declared.span.Span.{Span}
@@ -7,14 +7,14 @@ use Rattle.hv_syntax.specs.declared.section.Standing.{Standing}
 use Rattle.hv_syntax.specs.declared.section.Standing.TheVariants as standings
 use Rattle.hv_syntax.specs.declared.fault.SyntaxKind.{SyntaxKind}
 use Rattle.hv_syntax.specs.declared.fault.SyntaxKind.TheVariants as kinds
-use Rattle.hv_syntax.specs.Values.{WordAt, Literal, Htn, Domain}
+use Rattle.hv_syntax.specs.Values.{WordAt, Literal, Htn, Domain, Problem}
 use Rattle.hv_syntax.specs.Unsupported.{has_unsupported}
 use Rattle.hv_syntax.specs.Sections.{headed, occurs, refused, judged, at_place, section_by, section_of, sections_from, sections_of, ◌>>=◌}
 use Rattle.hv_syntax.specs.Domains.{domain_standing, domain_section_by, no_domain, add_section, domain_in, domain_of}
 use Rattle.hv_syntax.specs.Problems.{problem_standing, problem_section_by, Parts, no_parts, add_part, parts_from, whole_by, whole, problem_in, problem_of}
-use Rattle.hv_syntax.specs.Tables.{SpellsDomainSection, SpellsProblemSection, MayStand, for_the_first_time, as_often_as_wanted, SpellsSection, SpellSections, SpellsDefine}
+use Rattle.hv_syntax.specs.Tables.{SpellsDomainSection, SpellsProblemSection, MayStand, for_the_first_time, as_often_as_wanted, SpellsSection, SpellSections, SpellsDefine, IsDomain, IsProblem}
 use Rattle.hv_syntax.specs.FirstFaults.{IsSectionFault, no_head, unknown_head, unsupported_head, a_second_time, unsupported_inside, no_spelling, IsFirstFault, it_is_here, it_comes_later, IsFaultyDomain, no_definition, faulty_section, Lacks, domain_lacks, htn_lacks, init_lacks, IsFaultyProblem, no_definition_of_it, a_faulty_section, a_missing_section}
-use Rattle.hv_syntax.proofs.TextSpellings.{stands, section_read, section_is, sections_read, sections_are, define_read, domain_section_read, domain_section_spelled, problem_section_read, problem_section_spelled, Defines, define_spelled}
+use Rattle.hv_syntax.proofs.TextSpellings.{stands, section_read, section_is, sections_read, sections_are, define_read, domain_section_read, domain_section_spelled, problem_section_read, problem_section_spelled, Defines, define_spelled, domain_if, domain_table, problem_if, problem_table}
 
 -- nothing is spelled where nothing is read, and the other way round
 none_read : {A : Type 0} (P : A → Type 0) (o : Option A) → IfSome o P → ((a : A) → P a → ⊥) → o ≡ None
@@ -97,7 +97,7 @@ defined_as kind es o e = subst (λ r. IfSome r (Defines kind es)) e (define_spel
 
 -- domains
 abbrev IsDomainFaultAt : Trees → SyntaxKind × Span → Type 0
-IsDomainFaultAt es (kind, s) = IsFaultyDomain es kind s
+IsDomainFaultAt es f = IsFaultyDomain es f.0 f.1
 
 faulty_domain_read : (es : Trees) (kind : SyntaxKind) (s : Span) → IsFaultyDomain es kind s → domain_of es ≡ Err (kind, s)
 faulty_domain_read _ _ _ (no_definition es never) = ap domain_in (nothing_defined (codes "domain") es never)
@@ -122,7 +122,7 @@ domain_fault_table es kind s =
 
 -- problems
 abbrev IsProblemFaultAt : Trees → SyntaxKind × Span → Type 0
-IsProblemFaultAt es (kind, s) = IsFaultyProblem es kind s
+IsProblemFaultAt es f = IsFaultyProblem es f.0 f.1
 
 lacking : (s : Span) (n : WordAt) (p : Parts) (m : Option WordAt) (h : Option Htn) (ls : Option (List Literal)) → p.domain ≡ m → p.htn ≡ h → p.init ≡ ls → Lacks p
     → whole_by s n p m h ls ≡ Err (kinds.MissingSection, s)
@@ -167,3 +167,34 @@ problem_faulty es (Some (n, ts, s)) e =
 pub problem_fault_table : (es : Trees) (kind : SyntaxKind) (s : Span) → IsFaultyProblem es kind s ↔ (problem_of es ≡ Err (kind, s))
 problem_fault_table es kind s =
     (faulty_problem_read es kind s, λ e. subst (λ r. IfErr r (IsProblemFaultAt es)) e (problem_faulty es (sections_of (codes "problem") es) refl))
+
+-- a value or a fault, and only one of them
+either_is : {A E : Type 0} (P : A → Type 0) (Q : E → Type 0) (r : Result A E) → IfOk r P → IfErr r Q → ((a : A) × P a) ⊎ ((e : E) × Q e)
+either_is P Q (Ok a) h k = inl (a, h)
+either_is P Q (Err e) h k = inr (e, k)
+
+ok_is_no_fault : {A E : Type 0} (a : A) (e : E) (r : Result A E) → r ≡ Ok a → r ≡ Err e → ⊥
+ok_is_no_fault a e r h k = cc
+
+one_error : {A : Type 0} (k l : SyntaxKind) (s p : Span) → ◌≡◌ {A = Result A (SyntaxKind × Span)} (Err (k, s)) (Err (l, p)) → (k ≡ l) × (s ≡ p)
+one_error k l s p e =
+    let both : ◌≡◌ {A = SyntaxKind × Span} (k, s) (l, p) = cc in
+    (ap (λ z. z.0) both, ap (λ z. z.1) both)
+
+pub domain_or_fault : (es : Trees) → ((d : Domain) × IsDomain es d) ⊎ ((f : SyntaxKind × Span) × IsFaultyDomain es f.0 f.1)
+domain_or_fault es = either_is (IsDomain es) (λ f. IsFaultyDomain es f.0 f.1) (domain_of es) (domain_if es) (domain_faulty es (sections_of (codes "domain") es) refl)
+
+pub no_domain_at_fault : (es : Trees) (d : Domain) (kind : SyntaxKind) (s : Span) → IsDomain es d → IsFaultyDomain es kind s → ⊥
+no_domain_at_fault es d kind s h k = ok_is_no_fault d (kind, s) (domain_of es) ((domain_table es d).0 h) (faulty_domain_read es kind s k)
+
+pub one_domain_fault : (es : Trees) (k l : SyntaxKind) (s p : Span) → IsFaultyDomain es k s → IsFaultyDomain es l p → (k ≡ l) × (s ≡ p)
+one_domain_fault es k l s p h g = one_error k l s p (sym (faulty_domain_read es k s h) ∙ faulty_domain_read es l p g)
+
+pub problem_or_fault : (es : Trees) → ((p : Problem) × IsProblem es p) ⊎ ((f : SyntaxKind × Span) × IsFaultyProblem es f.0 f.1)
+problem_or_fault es = either_is (IsProblem es) (λ f. IsFaultyProblem es f.0 f.1) (problem_of es) (problem_if es) (problem_faulty es (sections_of (codes "problem") es) refl)
+
+pub no_problem_at_fault : (es : Trees) (p : Problem) (kind : SyntaxKind) (s : Span) → IsProblem es p → IsFaultyProblem es kind s → ⊥
+no_problem_at_fault es p kind s h k = ok_is_no_fault p (kind, s) (problem_of es) ((problem_table es p).0 h) (faulty_problem_read es kind s k)
+
+pub one_problem_fault : (es : Trees) (k l : SyntaxKind) (s p : Span) → IsFaultyProblem es k s → IsFaultyProblem es l p → (k ≡ l) × (s ≡ p)
+one_problem_fault es k l s p h g = one_error k l s p (sym (faulty_problem_read es k s h) ∙ faulty_problem_read es l p g)

@@ -216,9 +216,12 @@ domain_in_spelled es (Some (n, ts, s)) h =
     if_ok (SpellSections domain_standing SpellsDomainSection add_section (no_domain n) [] ts) (IsDomain es) (λ d k. a_domain es n ts s d h k)
     (domain_in (Some (n, ts, s))) (sections_are domain_standing domain_section_by SpellsDomainSection add_section domain_section_read domain_section_spelled ts (no_domain n) [])
 
+pub domain_if : (es : Trees) → IfOk (domain_of es) (IsDomain es)
+domain_if es = domain_in_spelled es (sections_of (codes "domain") es) (define_spelled (codes "domain") es)
+
 pub domain_table : (es : Trees) (d : Domain) → IsDomain es d ↔ (domain_of es ≡ Ok d)
 domain_table es d =
-    (domain_read es d, λ e. subst (λ r. IfOk r (IsDomain es)) e (domain_in_spelled es (sections_of (codes "domain") es) (define_spelled (codes "domain") es)))
+    (domain_read es d, λ e. subst (λ r. IfOk r (IsDomain es)) e (domain_if es))
 
 -- whole problems
 problem_read : (es : Trees) (p : Problem) → IsProblem es p → problem_of es ≡ Ok p
@@ -246,9 +249,12 @@ problem_in_spelled es (Some (n, ts, s)) h =
     parts_spelled es n ts s h (parts_from no_parts [] ts)
     (sections_are problem_standing problem_section_by SpellsProblemSection add_part problem_section_read problem_section_spelled ts no_parts [])
 
+pub problem_if : (es : Trees) → IfOk (problem_of es) (IsProblem es)
+problem_if es = problem_in_spelled es (sections_of (codes "problem") es) (define_spelled (codes "problem") es)
+
 pub problem_table : (es : Trees) (p : Problem) → IsProblem es p ↔ (problem_of es ≡ Ok p)
 problem_table es p =
-    (problem_read es p, λ e. subst (λ r. IfOk r (IsProblem es)) e (problem_in_spelled es (sections_of (codes "problem") es) (define_spelled (codes "problem") es)))
+    (problem_read es p, λ e. subst (λ r. IfOk r (IsProblem es)) e (problem_if es))
 
 -- one value
 same_value : {A E : Type 0} (a b : A) → ◌≡◌ {A = Result A E} (Ok a) (Ok b) → a ≡ b

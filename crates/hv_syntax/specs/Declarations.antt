@@ -43,10 +43,12 @@ abbrev pub task_at : Option Tree → Option Atom
 task_at None = None
 task_at (Some t) = atom_of t
 
+-- there are no members
 abbrev pub are_none : Trees → Bool
 are_none none = true
 are_none (more t ts) = false
 
+-- a list that stands as `()` or behind `and`, with no members
 abbrev pub no_conjuncts : Option Trees → Bool
 no_conjuncts None = false
 no_conjuncts (Some ts) = are_none ts

@@ -8,6 +8,7 @@ use Rattle.hv_syntax.specs.Domains.{DomainSection, has_requirements, has_types, 
 use Rattle.hv_syntax.specs.Views.{word_view, typed_view}
 use Rattle.hv_syntax.specs.DeclarationViews.{predicate_view, task_view, method_view, action_view}
 
+-- what a section of the code says
 abbrev pub domain_section_view : code.DomainSection → DomainSection
 domain_section_view (sections.Requirements v) = has_requirements (map word_view v.items)
 domain_section_view (sections.Types v) = has_types (map typed_view v.items)

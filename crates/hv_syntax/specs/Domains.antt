@@ -53,6 +53,7 @@ abbrev pub no_domain : WordAt → Domain
 no_domain n =
     record { name = n; requirements = []; types = []; constants = []; predicates = []; tasks = []; methods = []; actions = [] }
 
+-- what is known of a domain, and what one more section says
 abbrev pub add_section : Domain → DomainSection → Domain
 add_section d (has_requirements ws) = record d { requirements = ws }
 add_section d (has_types vs) = record d { types = vs }
@@ -62,9 +63,11 @@ add_section d (has_task t) = record d { tasks = d.tasks ++ t ∷ [] }
 add_section d (has_method m) = record d { methods = d.methods ++ m ∷ [] }
 add_section d (has_action a) = record d { actions = d.actions ++ a ∷ [] }
 
+-- the sections of a domain one after another, up to the first fault
 abbrev pub domain_from : Domain → List Tree → Trees → Result Domain (SyntaxKind × Span)
 domain_from = sections_from domain_section add_section
 
+-- the domain that these sections spell, where the text is a definition
 abbrev pub domain_in : Option (WordAt × Trees × Span) → Result Domain (SyntaxKind × Span)
 domain_in None = Err (kinds.NotDefine, at_start)
 domain_in (Some (n, ts, s)) = domain_from (no_domain n) [] ts

@@ -31,6 +31,7 @@ same_slot slots.Ordering slots.Ordering = true
 same_slot slots.Constraints slots.Constraints = true
 same_slot _ _ = false
 
+-- whether a slot is among these
 abbrev pub is_in : List Slot → Slot → Bool
 is_in [] s = false
 is_in (r ∷ rs) s = same_slot r s || is_in rs s

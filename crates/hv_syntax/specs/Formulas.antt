@@ -19,9 +19,11 @@ abbrev pub variables_of : Tree → Option (List Typed)
 variables_of (word w s) = None
 variables_of (list ts s) = option_and_then few (typed_list_of sorts.Variable ts)
 
+-- all of these hold
 abbrev pub and_all : List Formula → Formula
 and_all fs = and (formulas_of fs)
 
+-- one of these holds
 abbrev pub or_all : List Formula → Formula
 or_all fs = or (formulas_of fs)
 
@@ -40,6 +42,7 @@ abbrev pub quantified : Trees → List (Option Formula) → Option (List Typed �
 quantified (more vs ts) (v ∷ p ∷ []) = both tuple (variables_of vs) p
 quantified _ _ = None
 
+-- two terms, one beside the other
 abbrev pub equal_terms : Option (Tree × Tree) → Option Formula
 equal_terms None = None
 equal_terms (Some (s, t)) = both equal (term_of s) (term_of t)

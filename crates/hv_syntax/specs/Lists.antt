@@ -6,6 +6,7 @@ use Rattle.hv_syntax.specs.declared.word.Head.TheVariants as heads
 use Rattle.hv_syntax.specs.Words.{head_of}
 use Rattle.hv_syntax.specs.Reading.{every, only}
 
+-- what stands behind `and`
 abbrev pub behind_and : Head → Trees → Option Trees
 behind_and heads.And ts = Some ts
 behind_and _ ts = None
@@ -17,6 +18,7 @@ conjuncts (list none s) = Some none
 conjuncts (list (more (word w p) ts) s) = behind_and (head_of w) ts
 conjuncts (list (more (list us p) ts) s) = None
 
+-- the one thing that stands behind `not`
 abbrev pub behind_not : Head → Trees → Option Tree
 behind_not heads.Not ts = only ts
 behind_not _ ts = None
@@ -28,9 +30,11 @@ negated (list none s) = None
 negated (list (more (word w p) ts) s) = behind_not (head_of w) ts
 negated (list (more (list us p) ts) s) = None
 
+-- a list of one
 abbrev pub single : {A : Type 0} → A → List A
 single a = a ∷ []
 
+-- the members of a list, or one of them alone
 abbrev pub listed_by : {A : Type 0} → (Tree → Option A) → Option Trees → Tree → Option (List A)
 listed_by f (Some ts) e = every f ts
 listed_by f None e = option_map single (f e)

@@ -5,6 +5,7 @@ use Rattle.hv_syntax.specs.Values.{Term, constant, variable, Literal, literal, E
 use Rattle.hv_syntax.specs.Terms.{atom_of}
 use Rattle.hv_syntax.specs.Lists.{negated, listed}
 
+-- what stands behind `not`, or the whole where nothing does
 abbrev pub literal_by : Option Tree → Tree → Option Literal
 literal_by (Some t) e = option_map (literal false) (atom_of t)
 literal_by None e = option_map (literal true) (atom_of e)
@@ -17,14 +18,17 @@ literal_of e = literal_by (negated e) e
 abbrev pub effect_of : Tree → Option Effect
 effect_of e = option_map effect (listed literal_of e)
 
+-- whether a term is a name
 abbrev pub is_constant : Term → Bool
 is_constant (constant w) = true
 is_constant (variable w) = false
 
+-- whether all terms are names
 abbrev pub are_constants : List Term → Bool
 are_constants [] = true
 are_constants (x ∷ xs) = is_constant x && are_constants xs
 
+-- a literal, where its terms are names
 abbrev pub if_ground : Literal → Option Literal
 if_ground l = if are_constants l.atom.terms then Some l else None
 

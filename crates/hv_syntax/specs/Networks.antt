@@ -20,9 +20,11 @@ abbrev pub labelled : Tree → Option (Tree × Tree)
 labelled (word w s) = None
 labelled (list ts s) = with_list (two ts)
 
+-- a task with this label
 abbrev pub with_label : WordAt → Atom → Subtask
 with_label l a = subtask (Some l) a
 
+-- a label and a task, or a task alone
 abbrev pub subtask_by : Option (Tree × Tree) → Tree → Option Subtask
 subtask_by (Some (l, t)) e = both with_label (symbol_of l) (atom_of t)
 subtask_by None e = option_map (subtask None) (atom_of e)
@@ -31,6 +33,7 @@ subtask_by None e = option_map (subtask None) (atom_of e)
 abbrev pub subtask_of : Tree → Option Subtask
 subtask_of e = subtask_by (labelled e) e
 
+-- two symbols among three members, where `<` is the first or the second of them
 abbrev pub pair_by : Tree → Option (Tree × Tree) → Option Pair
 pair_by x None = None
 pair_by x (Some (y, z)) =
@@ -44,6 +47,7 @@ pair_of (word w s) = None
 pair_of (list none s) = None
 pair_of (list (more x ts) s) = pair_by x (two ts)
 
+-- two terms behind `=`
 abbrev pub equation_by : Tree → Option (Tree × Tree) → Option (Term × Term)
 equation_by x None = None
 equation_by x (Some (y, z)) = if is_the_word (codes "=") x then both tuple (term_of y) (term_of z) else None
@@ -54,6 +58,7 @@ equation_of (word w s) = None
 equation_of (list none s) = None
 equation_of (list (more x ts) s) = equation_by x (two ts)
 
+-- what stands behind `not`, or the whole where nothing does
 abbrev pub constraint_by : Option Tree → Tree → Option Constraint
 constraint_by (Some t) e = option_map (constraint false) (equation_of t)
 constraint_by None e = option_map (constraint true) (equation_of e)

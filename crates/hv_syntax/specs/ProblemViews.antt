@@ -10,9 +10,11 @@ use Rattle.hv_syntax.specs.Problems.{ProblemSection, is_for, has_requirements, h
 use Rattle.hv_syntax.specs.Views.{word_view, typed_view, formula_view, literal_view}
 use Rattle.hv_syntax.specs.NetworkViews.{network_view}
 
+-- the initial network that a value of the code says
 abbrev pub htn_view : HtnText → Htn
 htn_view h = htn h.span (map typed_view h.parameters.items) (network_view h.network)
 
+-- what a section of the code says
 abbrev pub problem_section_view : code.ProblemSection → ProblemSection
 problem_section_view (sections.Domain p) = is_for (word_view p)
 problem_section_view (sections.Requirements v) = has_requirements (map word_view v.items)
@@ -21,6 +23,7 @@ problem_section_view (sections.Htn h) = has_htn (htn_view h)
 problem_section_view (sections.Init v) = has_init (map literal_view v.items)
 problem_section_view (sections.Goal g) = has_goal (formula_view g)
 
+-- what the sections have said so far
 abbrev pub parts_view : ProblemParts → Parts
 parts_view p =
     record {

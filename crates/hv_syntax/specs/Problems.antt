@@ -73,9 +73,11 @@ pub record Parts : Type 0 where
   pub init : Option (List Literal)
   pub goal : Option Formula
 
+-- nothing is said yet
 abbrev pub no_parts : Parts
 no_parts = record { domain = None; requirements = []; objects = []; htn = None; init = None; goal = None }
 
+-- what is known of a problem, and what one more section says
 abbrev pub add_part : Parts → ProblemSection → Parts
 add_part p (is_for n) = record p { domain = Some n }
 add_part p (has_requirements ws) = record p { requirements = ws }
@@ -84,6 +86,7 @@ add_part p (has_htn h) = record p { htn = Some h }
 add_part p (has_init ls) = record p { init = Some ls }
 add_part p (has_goal f) = record p { goal = Some f }
 
+-- the sections of a problem one after another, up to the first fault
 abbrev pub parts_from : Parts → List Tree → Trees → Result Parts (SyntaxKind × Span)
 parts_from = sections_from problem_section add_part
 
@@ -95,9 +98,11 @@ whole_by s n p (Some d) (Some h) None = Err (kinds.MissingSection, s)
 whole_by s n p (Some d) (Some h) (Some ls) =
     Ok (record { name = n; domain = d; requirements = p.requirements; objects = p.objects; htn = h; init = ls; goal = p.goal })
 
+-- the same, by what the parts have
 abbrev pub whole : Span → WordAt → Parts → Result Problem (SyntaxKind × Span)
 whole s n p = whole_by s n p p.domain p.htn p.init
 
+-- the problem that these sections spell, where the text is a definition
 abbrev pub problem_in : Option (WordAt × Trees × Span) → Result Problem (SyntaxKind × Span)
 problem_in None = Err (kinds.NotDefine, at_start)
 problem_in (Some (n, ts, s)) = parts_from no_parts [] ts >>= whole s n

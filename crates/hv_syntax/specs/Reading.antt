@@ -40,6 +40,7 @@ only none = None
 only (more t none) = Some t
 only (more t (more u ts)) = None
 
+-- two values, one beside the other
 abbrev pub tuple : {A B : Type 0} → A → B → A × B
 tuple a b = (a, b)
 

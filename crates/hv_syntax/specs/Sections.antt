@@ -19,6 +19,7 @@ headed (list none s) = None
 headed (list (more (word w p) ts) s) = Some (w, ts)
 headed (list (more (list us p) ts) s) = None
 
+-- whether this is the word that heads
 abbrev pub is_head : List ℕ → Option (List ℕ × Trees) → Bool
 is_head v None = false
 is_head v (Some (w, ts)) = is w v
@@ -58,6 +59,7 @@ title_of v (word w s) = None
 title_of v (list none s) = None
 title_of v (list (more t ts) s) = if is_the_word v t then one_name ts else None
 
+-- a name, with the sections and the place beside it
 abbrev pub defined_with : Trees → Span → WordAt → WordAt × Trees × Span
 defined_with ts s n = (n, ts, s)
 
@@ -96,6 +98,7 @@ at_place s (Err kind) = Err (kind, s)
 abbrev pub section_of : {S : Type 0} → (List ℕ → Standing) → (List ℕ → Span → Trees → Option S) → List Tree → Tree → Result S (SyntaxKind × Span)
 section_of standing spelled before t = at_place (place_of t) (section_by standing spelled before (place_of t) (headed t))
 
+-- go on with the value, or stop at the fault
 infixl 10 ◌>>=◌
 abbrev pub ◌>>=◌ : {A B : Type 0} → Result A (SyntaxKind × Span) → (A → Result B (SyntaxKind × Span)) → Result B (SyntaxKind × Span)
 (Ok x) >>= f = f x

@@ -75,6 +75,7 @@ mutual
     an_equality : (w : List ℕ) (p s : Span) (t u : Tree) (x y : Term) → head_of w ≡ heads.Equal → SpellsTerm t x → SpellsTerm u y
         → SpellsFormula (list (more (word w p) (more t (more u none))) s) (equal x y)
 
+  -- formulas, one after another
   pub data SpellFormulas : Trees → Formulas → Type 0 where
     no_members : SpellFormulas none no_formulas
     more_members : (t : Tree) (ts : Trees) (f : Formula) (fs : Formulas) → SpellsFormula t f → SpellFormulas ts fs → SpellFormulas (more t ts) (more_formulas f fs)

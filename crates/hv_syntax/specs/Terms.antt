@@ -7,6 +7,7 @@ use Rattle.hv_syntax.specs.Words.{sort_of, symbol_of}
 use Rattle.hv_syntax.specs.Reading.{both, every}
 use Rattle.hv_syntax.specs.Values.{WordAt, word_at, Term, constant, variable, Atom, atom_with}
 
+-- a term by the sort of its word
 abbrev pub term_by : Sort → WordAt → Option Term
 term_by sorts.Name w = Some (constant w)
 term_by sorts.Variable w = Some (variable w)

@@ -11,6 +11,7 @@ use Rattle.hv_syntax.specs.Values.{WordAt, word_at, TypeOf, no_type, of_type, Ty
 abbrev pub with_type : TypeOf → List WordAt → List Typed
 with_type t names = map (typed t) names
 
+-- no words wait
 abbrev pub is_empty : {A : Type 0} → List A → Bool
 is_empty [] = true
 is_empty (x ∷ xs) = false

@@ -29,6 +29,7 @@ abbrev mutual
   is_form_list f none = false
   is_form_list f (more t ts) = holds_form f t || is_form_list f ts
 
+-- the first member
 abbrev pub first : Trees → Option Tree
 first none = None
 first (more t ts) = Some t
@@ -38,6 +39,7 @@ abbrev pub after_effect : Trees → Option Tree
 after_effect none = None
 after_effect (more t ts) = if is_the_word (codes ":effect") t then first ts else after_effect ts
 
+-- whether there is a member and it is a list of this kind, or holds one
 abbrev pub holds_at : Form → Option Tree → Bool
 holds_at f None = false
 holds_at f (Some t) = holds_form f t

@@ -29,6 +29,7 @@ same_sort _ _ = false
 abbrev pub is_sort : Sort → List ℕ → Bool
 is_sort sort w = same_sort (sort_of w) sort
 
+-- a name that is none of the words of formulas is a symbol
 abbrev pub symbol_if_name : Sort → Head
 symbol_if_name sorts.Name = heads.Symbol
 symbol_if_name sorts.Variable = heads.Other
@@ -58,6 +59,7 @@ abbrev pub sorted_word_of : Sort → Tree → Option WordAt
 sorted_word_of sort (word w s) = if is_sort sort w then Some (word_at w s) else None
 sorted_word_of sort (list ts s) = None
 
+-- a word, where it is a symbol
 abbrev pub symbol_by : Head → WordAt → Option WordAt
 symbol_by heads.Symbol w = Some w
 symbol_by _ w = None

@@ -1,6 +1,6 @@
 //! What holds of the grammar. These functions do nothing: their contracts are the laws.
 
-ghost use Rattle.std.specs.Prelude.{◌≡◌, ◌↔◌, ℕ, List, Some, Ok, Err};
+ghost use Rattle.std.specs.Prelude.{◌≡◌, ◌↔◌, ◌⊎◌, ℕ, List, Some, Ok, Err};
 ghost use Rattle.hv_text.specs.Bytes.{lower};
 ghost use Rattle.hv_text.specs.Sexps.{AreExpressions};
 ghost use Rattle.hv_text.specs.Trees.{Tree, Trees};
@@ -75,6 +75,16 @@ pub fn a_text_says_one_thing()
 pub fn faults_are_first()
     ensures domains { (es : Trees) (kind : SyntaxKind) (s : Span) → IsFaultyDomain es kind s ↔ (domain_of es ≡ Err (kind, s)) }
     ensures problems { (es : Trees) (kind : SyntaxKind) (s : Span) → IsFaultyProblem es kind s ↔ (problem_of es ≡ Err (kind, s)) }
+{}
+
+/// Expressions are a domain or have one fault as one, and never both; and so as a problem.
+pub fn a_value_or_a_fault()
+    ensures domain { (es : Trees) → ((d : Domain) × IsDomain es d) ⊎ ((f : SyntaxKind × Span) × IsFaultyDomain es f.0 f.1) }
+    ensures no_faulty_domain { (es : Trees) (d : Domain) (kind : SyntaxKind) (s : Span) → IsDomain es d → IsFaultyDomain es kind s → ⊥ }
+    ensures one_domain_fault { (es : Trees) (k l : SyntaxKind) (s p : Span) → IsFaultyDomain es k s → IsFaultyDomain es l p → (k ≡ l) × (s ≡ p) }
+    ensures problem { (es : Trees) → ((p : Problem) × IsProblem es p) ⊎ ((f : SyntaxKind × Span) × IsFaultyProblem es f.0 f.1) }
+    ensures no_faulty_problem { (es : Trees) (p : Problem) (kind : SyntaxKind) (s : Span) → IsProblem es p → IsFaultyProblem es kind s → ⊥ }
+    ensures one_problem_fault { (es : Trees) (k l : SyntaxKind) (s p : Span) → IsFaultyProblem es k s → IsFaultyProblem es l p → (k ≡ l) × (s ≡ p) }
 {}
 
 /// Letter case decides nothing: a text whose lower case is that of another has the same expressions at

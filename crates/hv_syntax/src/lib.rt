@@ -30,9 +30,9 @@ pub use domain::DomainText;
 pub use fault::{SyntaxFault, SyntaxKind};
 pub use formula::FormulaText;
 pub use laws::{
-    a_text_says_one_thing, atoms_are_spelled, effects_are_spelled, faults_are_first,
-    formulas_are_spelled, letter_case_decides_nothing, networks_are_spelled, texts_are_spelled,
-    typed_lists_are_spelled,
+    a_text_says_one_thing, a_value_or_a_fault, atoms_are_spelled, effects_are_spelled,
+    faults_are_first, formulas_are_spelled, letter_case_decides_nothing, networks_are_spelled,
+    texts_are_spelled, typed_lists_are_spelled,
 };
 pub use literal::{EffectText, LiteralText};
 pub use method::MethodText;
