@@ -37,3 +37,6 @@ pub use task::TaskText;
 pub use term::{AtomText, TermText};
 pub use typed::{TypeText, TypedText};
 pub use word::Placed;
+
+#[cfg(test)]
+mod print_tests;
