@@ -6,3 +6,7 @@ pub mod FormulaLemmas
 pub mod TextLemmas
 pub mod SectionLemmas
 pub mod PrintLemmas
+pub mod Again
+pub mod AgainFormulas
+pub mod AgainNetworks
+pub mod AgainDeclarations
