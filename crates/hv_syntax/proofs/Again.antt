@@ -1,15 +1,14 @@
 -- The canonical expressions of words, terms, atoms and lists are read as what they are of, places aside.
-use Rattle.std.proofs.Common.{◌≡◌, ◌==◌, ℕ, Bool, true, false, List, [], ◌∷◌, ◌++◌, map, Option, Some, None, option_map, refl, ap, ◌∙◌, codes, arith, if◌then◌else◌}
+use Rattle.std.proofs.Common.{◌≡◌, ◌==◌, ℕ, Bool, true, false, List, [], ◌∷◌, ◌++◌, map, Option, Some, None, option_map, refl, codes, arith, if◌then◌else◌}
 use Rattle.std.proofs.lemmas.Grind.{common_steps}
-use Rattle.std.specs.Prelude.{IfSome, option_and_then}
+use Rattle.std.specs.Prelude.{IfSome}
 use Rattle.hv_text.specs.Trees.{Tree, word, list, Trees, none, more}
-use Rattle.hv_text.specs.Words.{nowhere}
 use Rattle.hv_text.specs.declared.span.Span.{Span}
 use Rattle.hv_syntax.specs.declared.word.Sort.{Sort}
 use Rattle.hv_syntax.specs.declared.word.Sort.TheVariants as sorts
 use Rattle.hv_syntax.specs.declared.word.Head.{Head}
 use Rattle.hv_syntax.specs.declared.word.Head.TheVariants as heads
-use Rattle.hv_syntax.specs.Values.{WordAt, word_at, Term, Atom, atom_with, TypeOf, no_type, of_type, type_name, Typed, typed}
+use Rattle.hv_syntax.specs.Values.{WordAt, word_at, Term, atom_with, TypeOf, no_type, of_type, type_name, Typed}
 use Rattle.hv_syntax.specs.Words.{is, sort_of, is_sort, same_sort, head_of, symbol_by, symbol_of, sorted_word_of}
 use Rattle.hv_syntax.specs.Reading.{both, every, behind}
 use Rattle.hv_syntax.specs.Terms.{term_by, term_of, atom_of}

@@ -1,12 +1,12 @@
 -- The canonical sections of tasks, methods, actions and initial networks, and predicates, are read as what they are of, places aside.
-use Rattle.std.proofs.Common.{◌≡◌, ◌&&◌, Bool, true, false, List, [], ◌∷◌, map, Option, Some, None, option_map, refl, sym, ap, ◌∙◌, codes, if◌then◌else◌}
+use Rattle.std.proofs.Common.{◌≡◌, ◌&&◌, Bool, true, false, List, [], ◌∷◌, map, Option, Some, None, option_map, refl, ap, ◌∙◌, codes, if◌then◌else◌}
 use Rattle.std.specs.Prelude.{IfSome, option_and_then}
 use Rattle.hv_text.specs.Trees.{Tree, word, list, Trees, none, more}
 use Rattle.hv_text.specs.Words.{nowhere}
 use Rattle.hv_text.specs.declared.span.Span.{Span}
 use Rattle.hv_syntax.specs.declared.word.Sort.TheVariants as sorts
 use Rattle.hv_syntax.specs.declared.field.Slot.TheVariants as slots
-use Rattle.hv_syntax.specs.Values.{WordAt, Atom, Typed, Formula, and, no_formulas, Effect, effect, Subtask, Pair, Constraint, Network, network, Predicate, predicate, Task, task, Method, method, Action, action, Htn, htn}
+use Rattle.hv_syntax.specs.Values.{WordAt, Atom, Typed, Formula, Effect, Subtask, Pair, Constraint, Network, network, Predicate, predicate, Task, task, Method, method, Action, action, Htn, htn}
 use Rattle.hv_syntax.specs.Words.{symbol_of}
 use Rattle.hv_syntax.specs.Reading.{both, tuple}
 use Rattle.hv_syntax.specs.Terms.{atom_of}
@@ -15,7 +15,7 @@ use Rattle.hv_syntax.specs.Fields.{field, is_field_list}
 use Rattle.hv_syntax.specs.Networks.{network_of}
 use Rattle.hv_syntax.specs.Declarations.{predicate_of, parameters_at, precondition_at, effect_at, task_at, is_nothing, task_named, task_of, method_slots, method_named, method_of, action_named, action_of}
 use Rattle.hv_syntax.specs.Problems.{htn_slots, htn_of}
-use Rattle.hv_syntax.specs.Canonical.{the_list, word_expression, atom_expression, typed_members, formula_expression, effect_expression, with_field, network_fields}
+use Rattle.hv_syntax.specs.Canonical.{word_expression, atom_expression, typed_members, formula_expression, effect_expression, with_field, network_fields}
 use Rattle.hv_syntax.specs.CanonicalSections.{with_parameters, with_precondition, predicate_expression}
 use Rattle.hv_syntax.specs.Bare.{bare_word, bare_atom, bare_typed, bare_formula, bare_effect, bare_network, bare_predicate, bare_task, bare_method, bare_action, bare_htn}
 use Rattle.hv_syntax.proofs.Again.{if_map, if_both, IsReadAgain, symbol_again, atom_again, AreTypedAgain, typed_list_again}

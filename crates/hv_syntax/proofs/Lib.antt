@@ -10,3 +10,6 @@ pub mod Again
 pub mod AgainFormulas
 pub mod AgainNetworks
 pub mod AgainDeclarations
+pub mod AgainSections
+pub mod AgainDomains
+pub mod AgainProblems

@@ -1,5 +1,5 @@
 -- Values with their places aside: every place is 0 to 0, and a type stands by its name.
-use Rattle.std.specs.Prelude.{List, [], ◌∷◌, map, Option, option_map}
+use Rattle.std.specs.Prelude.{map, option_map}
 use Rattle.hv_text.specs.Words.{nowhere}
 use Rattle.hv_syntax.specs.Values.{WordAt, word_at, Term, constant, variable, Atom, atom_with, of_type, type_name, Typed, typed, Formula, Formulas, holds, and, or, not, imply, forall, exists, equal, no_formulas, more_formulas, Literal, literal, Effect, effect, Subtask, subtask, Pair, pair, Constraint, constraint, Network, network, Predicate, predicate, Task, task, Method, method, Action, action, Domain, Htn, htn, Problem}
 

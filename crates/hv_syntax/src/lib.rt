@@ -32,7 +32,10 @@ pub use method::MethodText;
 pub use network::{ConstraintText, NetworkText, PairText, SubtaskText};
 pub use predicate::PredicateText;
 pub use print::{print_domain, print_problem};
-pub use print_law::{effects_are_read_again, formulas_are_read_again};
+pub use print_law::{
+    domains_are_read_again, effects_are_read_again, formulas_are_read_again,
+    problems_are_read_again,
+};
 pub use problem::{HtnText, ProblemText};
 pub use read::{read_domain, read_problem};
 pub use task::TaskText;
