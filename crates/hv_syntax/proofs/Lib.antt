@@ -12,3 +12,10 @@ pub mod TextSpellings
 pub mod PrintLemmas
 pub mod FaultSpellings
 pub mod LetterCase
+pub mod Again
+pub mod AgainFormulas
+pub mod AgainNetworks
+pub mod AgainDeclarations
+pub mod AgainSections
+pub mod AgainDomains
+pub mod AgainProblems

@@ -25,3 +25,4 @@ pub mod DomainViews
 pub mod ProblemViews
 pub mod Canonical
 pub mod CanonicalSections
+pub mod Bare

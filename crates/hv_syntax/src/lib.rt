@@ -13,6 +13,7 @@ mod method;
 mod network;
 mod predicate;
 mod print;
+mod print_law;
 mod problem;
 mod read;
 mod refusal;
@@ -39,9 +40,16 @@ pub use method::MethodText;
 pub use network::{ConstraintText, NetworkText, PairText, SubtaskText};
 pub use predicate::PredicateText;
 pub use print::{print_domain, print_problem};
+pub use print_law::{
+    domains_are_read_again, effects_are_read_again, formulas_are_read_again,
+    problems_are_read_again,
+};
 pub use problem::{HtnText, ProblemText};
 pub use read::{read_domain, read_problem};
 pub use task::TaskText;
 pub use term::{AtomText, TermText};
 pub use typed::{TypeText, TypedText};
 pub use word::Placed;
+
+#[cfg(test)]
+mod print_tests;
