@@ -70,22 +70,11 @@ fn judge_command<'a>(alloc: Global) -> Result<Command<'a>, AllocError>
     Ok(command)
 }
 
-// The name of the command that prints a text of this kind.
-fn print_name(which: Which) -> &'static str
-    ensures { result.now ≡ print_name which }
-{
-    match which {
-        Which::Domain => "print-domain",
-        Which::Problem => "print-problem",
-        Which::Plan => "print-plan",
-    }
-}
-
-fn print_command<'a>(alloc: Global, which: Which) -> Result<Command<'a>, AllocError>
-    ensures app { IfOk result (λ c. app_of c ≡ print_line (print_name which)) }
+fn print_command<'a>(alloc: Global, name: &'a str) -> Result<Command<'a>, AllocError>
+    ensures app { IfOk result (λ c. app_of c ≡ print_line name.entry.now) }
     ensures local { IfOk result (λ c. (out-Command c).has_globals ≡ false) }
 {
-    let command = Command::new(alloc, print_name(which));
+    let command = Command::new(alloc, name);
     let command = with_arg(
         command,
         file_arg(alloc, "file", "The text whose canonical form is written"),
@@ -98,9 +87,9 @@ fn command<'a>(alloc: Global) -> Result<Command<'a>, AllocError>
 {
     let command = Command::new(alloc, "hddlv").subcommand_required(true);
     let command = with_command(command, judge_command(alloc)?)?;
-    let command = with_command(command, print_command(alloc, Which::Domain)?)?;
-    let command = with_command(command, print_command(alloc, Which::Problem)?)?;
-    let command = with_command(command, print_command(alloc, Which::Plan)?)?;
+    let command = with_command(command, print_command(alloc, "print-domain")?)?;
+    let command = with_command(command, print_command(alloc, "print-problem")?)?;
+    let command = with_command(command, print_command(alloc, "print-plan")?)?;
     Ok(command)
 }
 
