@@ -19,3 +19,5 @@ pub mod AgainDeclarations
 pub mod AgainSections
 pub mod AgainDomains
 pub mod AgainProblems
+pub mod Alike
+pub mod TextWords
