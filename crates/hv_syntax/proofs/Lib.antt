@@ -15,3 +15,5 @@ pub mod AgainDomains
 pub mod AgainProblems
 pub mod Alike
 pub mod TextWords
+pub mod Places
+pub mod PlacesSections

@@ -58,3 +58,8 @@ pub fn domain_texts_have_their_expression()
 pub fn problem_texts_have_their_expression()
     ensures { (p : Problem) → IsTidy (problem_expression p) → (ts : Trees) → AreExpressions (canonical_problem p) ts → bare_trees ts ≡ bare_trees (more (problem_expression p) none) }
 {}
+
+/// Where some expressions are read as a domain, those that differ from them in places alone are read as the same domain, places aside.
+pub fn domains_are_read_wherever_they_stand()
+    ensures { (us vs : Trees) (d : Domain) → bare_trees us ≡ bare_trees vs → domain_of vs ≡ Ok d → (e : Domain) × (domain_of us ≡ Ok e) × (bare_domain e ≡ bare_domain d) }
+{}
