@@ -17,3 +17,4 @@ pub mod Alike
 pub mod TextWords
 pub mod Places
 pub mod PlacesSections
+pub mod ReadBack

@@ -1,5 +1,5 @@
 -- What is read of formulas and networks does not look at places.
-use Rattle.std.proofs.Common.{◌≡◌, ◌==◌, ◌&&◌, ◌||◌, ℕ, Bool, true, false, not, List, [], ◌∷◌, ◌++◌, length, map, nat_le, Option, Some, None, option_map, refl, sym, ap, ◌∙◌, codes, if◌then◌else◌}
+use Rattle.std.proofs.Common.{◌≡◌, ◌&&◌, ℕ, Bool, true, false, not, List, [], ◌∷◌, ◌++◌, length, map, nat_le, Option, Some, None, option_map, refl, sym, ap, ◌∙◌, codes, if◌then◌else◌}
 use Rattle.std.proofs.lemmas.List.{length-map, map-append}
 use Rattle.std.specs.Prelude.{option_and_then}
 use Rattle.std.specs.Option.{is_some}
@@ -19,7 +19,7 @@ use Rattle.hv_syntax.specs.Reading.{both, every, all_some, behind, only, tuple, 
 use Rattle.hv_syntax.specs.Terms.{term_by, term_of, atom_of}
 use Rattle.hv_syntax.specs.TypedLists.{with_type, is_empty, typed_by, typed_list_of}
 use Rattle.hv_syntax.specs.Lists.{behind_and, conjuncts, behind_not, negated, single, listed_by, listed}
-use Rattle.hv_syntax.specs.Formulas.{few, variables_of, and_all, or_all, negation, implication, quantified, equal_terms, equality, formula_by, formula_of, formula_among, each_formula}
+use Rattle.hv_syntax.specs.Formulas.{few, variables_of, and_all, or_all, negation, implication, quantified, equality, formula_by, formula_of, formula_among, each_formula}
 use Rattle.hv_syntax.specs.Literals.{literal_by, literal_of, effect_of, is_constant, are_constants, if_ground, ground_literal_of}
 use Rattle.hv_syntax.specs.Fields.{slot_of, same_slot, is_in, field, is_field_list}
 use Rattle.hv_syntax.specs.Networks.{with_list, labelled, with_label, subtask_by, subtask_of, pair_by, pair_of, equation_by, equation_of, constraint_by, constraint_of, listed_at, subtasks_by, network_with, network_of}

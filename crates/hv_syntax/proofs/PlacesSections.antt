@@ -2,7 +2,7 @@
 use Rattle.std.proofs.Common.{◌≡◌, ◌&&◌, ◌||◌, ℕ, Bool, true, false, List, [], ◌∷◌, ◌++◌, map, Option, Some, None, Result, Ok, Err, option_map, refl, sym, ap, ◌∙◌, codes, if◌then◌else◌}
 use Rattle.std.proofs.lemmas.List.{map-append}
 use Rattle.std.specs.Prelude.{option_and_then}
-use Rattle.hv_text.specs.Trees.{Tree, word, list, Trees, none, more, place_of}
+use Rattle.hv_text.specs.Trees.{Tree, word, list, Trees, none, more}
 use Rattle.hv_text.specs.Words.{nowhere}
 use Rattle.hv_text.specs.declared.span.Span.{Span}
 use Rattle.hv_syntax.specs.declared.word.Sort.TheVariants as sorts
@@ -10,26 +10,22 @@ use Rattle.hv_syntax.specs.declared.field.Slot.{Slot}
 use Rattle.hv_syntax.specs.declared.field.Slot.TheVariants as slots
 use Rattle.hv_syntax.specs.declared.fault.SyntaxKind.{SyntaxKind}
 use Rattle.hv_syntax.specs.declared.section.Standing.{Standing}
-use Rattle.hv_syntax.specs.Values.{WordAt, Term, constant, variable, Atom, Typed, Formula, Formulas, holds, and, or, not, imply, forall, exists, equal, no_formulas, more_formulas, Literal, Effect, Subtask, Constraint, Network, Predicate, predicate, Task, task, Method, method, Action, action, Domain, Htn, htn, Problem}
+use Rattle.hv_syntax.specs.Values.{WordAt, Term, constant, variable, Atom, Typed, Formula, Formulas, holds, and, or, not, imply, forall, exists, equal, no_formulas, more_formulas, Literal, Effect, Network, predicate, task, method, action, Domain, htn}
 use Rattle.hv_syntax.specs.Words.{is, is_the_word, sorted_word_of, symbol_of}
 use Rattle.hv_syntax.specs.Reading.{both, every, only, tuple}
-use Rattle.hv_syntax.specs.Terms.{atom_of}
 use Rattle.hv_syntax.specs.TypedLists.{typed_list_of}
 use Rattle.hv_syntax.specs.Lists.{conjuncts}
-use Rattle.hv_syntax.specs.Formulas.{formula_of}
-use Rattle.hv_syntax.specs.Literals.{ground_literal_of}
 use Rattle.hv_syntax.specs.Fields.{field, is_field_list}
 use Rattle.hv_syntax.specs.Networks.{network_of}
 use Rattle.hv_syntax.specs.Unsupported.{has_unsupported}
 use Rattle.hv_syntax.specs.Declarations.{predicate_of, parameters_at, precondition_at, effect_at, task_at, are_none, no_conjuncts, is_nothing, task_named, task_of, method_slots, method_named, method_of, action_named, action_of}
-use Rattle.hv_syntax.specs.Sections.{headed, is_headed_by, occurs, refused, one_name, keyword_of, title_of, defined_with, define_form, sections_of, judged, section_by, at_place, section_of, ◌>>=◌, sections_from}
+use Rattle.hv_syntax.specs.Sections.{is_headed_by, occurs, refused, one_name, keyword_of, title_of, defined_with, define_form, judged, at_place, section_of, ◌>>=◌, sections_from}
 use Rattle.hv_syntax.specs.Domains as d
 use Rattle.hv_syntax.specs.Domains.{DomainSection, has_types, has_constants, has_predicates, has_task, has_method, has_action, domain_standing, domain_section_by, domain_section, no_domain, add_section, domain_in, domain_of}
-use Rattle.hv_syntax.specs.Problems as p
-use Rattle.hv_syntax.specs.Problems.{htn_slots, htn_of, goal_of, ProblemSection, is_for, has_objects, has_htn, has_init, has_goal, problem_standing, problem_section_by, problem_section, Parts, no_parts, add_part, whole_by, whole, problem_in, problem_of}
-use Rattle.hv_syntax.specs.Bare.{bare_word, bare_term, bare_atom, bare_typed, bare_formula, bare_formulas, bare_literal, bare_effect, bare_subtask, bare_constraint, bare_network, bare_predicate, bare_task, bare_method, bare_action, bare_domain, bare_htn, bare_problem}
+use Rattle.hv_syntax.specs.Problems.{htn_slots, htn_of}
+use Rattle.hv_syntax.specs.Bare.{bare_word, bare_term, bare_atom, bare_typed, bare_formula, bare_formulas, bare_literal, bare_effect, bare_network, bare_predicate, bare_task, bare_method, bare_action, bare_domain, bare_htn}
 use Rattle.hv_syntax.specs.Shapes.{bare_tree, bare_trees}
-use Rattle.hv_syntax.proofs.Places.{Same, same_map, same_both, same_if, same_then, every_same, sorted_same, symbol_same, word_is_same, atom_same, typed_list_same, only_bare, conjuncts_same, formula_same, effect_same, ground_literal_same, field_same, field_list_same, network_same}
+use Rattle.hv_syntax.proofs.Places.{Same, same_map, same_both, same_if, same_then, every_same, sorted_same, symbol_same, word_is_same, atom_same, typed_list_same, only_bare, conjuncts_same, formula_same, effect_same, field_same, field_list_same, network_same}
 
 predicate_same : (t : Tree) → Same bare_predicate (predicate_of (bare_tree t)) (predicate_of t)
 predicate_same (word w s) = refl
@@ -295,22 +291,22 @@ domain_same (more t none) = define_domain t
 domain_same (more t (more u ts)) = refl
 
 -- taking places away twice is taking them away once
-map_twice : {A : Type 0} (f : A → A) → ((x : A) → f (f x) ≡ f x) → (xs : List A) → map f (map f xs) ≡ map f xs
+pub map_twice : {A : Type 0} (f : A → A) → ((x : A) → f (f x) ≡ f x) → (xs : List A) → map f (map f xs) ≡ map f xs
 map_twice f h [] = refl
 map_twice f h (x ∷ xs) = ap (λ z. z ∷ map f (map f xs)) (h x) ∙ ap (λ zs. f x ∷ zs) (map_twice f h xs)
 
-term_twice : (x : Term) → bare_term (bare_term x) ≡ bare_term x
+pub term_twice : (x : Term) → bare_term (bare_term x) ≡ bare_term x
 term_twice (constant w) = refl
 term_twice (variable w) = refl
 
-atom_twice : (a : Atom) → bare_atom (bare_atom a) ≡ bare_atom a
+pub atom_twice : (a : Atom) → bare_atom (bare_atom a) ≡ bare_atom a
 atom_twice a = ap (λ xs. record { symbol = bare_word a.symbol; terms = xs }) (map_twice bare_term term_twice a.terms)
 
-typed_twice : (vs : List Typed) → map bare_typed (map bare_typed vs) ≡ map bare_typed vs
+pub typed_twice : (vs : List Typed) → map bare_typed (map bare_typed vs) ≡ map bare_typed vs
 typed_twice vs = map_twice bare_typed (λ x. refl) vs
 
 mutual
-  formula_twice : (f : Formula) → bare_formula (bare_formula f) ≡ bare_formula f
+  pub formula_twice : (f : Formula) → bare_formula (bare_formula f) ≡ bare_formula f
   formula_twice (holds a) = ap holds (atom_twice a)
   formula_twice (and fs) = ap and (formulas_twice fs)
   formula_twice (or fs) = ap or (formulas_twice fs)
@@ -324,7 +320,7 @@ mutual
   formulas_twice no_formulas = refl
   formulas_twice (more_formulas f fs) = rw (formula_twice f, formulas_twice fs) refl
 
-literal_twice : (l : Literal) → bare_literal (bare_literal l) ≡ bare_literal l
+pub literal_twice : (l : Literal) → bare_literal (bare_literal l) ≡ bare_literal l
 literal_twice l = ap (λ a. record { is_positive = l.is_positive; atom = a }) (atom_twice l.atom)
 
 -- what is Ok is found

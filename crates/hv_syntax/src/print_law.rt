@@ -63,3 +63,13 @@ pub fn problem_texts_have_their_expression()
 pub fn domains_are_read_wherever_they_stand()
     ensures { (us vs : Trees) (d : Domain) → bare_trees us ≡ bare_trees vs → domain_of vs ≡ Ok d → (e : Domain) × (domain_of us ≡ Ok e) × (bare_domain e ≡ bare_domain d) }
 {}
+
+/// The expressions of a domain's canonical text are read as that domain, places aside.
+pub fn domain_texts_are_read_back()
+    ensures { (ts : Trees) (d : Domain) → domain_of ts ≡ Ok d → IsTidy (domain_expression d) → (us : Trees) → AreExpressions (canonical_domain d) us → (e : Domain) × (domain_of us ≡ Ok e) × (bare_domain e ≡ bare_domain d) }
+{}
+
+/// Where a domain is read from the canonical text of a domain, its canonical text is that text.
+pub fn domain_texts_are_printed_again()
+    ensures { (ts : Trees) (d : Domain) → domain_of ts ≡ Ok d → IsTidy (domain_expression d) → (us : Trees) → AreExpressions (canonical_domain d) us → (e : Domain) → domain_of us ≡ Ok e → canonical_domain e ≡ canonical_domain d }
+{}
