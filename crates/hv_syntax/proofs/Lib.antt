@@ -18,3 +18,4 @@ pub mod TextWords
 pub mod Places
 pub mod PlacesSections
 pub mod ReadBack
+pub mod ReadBackProblems

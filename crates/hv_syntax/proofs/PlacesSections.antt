@@ -139,7 +139,7 @@ module _ (a b : Span) (ts : Trees) where
       (network_same ts))
       (at_same precondition_at bare_formula precondition_same slots.Precondition ts))
 
-  htn_same : Same bare_htn (htn_of a (bare_trees ts)) (htn_of b ts)
+  pub htn_same : Same bare_htn (htn_of a (bare_trees ts)) (htn_of b ts)
   htn_same =
       tested bare_htn (is_field_list htn_slots (bare_trees ts)) (is_field_list htn_slots ts)
       (both (htn a) (parameters_at (field slots.Parameters (bare_trees ts))) (network_of (bare_trees ts))) (both (htn b) (parameters_at (field slots.Parameters ts)) (network_of ts)) (field_list_same htn_slots ts)
@@ -165,10 +165,10 @@ name_same : (o : Option Tree) → Same bare_word (option_and_then (sorted_word_o
 name_same None = refl
 name_same (Some t) = sorted_same sorts.Name t
 
-one_name_same : (ts : Trees) → Same bare_word (one_name (bare_trees ts)) (one_name ts)
+pub one_name_same : (ts : Trees) → Same bare_word (one_name (bare_trees ts)) (one_name ts)
 one_name_same ts = ap (λ o. option_map bare_word (option_and_then (sorted_word_of sorts.Name) o)) (only_bare ts) ∙ name_same (only ts)
 
-title_same : (v : List ℕ) (t : Tree) → Same bare_word (title_of v (bare_tree t)) (title_of v t)
+pub title_same : (v : List ℕ) (t : Tree) → Same bare_word (title_of v (bare_tree t)) (title_of v t)
 title_same v (word w s) = refl
 title_same v (list none s) = refl
 title_same v (list (more t ts) s) = tested bare_word (is_the_word v (bare_tree t)) (is_the_word v t) (one_name (bare_trees ts)) (one_name ts) (word_is_same v t) (one_name_same ts)
@@ -183,11 +183,11 @@ occurs_same : (v : List ℕ) (ts : List Tree) → occurs v (map bare_tree ts) �
 occurs_same v [] = refl
 occurs_same v (t ∷ ts) = ap (λ b. b || occurs v (map bare_tree ts)) (head_same v t) ∙ ap (λ b. is_headed_by v t || b) (occurs_same v ts)
 
-abbrev ok_of : {A E : Type 0} → Result A E → Option A
+abbrev pub ok_of : {A E : Type 0} → Result A E → Option A
 ok_of (Ok x) = Some x
 ok_of (Err e) = None
 
-abbrev SameOk : {A : Type 0} → (A → A) → Result A (SyntaxKind × Span) → Result A (SyntaxKind × Span) → Type 0
+abbrev pub SameOk : {A : Type 0} → (A → A) → Result A (SyntaxKind × Span) → Result A (SyntaxKind × Span) → Type 0
 SameOk a r q = Same a (ok_of r) (ok_of q)
 
 judged_same : {S : Type 0} (a : S → S) (k : Option SyntaxKind) (x y : Bool) (o r : Option S) (s t : Span) → Same a o r → SameOk a (at_place s (judged k x o)) (at_place t (judged k y r))
@@ -197,7 +197,7 @@ judged_same a None x y None (Some z) s t e = absurd cc
 judged_same a None x y (Some z) None s t e = absurd cc
 judged_same a None x y (Some z) (Some w) s t e = e
 
-then_same : {S V : Type 0} (a : S → S) (b : V → V) (r q : Result S (SyntaxKind × Span)) (f g : S → Result V (SyntaxKind × Span)) → SameOk a r q → ((x y : S) → a x ≡ a y → SameOk b (f x) (g y)) → SameOk b (r >>= f) (q >>= g)
+pub then_same : {S V : Type 0} (a : S → S) (b : V → V) (r q : Result S (SyntaxKind × Span)) (f g : S → Result V (SyntaxKind × Span)) → SameOk a r q → ((x y : S) → a x ≡ a y → SameOk b (f x) (g y)) → SameOk b (r >>= f) (q >>= g)
 then_same a b (Ok x) (Ok y) f g e h = let same : a x ≡ a y = cc in h x y same
 then_same a b (Ok x) (Err y) f g e h = absurd cc
 then_same a b (Err x) (Ok y) f g e h = absurd cc
@@ -214,7 +214,7 @@ module _ {S : Type 0} (standing : List ℕ → Standing) (spelled : List ℕ →
   section_same before (list (more (list us p) ts) s) = refl
 
   module _ {V : Type 0} (add : V → S → V) (b : V → V) (k : (v u : V) (x y : S) → b v ≡ b u → a x ≡ a y → b (add v x) ≡ b (add u y)) where
-    sections_same : (ts : Trees) (v u : V) (before : List Tree) → b v ≡ b u
+    pub sections_same : (ts : Trees) (v u : V) (before : List Tree) → b v ≡ b u
         → SameOk b (sections_from (section_of standing spelled) add v (map bare_tree before) (bare_trees ts)) (sections_from (section_of standing spelled) add u before ts)
     sections_same none v u before e = ap Some e
     sections_same (more t ts) v u before e =
@@ -324,7 +324,7 @@ pub literal_twice : (l : Literal) → bare_literal (bare_literal l) ≡ bare_lit
 literal_twice l = ap (λ a. record { is_positive = l.is_positive; atom = a }) (atom_twice l.atom)
 
 -- what is Ok is found
-found : {A : Type 0} (a : A → A) (r : Result A (SyntaxKind × Span)) (x : A) → option_map a (ok_of r) ≡ Some x → (y : A) × (r ≡ Ok y) × (a y ≡ x)
+pub found : {A : Type 0} (a : A → A) (r : Result A (SyntaxKind × Span)) (x : A) → option_map a (ok_of r) ≡ Some x → (y : A) × (r ≡ Ok y) × (a y ≡ x)
 found a (Ok y) x e = (y, refl, cc)
 found a (Err k) x e = absurd cc
 

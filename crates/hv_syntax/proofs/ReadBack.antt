@@ -26,7 +26,7 @@ constraint_twice : (c : Constraint) → bare_constraint (bare_constraint c) ≡ 
 constraint_twice c =
     ap (λ x. record { is_equal = c.is_equal; left = x; right = bare_term (bare_term c.right) }) (term_twice c.left) ∙ ap (λ x. record { is_equal = c.is_equal; left = bare_term c.left; right = x }) (term_twice c.right)
 
-network_twice : (n : Network) → bare_network (bare_network n) ≡ bare_network n
+pub network_twice : (n : Network) → bare_network (bare_network n) ≡ bare_network n
 network_twice n =
     ap (λ xs. network xs n.is_ordered (map bare_pair (map bare_pair n.pairs)) (map bare_constraint (map bare_constraint n.constraints))) (map_twice bare_subtask subtask_twice n.subtasks)
     ∙ ap (λ ps. network (map bare_subtask n.subtasks) n.is_ordered ps (map bare_constraint (map bare_constraint n.constraints))) (map_twice bare_pair (λ p. refl) n.pairs)
@@ -67,7 +67,7 @@ domain_back ts d k h us x =
     let f = domain_found us (more (domain_expression d) none) (bare_domain d) (definition_expressions (codes "domain") d.name (domain_sections d) h us x.spelled) (domain_again ts d k) in
     (f.0, f.1, f.2 ∙ domain_twice d)
 
-same_ok : {A E : Type 0} (r : Result A E) (x y : A) → r ≡ Ok x → r ≡ Ok y → x ≡ y
+pub same_ok : {A E : Type 0} (r : Result A E) (x y : A) → r ≡ Ok x → r ≡ Ok y → x ≡ y
 same_ok r x y h k = cc
 
 -- printing what is read from it gives that text again

@@ -73,3 +73,13 @@ pub fn domain_texts_are_read_back()
 pub fn domain_texts_are_printed_again()
     ensures { (ts : Trees) (d : Domain) → domain_of ts ≡ Ok d → IsTidy (domain_expression d) → (us : Trees) → AreExpressions (canonical_domain d) us → (e : Domain) → domain_of us ≡ Ok e → canonical_domain e ≡ canonical_domain d }
 {}
+
+/// The expressions of a problem's canonical text are read as that problem, places aside.
+pub fn problem_texts_are_read_back()
+    ensures { (ts : Trees) (p : Problem) → problem_of ts ≡ Ok p → IsTidy (problem_expression p) → (us : Trees) → AreExpressions (canonical_problem p) us → (q : Problem) × (problem_of us ≡ Ok q) × (bare_problem q ≡ bare_problem p) }
+{}
+
+/// Where a problem is read from the canonical text of a problem, its canonical text is that text.
+pub fn problem_texts_are_printed_again()
+    ensures { (ts : Trees) (p : Problem) → problem_of ts ≡ Ok p → IsTidy (problem_expression p) → (us : Trees) → AreExpressions (canonical_problem p) us → (q : Problem) → problem_of us ≡ Ok q → canonical_problem q ≡ canonical_problem p }
+{}
