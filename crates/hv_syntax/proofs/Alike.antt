@@ -1,9 +1,9 @@
 -- A value is printed as the same value with its places aside.
-use Rattle.std.proofs.Common.{◌≡◌, ◌++◌, ℕ, Bool, true, false, List, [], ◌∷◌, map, Option, Some, None, option_map, refl, sym, ap, ◌∙◌, codes}
+use Rattle.std.proofs.Common.{◌≡◌, ◌++◌, ℕ, List, [], ◌∷◌, map, Option, Some, None, option_map, refl, sym, ap, ◌∙◌, codes}
 use Rattle.hv_text.specs.Trees.{Tree, Trees, none, more}
-use Rattle.hv_syntax.specs.Values.{WordAt, Term, constant, variable, Atom, Typed, Formula, Formulas, holds, and, or, not, imply, forall, exists, equal, no_formulas, more_formulas, Literal, Effect, Subtask, subtask, Pair, Constraint, Network, Predicate, Task, Method, Action, Domain, Htn, Problem}
-use Rattle.hv_syntax.specs.Canonical.{each, the_list, form, conjunction, signed, labelled_by, equation, two_members, with_field, with_members, subtasks_keyword, word_expression, term_expression, atom_expression, typed_members, formula_expression, formula_expressions, literal_expression, effect_expression, subtask_expression, pair_expression, constraint_expression, network_fields}
-use Rattle.hv_syntax.specs.CanonicalSections.{with_parameters, with_precondition, predicate_expression, task_section, method_section, action_section, htn_section, goal_section, unless_empty, section_of_each, domain_sections, problem_sections, definition_text, canonical_domain, canonical_problem}
+use Rattle.hv_syntax.specs.Values.{WordAt, Term, constant, variable, Atom, Typed, Formula, Formulas, holds, and, or, not, imply, forall, exists, equal, no_formulas, more_formulas, Literal, Effect, Subtask, Pair, Constraint, Network, Predicate, Task, Method, Action, Domain, Htn, Problem}
+use Rattle.hv_syntax.specs.Canonical.{each, the_list, form, conjunction, signed, labelled_by, two_members, with_field, with_members, subtasks_keyword, word_expression, term_expression, atom_expression, typed_members, formula_expression, formula_expressions, literal_expression, effect_expression, subtask_expression, pair_expression, constraint_expression, network_fields}
+use Rattle.hv_syntax.specs.CanonicalSections.{predicate_expression, task_section, method_section, action_section, htn_section, goal_section, unless_empty, section_of_each, domain_sections, problem_sections, definition_text, canonical_domain, canonical_problem}
 use Rattle.hv_syntax.specs.Bare.{bare_word, bare_term, bare_atom, bare_typed, bare_formula, bare_formulas, bare_literal, bare_effect, bare_subtask, bare_pair, bare_constraint, bare_network, bare_predicate, bare_task, bare_method, bare_action, bare_domain, bare_htn, bare_problem}
 
 each_alike : {A : Type 0} (write : A → Tree) (bare : A → A) → ((x : A) → write (bare x) ≡ write x) → (xs : List A) → each write (map bare xs) ≡ each write xs

@@ -21,3 +21,7 @@ pub mod AgainDomains
 pub mod AgainProblems
 pub mod Alike
 pub mod TextWords
+pub mod Places
+pub mod PlacesSections
+pub mod ReadBack
+pub mod ReadBackProblems

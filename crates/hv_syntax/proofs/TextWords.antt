@@ -1,5 +1,5 @@
 -- What stands in the text of an expression is what the expression spells, places aside.
-use Rattle.std.proofs.Common.{◌≡◌, ◌==◌, ◌&&◌, ◌+◌, ◌-◌, ℕ, Bool, true, false, not, List, [], ◌∷◌, ◌++◌, map, refl, sym, ap, ◌∙◌, codes, arith, if◌then◌else◌}
+use Rattle.std.proofs.Common.{◌≡◌, ◌==◌, ◌&&◌, ◌+◌, ◌-◌, ℕ, Bool, true, false, not, List, [], ◌∷◌, ◌++◌, map, refl, sym, ap, ◌∙◌, codes, arith}
 use Rattle.std.proofs.lemmas.Grind.{common_steps}
 use Rattle.std.proofs.lemmas.List.{append-nil, append_assoc, map-append}
 use Rattle.std.proofs.lemmas.List.Sums.{take_while-cons}
@@ -8,7 +8,7 @@ use Rattle.hv_text.specs.Bytes.{is_word_byte, is_word, lower}
 use Rattle.hv_text.specs.Trees.{Tree, word, list, Trees, none, more, trees_of}
 use Rattle.hv_text.specs.Words as found
 use Rattle.hv_text.specs.Words.{Piece, left, right, bad, nowhere, class_of, in_comment, uncommented, beginning, pieces_from, pieces}
-use Rattle.hv_text.specs.Sexps.{spelled, spelled_all, AreExpressions}
+use Rattle.hv_text.specs.Sexps.{spelled, spelled_all}
 use Rattle.hv_text.specs.declared.words.Class.{Class}
 use Rattle.hv_text.specs.declared.words.Class.TheVariants.{Blank, Semicolon, Left, Right, Inner, Bad}
 use Rattle.hv_syntax.specs.Values.{WordAt}

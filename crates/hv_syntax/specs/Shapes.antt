@@ -1,5 +1,5 @@
 -- Expressions, and what stands in texts, with their places aside.
-use Rattle.std.specs.Prelude.{◌≡◌, Bool, true, List}
+use Rattle.std.specs.Prelude.{◌≡◌, true}
 use Rattle.hv_text.specs.Bytes.{is_word, lower}
 use Rattle.hv_text.specs.Trees.{Tree, word, list, Trees, none, more}
 use Rattle.hv_text.specs.Words as found

@@ -41,9 +41,11 @@ pub use network::{ConstraintText, NetworkText, PairText, SubtaskText};
 pub use predicate::PredicateText;
 pub use print::{print_domain, print_problem};
 pub use print_law::{
-    domain_texts_have_their_expression, domains_are_printed_alike, domains_are_read_again,
-    effects_are_read_again, formulas_are_read_again, problem_texts_have_their_expression,
-    problems_are_printed_alike, problems_are_read_again, texts_have_the_words_of_their_expressions,
+    domain_texts_are_printed_again, domain_texts_are_read_back, domain_texts_have_their_expression,
+    domains_are_printed_alike, domains_are_read_again, domains_are_read_wherever_they_stand,
+    effects_are_read_again, formulas_are_read_again, problem_texts_are_printed_again,
+    problem_texts_are_read_back, problem_texts_have_their_expression, problems_are_printed_alike,
+    problems_are_read_again, texts_have_the_words_of_their_expressions,
 };
 pub use problem::{HtnText, ProblemText};
 pub use read::{read_domain, read_problem};

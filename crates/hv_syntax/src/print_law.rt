@@ -58,3 +58,28 @@ pub fn domain_texts_have_their_expression()
 pub fn problem_texts_have_their_expression()
     ensures { (p : Problem) → IsTidy (problem_expression p) → (ts : Trees) → AreExpressions (canonical_problem p) ts → bare_trees ts ≡ bare_trees (more (problem_expression p) none) }
 {}
+
+/// Where some expressions are read as a domain, those that differ from them in places alone are read as the same domain, places aside.
+pub fn domains_are_read_wherever_they_stand()
+    ensures { (us vs : Trees) (d : Domain) → bare_trees us ≡ bare_trees vs → domain_of vs ≡ Ok d → (e : Domain) × (domain_of us ≡ Ok e) × (bare_domain e ≡ bare_domain d) }
+{}
+
+/// The expressions of a domain's canonical text are read as that domain, places aside.
+pub fn domain_texts_are_read_back()
+    ensures { (ts : Trees) (d : Domain) → domain_of ts ≡ Ok d → IsTidy (domain_expression d) → (us : Trees) → AreExpressions (canonical_domain d) us → (e : Domain) × (domain_of us ≡ Ok e) × (bare_domain e ≡ bare_domain d) }
+{}
+
+/// Where a domain is read from the canonical text of a domain, its canonical text is that text.
+pub fn domain_texts_are_printed_again()
+    ensures { (ts : Trees) (d : Domain) → domain_of ts ≡ Ok d → IsTidy (domain_expression d) → (us : Trees) → AreExpressions (canonical_domain d) us → (e : Domain) → domain_of us ≡ Ok e → canonical_domain e ≡ canonical_domain d }
+{}
+
+/// The expressions of a problem's canonical text are read as that problem, places aside.
+pub fn problem_texts_are_read_back()
+    ensures { (ts : Trees) (p : Problem) → problem_of ts ≡ Ok p → IsTidy (problem_expression p) → (us : Trees) → AreExpressions (canonical_problem p) us → (q : Problem) × (problem_of us ≡ Ok q) × (bare_problem q ≡ bare_problem p) }
+{}
+
+/// Where a problem is read from the canonical text of a problem, its canonical text is that text.
+pub fn problem_texts_are_printed_again()
+    ensures { (ts : Trees) (p : Problem) → problem_of ts ≡ Ok p → IsTidy (problem_expression p) → (us : Trees) → AreExpressions (canonical_problem p) us → (q : Problem) → problem_of us ≡ Ok q → canonical_problem q ≡ canonical_problem p }
+{}

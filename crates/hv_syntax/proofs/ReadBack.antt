@@ -1,0 +1,77 @@
+-- What is read from the canonical text of a domain.
+use Rattle.std.proofs.Common.{◌≡◌, map, Option, Some, None, Result, Ok, option_map, refl, ap, ◌∙◌, codes}
+use Rattle.hv_text.specs.Trees.{Trees, none, more}
+use Rattle.hv_text.specs.Sexps.{AreExpressions}
+use Rattle.hv_syntax.specs.Values.{WordAt, Effect, Subtask, Constraint, Network, network, Predicate, Task, Method, Action, Domain}
+use Rattle.hv_syntax.specs.Domains.{domain_of}
+use Rattle.hv_syntax.specs.CanonicalSections.{domain_sections, domain_expression, canonical_domain}
+use Rattle.hv_syntax.specs.Bare.{bare_word, bare_term, bare_atom, bare_typed, bare_literal, bare_effect, bare_subtask, bare_pair, bare_constraint, bare_network, bare_predicate, bare_task, bare_method, bare_action, bare_domain}
+use Rattle.hv_syntax.specs.Shapes.{IsTidy}
+use Rattle.hv_syntax.proofs.AgainDomains.{domain_again}
+use Rattle.hv_syntax.proofs.Alike.{domains_alike}
+use Rattle.hv_syntax.proofs.TextWords.{definition_expressions}
+use Rattle.hv_syntax.proofs.PlacesSections.{map_twice, term_twice, atom_twice, typed_twice, formula_twice, literal_twice, domain_found}
+
+effect_twice : (e : Effect) → bare_effect (bare_effect e) ≡ bare_effect e
+effect_twice e = ap (λ ls. record { literals = ls }) (map_twice bare_literal literal_twice e.literals)
+
+label_twice : (l : Option WordAt) → option_map bare_word (option_map bare_word l) ≡ option_map bare_word l
+label_twice None = refl
+label_twice (Some w) = refl
+
+subtask_twice : (s : Subtask) → bare_subtask (bare_subtask s) ≡ bare_subtask s
+subtask_twice s = ap (λ l. record { label = l; task = bare_atom (bare_atom s.task) }) (label_twice s.label) ∙ ap (λ a. record { label = option_map bare_word s.label; task = a }) (atom_twice s.task)
+
+constraint_twice : (c : Constraint) → bare_constraint (bare_constraint c) ≡ bare_constraint c
+constraint_twice c =
+    ap (λ x. record { is_equal = c.is_equal; left = x; right = bare_term (bare_term c.right) }) (term_twice c.left) ∙ ap (λ x. record { is_equal = c.is_equal; left = bare_term c.left; right = x }) (term_twice c.right)
+
+pub network_twice : (n : Network) → bare_network (bare_network n) ≡ bare_network n
+network_twice n =
+    ap (λ xs. network xs n.is_ordered (map bare_pair (map bare_pair n.pairs)) (map bare_constraint (map bare_constraint n.constraints))) (map_twice bare_subtask subtask_twice n.subtasks)
+    ∙ ap (λ ps. network (map bare_subtask n.subtasks) n.is_ordered ps (map bare_constraint (map bare_constraint n.constraints))) (map_twice bare_pair (λ p. refl) n.pairs)
+    ∙ ap (λ cs. network (map bare_subtask n.subtasks) n.is_ordered (map bare_pair n.pairs) cs) (map_twice bare_constraint constraint_twice n.constraints)
+
+predicate_twice : (p : Predicate) → bare_predicate (bare_predicate p) ≡ bare_predicate p
+predicate_twice p = ap (λ vs. record { name = bare_word p.name; parameters = vs }) (typed_twice p.parameters)
+
+task_twice : (t : Task) → bare_task (bare_task t) ≡ bare_task t
+task_twice t = ap (λ vs. record (bare_task t) { parameters = vs }) (typed_twice t.parameters)
+
+method_twice : (m : Method) → bare_method (bare_method m) ≡ bare_method m
+method_twice m =
+    ap (λ vs. record (bare_method (bare_method m)) { parameters = vs }) (typed_twice m.parameters)
+    ∙ ap (λ a. record (bare_method (bare_method m)) { parameters = map bare_typed m.parameters; task = a }) (atom_twice m.task)
+    ∙ ap (λ f. record (bare_method m) { precondition = f; network = bare_network (bare_network m.network) }) (formula_twice m.precondition)
+    ∙ ap (λ n. record (bare_method m) { network = n }) (network_twice m.network)
+
+action_twice : (a : Action) → bare_action (bare_action a) ≡ bare_action a
+action_twice a =
+    ap (λ vs. record (bare_action (bare_action a)) { parameters = vs }) (typed_twice a.parameters)
+    ∙ ap (λ f. record (bare_action a) { precondition = f; effect = bare_effect (bare_effect a.effect) }) (formula_twice a.precondition)
+    ∙ ap (λ e. record (bare_action a) { effect = e }) (effect_twice a.effect)
+
+domain_twice : (d : Domain) → bare_domain (bare_domain d) ≡ bare_domain d
+domain_twice d =
+    ap (λ x. record (bare_domain (bare_domain d)) { requirements = x }) (map_twice bare_word (λ w. refl) d.requirements)
+    ∙ ap (λ x. record (bare_domain (bare_domain d)) { requirements = map bare_word d.requirements; types = x }) (typed_twice d.types)
+    ∙ ap (λ x. record (bare_domain (bare_domain d)) { requirements = map bare_word d.requirements; types = map bare_typed d.types; constants = x }) (typed_twice d.constants)
+    ∙ ap (λ x. record (bare_domain d) { predicates = x; tasks = map bare_task (map bare_task d.tasks); methods = map bare_method (map bare_method d.methods); actions = map bare_action (map bare_action d.actions) }) (map_twice bare_predicate predicate_twice d.predicates)
+    ∙ ap (λ x. record (bare_domain d) { tasks = x; methods = map bare_method (map bare_method d.methods); actions = map bare_action (map bare_action d.actions) }) (map_twice bare_task task_twice d.tasks)
+    ∙ ap (λ x. record (bare_domain d) { methods = x; actions = map bare_action (map bare_action d.actions) }) (map_twice bare_method method_twice d.methods)
+    ∙ ap (λ x. record (bare_domain d) { actions = x }) (map_twice bare_action action_twice d.actions)
+
+-- the expressions of the canonical text of a domain are read as that domain, places aside
+pub domain_back : (ts : Trees) (d : Domain) → domain_of ts ≡ Ok d → IsTidy (domain_expression d) → (us : Trees) → AreExpressions (canonical_domain d) us → (e : Domain) × (domain_of us ≡ Ok e) × (bare_domain e ≡ bare_domain d)
+domain_back ts d k h us x =
+    let f = domain_found us (more (domain_expression d) none) (bare_domain d) (definition_expressions (codes "domain") d.name (domain_sections d) h us x.spelled) (domain_again ts d k) in
+    (f.0, f.1, f.2 ∙ domain_twice d)
+
+pub same_ok : {A E : Type 0} (r : Result A E) (x y : A) → r ≡ Ok x → r ≡ Ok y → x ≡ y
+same_ok r x y h k = cc
+
+-- printing what is read from it gives that text again
+pub domain_bytes : (ts : Trees) (d : Domain) → domain_of ts ≡ Ok d → IsTidy (domain_expression d) → (us : Trees) → AreExpressions (canonical_domain d) us → (e : Domain) → domain_of us ≡ Ok e → canonical_domain e ≡ canonical_domain d
+domain_bytes ts d k h us x e l =
+    let f = domain_back ts d k h us x in
+    domains_alike e d (ap bare_domain (same_ok (domain_of us) e f.0 l f.1) ∙ f.2)
