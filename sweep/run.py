@@ -44,9 +44,18 @@ def main():
     with tempfile.TemporaryDirectory() as folder:
         library, count = build_library(folder), f"{folder}/count"
         for example in sorted(entry.name for entry in os.scandir(f"{TOP}/examples") if entry.is_dir()):
-            texts = [f"{TOP}/examples/{example}/{name}" for name in ("domain.hddl", "problem.hddl", "plan.txt")]
-            ends, wrong = sweep(["judge", "--explain", *texts], library, count)
-            print(example, *(f"{n} {end}" for end, n in sorted(ends.items())), sep=", ")
+            domain, problem, plan = (f"{TOP}/examples/{example}/{name}" for name in ("domain.hddl", "problem.hddl", "plan.txt"))
+            commands = [
+                ["judge", "--explain", domain, problem, plan],
+                ["print-domain", domain],
+                ["print-problem", problem],
+                ["print-plan", plan],
+            ]
+            wrong = []
+            for words in commands:
+                ends, others = sweep(words, library, count)
+                print(example, words[0], *(f"{n} {end}" for end, n in sorted(ends.items())), sep=", ")
+                wrong += others
             for number, end in wrong:
                 print(f"  request {number}: {end}")
             failed = failed or bool(wrong)
