@@ -25,3 +25,7 @@ pub mod Places
 pub mod PlacesSections
 pub mod ReadBack
 pub mod ReadBackProblems
+pub mod Fitting
+pub mod FittingParts
+pub mod FittingSections
+pub mod FittingTexts
