@@ -1,209 +1,131 @@
--- The same of sections, domains and problems.
-use Rattle.std.proofs.Common.{◌≡◌, ◌&&◌, ℕ, suc, Bool, true, List, [], ◌∷◌, ◌++◌, Option, Some, None, Result, Ok, Err, option_map, refl, codes}
-use Rattle.std.specs.Prelude.{IfSome, IfOk}
-use Rattle.hv_text.specs.Bytes.{is_word, lower}
-use Rattle.hv_text.specs.Trees.{Tree, word, list, Trees, none, more, trees_of, place_of}
-use Rattle.hv_text.specs.Shapes.{IsTidy, AreTidy}
+-- The same of literals, effects, networks and sections.
+use Rattle.std.proofs.Common.{ℕ, suc, Bool, true, false, List, [], Option, Some, refl, codes, if◌then◌else◌}
+use Rattle.std.specs.Prelude.{IfSome}
+use Rattle.hv_text.specs.Trees.{Tree, word, list, Trees, none, more}
+use Rattle.hv_text.specs.Shapes.{IsTidy}
 use Rattle.hv_text.specs.declared.span.Span.{Span}
 use Rattle.hv_syntax.specs.declared.word.Sort.TheVariants as sorts
+use Rattle.hv_syntax.specs.declared.field.Slot.{Slot}
 use Rattle.hv_syntax.specs.declared.field.Slot.TheVariants as slots
-use Rattle.hv_syntax.specs.declared.fault.SyntaxKind.{SyntaxKind}
-use Rattle.hv_syntax.specs.declared.section.Standing.{Standing}
-use Rattle.hv_syntax.specs.Values.{WordAt, Atom, Typed, Formula, Effect, Network, Predicate, predicate, Task, task, Method, method, Action, action, Htn, htn}
-use Rattle.hv_syntax.specs.Words.{is_the_word, symbol_of, sorted_word_of}
-use Rattle.hv_syntax.specs.Reading.{both, only, tuple}
-use Rattle.hv_syntax.specs.TypedLists.{typed_list_of}
-use Rattle.hv_syntax.specs.Fields.{field, is_field_list}
-use Rattle.hv_syntax.specs.Networks.{network_of}
-use Rattle.hv_syntax.specs.Declarations.{predicate_of, parameters_at, precondition_at, effect_at, task_at, is_nothing, task_named, task_of, method_slots, method_named, method_of, action_named, action_of}
-use Rattle.hv_syntax.specs.Unsupported.{has_unsupported}
-use Rattle.hv_syntax.specs.Sections.{headed, occurs, refused, one_name, title_of, defined_with, define_form, sections_of, judged, section_by, at_place, section_of, ◌>>=◌, sections_from}
-use Rattle.hv_syntax.specs.CanonicalSections.{predicate_expression, task_section, method_section, action_section, unless_empty, htn_section, definition}
-use Rattle.hv_syntax.specs.Problems.{htn_slots, htn_of}
-use Rattle.hv_syntax.proofs.Again.{if_map, if_both}
-use Rattle.hv_syntax.proofs.Fitting.{Fits, AllFit, are_tidy, IsTidyWord, if_true, and_then, only_tidy, symbol_tidy, sorted_tidy, IsFittingAtom, atom_fits, AreFittingTyped, typed_list_fits, IsFittingFormula, formula_fits}
-use Rattle.hv_syntax.proofs.FittingParts.{field_tidy, field_fits, IsFittingEffect, effect_fits, IsFittingNetwork, network_fits}
+use Rattle.hv_syntax.specs.Values.{Term, Typed, Formula, and, no_formulas, Literal, Effect, effect, Subtask, Pair, Constraint, Network, Predicate, Task, Method, Action, Htn}
+use Rattle.hv_syntax.specs.Fields.{same_slot, slot_of, field}
+use Rattle.hv_syntax.specs.Spellings.{SpellsAtom, SpellsFormula, SpellsList, SpellsLiteral, a_positive, a_negative, SpellsGround, a_ground, SpellsEffect, an_effect, SpellsSubtask, a_task_alone, a_labelled_task, SpellsPair, a_pair_behind, a_pair_between, SpellsEquation, an_equation, SpellsConstraint, they_are_equal, they_differ}
+use Rattle.hv_syntax.specs.Tables.{SpellsIfAny, is_absent, is_present, SpellsField, it_stands, SpellsParameters, parameters, SpellsForm, no_form, unordered, ordered, SpellsNetwork, a_network, SpellsPredicate, a_predicate, SpellsTask, a_task, SpellsMethod, a_method, SpellsAction, an_action, SpellsHtn, an_htn}
+use Rattle.hv_syntax.specs.Canonical.{the_list, each, atom_expression, typed_members, formula_expression, literal_expression, effect_expression, subtask_expression, pair_expression, equation, constraint_expression, with_members, subtasks_keyword, network_fields}
+use Rattle.hv_syntax.specs.CanonicalSections.{predicate_expression, task_section, method_section, action_section, htn_section}
+use Rattle.hv_syntax.proofs.Fitting.{Fits, AllFit, is_tidy, are_tidy, IsTidyText, symbol_tidy, list_fits, conjunction_fits, term_fits, atom_fits, typed_fits, formula_fits}
+
+-- the expression of a field
+field_if : (P : Tree → Type 0) (b : Bool) (e : Tree) (o : Option Tree) → P e → IfSome o P → IfSome (if b then Some e else o) P
+field_if P true e o h k = h
+field_if P false e o h k = k
+
+field_fits : (slot : Slot) (ts : Trees) (n : ℕ) → AllFit ts n → IfSome (field slot ts) (λ t. Fits t n)
+field_fits slot none n h = tt
+field_fits slot (more (list us p) ts) n h = tt
+field_fits slot (more (word k p) none) n h = tt
+field_fits slot (more (word k p) (more e ts)) n h = field_if (λ t. Fits t n) (same_slot (slot_of k) slot) e (field slot ts) h.1.0 (field_fits slot ts n h.1.1)
+
+-- a field that may be absent, and one that must stand
+module _ {A : Type 0} (Spells : Tree → A → Type 0) (P : Tree → Type 0) (Q : A → Type 0) (good : (t : Tree) (x : A) → Spells t x → P t → Q x) where
+  if_any_fits : (otherwise : A) → Q otherwise → (o : Option Tree) (x : A) → SpellsIfAny Spells otherwise o x → IfSome o P → Q x
+  if_any_fits otherwise q _ _ is_absent h = q
+  if_any_fits otherwise q _ _ (is_present t x k) h = good t x k h
+
+  it_fits : (o : Option Tree) (x : A) → SpellsField Spells o x → IfSome o P → Q x
+  it_fits _ _ (it_stands t x k) h = good t x k h
 
 module _ (n : ℕ) where
-  -- predicates
-  abbrev pub IsFittingPredicate : Predicate → Type 0
-  IsFittingPredicate p = Fits (predicate_expression p) (suc n)
+  literal_fits : (t : Tree) (l : Literal) → SpellsLiteral t l → IsTidy t → Fits (literal_expression l) (suc (suc n))
+  literal_fits _ _ (a_positive t a k) h = atom_fits (suc n) t a k h
+  literal_fits _ _ (a_negative w p s t a e k) h = ((refl, refl), (atom_fits n t a k h.1.0, tt))
 
-  pub predicate_fits : (t : Tree) → IsTidy t → IfSome (predicate_of t) IsFittingPredicate
-  predicate_fits (word w s) h = tt
-  predicate_fits (list none s) h = tt
-  predicate_fits (list (more t ts) s) h =
-      if_both predicate IsTidyWord (AreFittingTyped n) IsFittingPredicate (λ w vs k l. (k, l)) (symbol_of t) (typed_list_of sorts.Variable ts) (symbol_tidy t h.0) (typed_list_fits n sorts.Variable ts h.1)
+  pub ground_fits : (t : Tree) (l : Literal) → SpellsGround t l → IsTidy t → Fits (literal_expression l) (suc (suc n))
+  ground_fits _ _ (a_ground t l k e) h = literal_fits t l k h
 
-  -- fields
-  abbrev AreFittingParameters : List Typed → Type 0
-  AreFittingParameters vs = AreFittingTyped (suc (suc n)) vs
+  subtask_fits : (t : Tree) (x : Subtask) → SpellsSubtask t x → IsTidy t → Fits (subtask_expression x) (suc (suc n))
+  subtask_fits _ _ (a_task_alone t a k) h = atom_fits (suc n) t a k h
+  subtask_fits _ _ (a_labelled_task t l u a s k m) h = (symbol_tidy t l k h.0, (atom_fits n u a m h.1.0, tt))
 
-  abbrev IsFittingTask : Atom → Type 0
-  IsFittingTask a = IsFittingAtom (suc (suc n)) a
+  pair_fits : (t : Tree) (x : Pair) → SpellsPair t x → IsTidy t → Fits (pair_expression x) (suc (suc n))
+  pair_fits _ _ (a_pair_behind w p s t u l m e k j) h = ((refl, refl), (symbol_tidy t l k h.1.0, (symbol_tidy u m j h.1.1.0, tt)))
+  pair_fits _ _ (a_pair_between w p s t u l m e k j) h = ((refl, refl), (symbol_tidy t l k h.0, (symbol_tidy u m j h.1.1.0, tt)))
 
-  abbrev IsFittingPrecondition : Formula → Type 0
-  IsFittingPrecondition f = IsFittingFormula (suc (suc (suc n))) f
+  equation_fits : (t : Tree) (q : Term × Term) → SpellsEquation t q → IsTidy t → (m : ℕ) → Fits (equation q.0 q.1) (suc m)
+  equation_fits _ _ (an_equation w p s t u x y e k l) h m = ((refl, refl), (term_fits m t x k h.1.0, (term_fits m u y l h.1.1.0, tt)))
 
-  parameters_fit : (o : Option Tree) → IfSome o IsTidy → IfSome (parameters_at o) AreFittingParameters
-  parameters_fit None h = tt
-  parameters_fit (Some (word w s)) h = tt
-  parameters_fit (Some (list ts s)) h = typed_list_fits (suc (suc n)) sorts.Variable ts h
+  constraint_fits : (t : Tree) (x : Constraint) → SpellsConstraint t x → IsTidy t → Fits (constraint_expression x) (suc (suc n))
+  constraint_fits _ _ (they_are_equal t (x, y) k) h = equation_fits t (x, y) k h (suc n)
+  constraint_fits _ _ (they_differ w p s t (x, y) e k) h = ((refl, refl), (equation_fits t (x, y) k h.1.0 n, tt))
 
-  precondition_fits : (o : Option Tree) → IfSome o (λ t. Fits t (suc (suc (suc n)))) → IfSome (precondition_at o) IsFittingPrecondition
-  precondition_fits None h = tt
-  precondition_fits (Some t) h = formula_fits t (suc (suc (suc n))) h
+-- what stands in a field that opens no more parentheses than there may be in a section
+module _ (n : ℕ) where
+  abbrev within : ℕ
+  within = suc (suc (suc n))
 
-  effect_at_fits : (o : Option Tree) → IfSome o IsTidy → IfSome (effect_at o) (IsFittingEffect n)
-  effect_at_fits None h = tt
-  effect_at_fits (Some t) h = effect_fits n t h
+  effect_fits : (t : Tree) (x : Effect) → SpellsEffect t x → Fits t within → Fits (effect_expression x) within
+  effect_fits _ _ (an_effect t ls k) h = conjunction_fits (each literal_expression ls) (suc (suc n)) (list_fits SpellsLiteral literal_expression (suc (suc n)) (literal_fits n) t ls k (is_tidy t within h))
 
-  task_at_fits : (o : Option Tree) → IfSome o IsTidy → IfSome (task_at o) IsFittingTask
-  task_at_fits None h = tt
-  task_at_fits (Some t) h = atom_fits (suc (suc n)) t h
+  parameters_fit : (t : Tree) (xs : List Typed) → SpellsParameters t xs → Fits t within → Fits (the_list (typed_members xs)) within
+  parameters_fit _ _ (parameters ts s xs k) h = typed_fits (suc (suc n)) sorts.Variable ts xs k (are_tidy ts (suc (suc n)) h)
 
-  -- the sections of tasks, methods and actions
-  abbrev pub IsFittingTaskSection : Task → Type 0
-  IsFittingTaskSection t = Fits (task_section t) (suc (suc (suc (suc n))))
+  subtasks_fit : (t : Tree) (xs : List Subtask) → SpellsList SpellsSubtask t xs → Fits t within → AllFit (each subtask_expression xs) (suc (suc n))
+  subtasks_fit t xs k h = list_fits SpellsSubtask subtask_expression (suc (suc n)) (subtask_fits n) t xs k (is_tidy t within h)
 
-  abbrev pub IsFittingMethod : Method → Type 0
-  IsFittingMethod m = Fits (method_section m) (suc (suc (suc (suc n))))
+  pairs_fit : (t : Tree) (xs : List Pair) → SpellsList SpellsPair t xs → Fits t within → AllFit (each pair_expression xs) (suc (suc n))
+  pairs_fit t xs k h = list_fits SpellsPair pair_expression (suc (suc n)) (pair_fits n) t xs k (is_tidy t within h)
 
-  abbrev pub IsFittingAction : Action → Type 0
-  IsFittingAction a = Fits (action_section a) (suc (suc (suc (suc n))))
+  constraints_fit : (t : Tree) (xs : List Constraint) → SpellsList SpellsConstraint t xs → Fits t within → AllFit (each constraint_expression xs) (suc (suc n))
+  constraints_fit t xs k h = list_fits SpellsConstraint constraint_expression (suc (suc n)) (constraint_fits n) t xs k (is_tidy t within h)
 
-  task_named_fits : (s : Span) (ts : Trees) (w : WordAt) → AreTidy ts → IsTidyWord w → IfSome (task_named s ts w) IsFittingTaskSection
-  task_named_fits s ts w h v =
-      if_true IsFittingTaskSection
-      (is_field_list (slots.Parameters ∷ slots.Precondition ∷ slots.Effect ∷ []) ts && is_nothing (field slots.Precondition ts) && is_nothing (field slots.Effect ts))
-      (option_map (task s w) (parameters_at (field slots.Parameters ts)))
-      (if_map (task s w) AreFittingParameters IsFittingTaskSection (λ vs k. ((refl, refl), (v, ((refl, refl), (k, tt))))) (parameters_at (field slots.Parameters ts)) (parameters_fit (field slots.Parameters ts) (field_tidy slots.Parameters ts h)))
+  form_fits : (o r : Option Tree) (q : Bool × List Subtask) → SpellsForm o r q → IfSome o (λ t. Fits t within) → IfSome r (λ t. Fits t within) → AllFit (each subtask_expression q.1) (suc (suc n))
+  form_fits _ _ _ no_form h k = tt
+  form_fits _ _ _ (unordered t xs l) h k = subtasks_fit t xs l h
+  form_fits _ _ _ (ordered t xs l) h k = subtasks_fit t xs l k
 
-  pub task_fits : (s : Span) (ts : Trees) → AreTidy ts → IfSome (task_of s ts) IsFittingTaskSection
-  task_fits s none h = tt
-  task_fits s (more t ts) h = and_then (task_named s ts) IsTidyWord IsFittingTaskSection (λ w v. task_named_fits s ts w h.1 v) (symbol_of t) (symbol_tidy t h.0)
+  keyword_fits : (b : Bool) → IsTidyText (subtasks_keyword b)
+  keyword_fits true = (refl, refl)
+  keyword_fits false = (refl, refl)
 
-  action_named_fits : (s : Span) (ts : Trees) (w : WordAt) → AllFit ts (suc (suc (suc n))) → IsTidyWord w → IfSome (action_named s ts w) IsFittingAction
-  action_named_fits s ts w h v =
-      let k : AreTidy ts = are_tidy ts (suc (suc (suc n))) h in
-      let o : Option (List Typed) = parameters_at (field slots.Parameters ts) in
-      let r : Option Effect = effect_at (field slots.Effect ts) in
-      if_true IsFittingAction (is_field_list (slots.Parameters ∷ slots.Precondition ∷ slots.Effect ∷ []) ts)
-      (both (action s w) (both tuple o r) (precondition_at (field slots.Precondition ts)))
-      (if_both (action s w) (λ q. AreFittingParameters q.0 × IsFittingEffect n q.1) IsFittingPrecondition IsFittingAction action_from
-      (both tuple o r) (precondition_at (field slots.Precondition ts))
-      (if_both tuple AreFittingParameters (IsFittingEffect n) (λ q. AreFittingParameters q.0 × IsFittingEffect n q.1) (λ vs e a b. (a, b)) o r
-      (parameters_fit (field slots.Parameters ts) (field_tidy slots.Parameters ts k)) (effect_at_fits (field slots.Effect ts) (field_tidy slots.Effect ts k)))
-      (precondition_fits (field slots.Precondition ts) (field_fits slots.Precondition ts (suc (suc (suc n))) h)))
-    where
-      action_from : (q : List Typed × Effect) (f : Formula) → AreFittingParameters q.0 × IsFittingEffect n q.1 → IsFittingPrecondition f → IsFittingAction (action s w q f)
-      action_from (vs, e) f a b = ((refl, refl), (v, ((refl, refl), (a.0, ((refl, refl), (b, ((refl, refl), (a.1, tt))))))))
+  members_fit : (k : List ℕ) (ts rest : Trees) → IsTidyText k → AllFit ts (suc (suc n)) → AllFit rest within → AllFit (with_members k ts rest) within
+  members_fit k none rest v h l = l
+  members_fit k (more t ts) rest v h l = (v, (((refl, refl), h), l))
 
-  pub action_fits : (s : Span) (ts : Trees) → AllFit ts (suc (suc (suc n))) → IfSome (action_of s ts) IsFittingAction
-  action_fits s none h = tt
-  action_fits s (more (list us p) ts) h = tt
-  action_fits s (more (word w p) ts) h = and_then (action_named s ts) IsTidyWord IsFittingAction (λ x v. action_named_fits s ts x h.1 v) (symbol_of (word w p)) (symbol_tidy (word w p) h.0)
+  network_fits : (ts : Trees) (m : Network) → SpellsNetwork ts m → AllFit ts within → AllFit (network_fields m) within
+  network_fits _ _ (a_network ts b xs ps cs k l m) h = (
+    keyword_fits b,
+    (
+      conjunction_fits (each subtask_expression xs) (suc (suc n)) (form_fits (field slots.Subtasks ts) (field slots.OrderedSubtasks ts) (b, xs) k (field_fits slots.Subtasks ts within h) (field_fits slots.OrderedSubtasks ts within h)),
+      members_fit (codes ":ordering") (each pair_expression ps) (with_members (codes ":constraints") (each constraint_expression cs) none) (refl, refl)
+          (if_any_fits (SpellsList SpellsPair) (λ t. Fits t within) (λ xs. AllFit (each pair_expression xs) (suc (suc n))) pairs_fit [] tt (field slots.Ordering ts) ps l (field_fits slots.Ordering ts within h))
+          (members_fit (codes ":constraints") (each constraint_expression cs) none (refl, refl)
+          (if_any_fits (SpellsList SpellsConstraint) (λ t. Fits t within) (λ xs. AllFit (each constraint_expression xs) (suc (suc n))) constraints_fit [] tt (field slots.Constraints ts) cs m (field_fits slots.Constraints ts within h)) tt),
+    ),
+  )
 
-  method_named_fits : (s : Span) (ts : Trees) (w : WordAt) → AllFit ts (suc (suc (suc n))) → IsTidyWord w → IfSome (method_named s ts w) IsFittingMethod
-  method_named_fits s ts w h v =
-      let k : AreTidy ts = are_tidy ts (suc (suc (suc n))) h in
-      let o : Option (List Typed) = parameters_at (field slots.Parameters ts) in
-      let r : Option Atom = task_at (field slots.Task ts) in
-      if_true IsFittingMethod (is_field_list method_slots ts)
-      (both (method s w) (both tuple (both tuple o r) (network_of ts)) (precondition_at (field slots.Precondition ts)))
-      (if_both (method s w) (λ q. (AreFittingParameters q.0.0 × IsFittingTask q.0.1) × IsFittingNetwork n q.1) IsFittingPrecondition IsFittingMethod method_from
-      (both tuple (both tuple o r) (network_of ts)) (precondition_at (field slots.Precondition ts))
-      (if_both tuple (λ p. AreFittingParameters p.0 × IsFittingTask p.1) (IsFittingNetwork n) (λ q. (AreFittingParameters q.0.0 × IsFittingTask q.0.1) × IsFittingNetwork n q.1) (λ p m a b. (a, b))
-      (both tuple o r) (network_of ts)
-      (if_both tuple AreFittingParameters IsFittingTask (λ p. AreFittingParameters p.0 × IsFittingTask p.1) (λ vs t a b. (a, b)) o r
-      (parameters_fit (field slots.Parameters ts) (field_tidy slots.Parameters ts k)) (task_at_fits (field slots.Task ts) (field_tidy slots.Task ts k)))
-      (network_fits n ts k))
-      (precondition_fits (field slots.Precondition ts) (field_fits slots.Precondition ts (suc (suc (suc n))) h)))
-    where
-      method_from : (q : (List Typed × Atom) × Network) (f : Formula) → (AreFittingParameters q.0.0 × IsFittingTask q.0.1) × IsFittingNetwork n q.1 → IsFittingPrecondition f → IsFittingMethod (method s w q f)
-      method_from ((vs, t), m) f a b = ((refl, refl), (v, ((refl, refl), (a.0.0, ((refl, refl), (a.0.1, ((refl, refl), (b, a.1))))))))
+  given_parameters : (ts : Trees) (xs : List Typed) → SpellsIfAny SpellsParameters [] (field slots.Parameters ts) xs → AllFit ts within → Fits (the_list (typed_members xs)) within
+  given_parameters ts xs k h = if_any_fits SpellsParameters (λ t. Fits t within) (λ xs. Fits (the_list (typed_members xs)) within) parameters_fit [] tt (field slots.Parameters ts) xs k (field_fits slots.Parameters ts within h)
 
-  pub method_fits : (s : Span) (ts : Trees) → AllFit ts (suc (suc (suc n))) → IfSome (method_of s ts) IsFittingMethod
-  method_fits s none h = tt
-  method_fits s (more (list us p) ts) h = tt
-  method_fits s (more (word w p) ts) h = and_then (method_named s ts) IsTidyWord IsFittingMethod (λ x v. method_named_fits s ts x h.1 v) (symbol_of (word w p)) (symbol_tidy (word w p) h.0)
+  given_precondition : (ts : Trees) (f : Formula) → SpellsIfAny SpellsFormula (and no_formulas) (field slots.Precondition ts) f → AllFit ts within → Fits (formula_expression f) within
+  given_precondition ts f k h =
+      if_any_fits SpellsFormula (λ t. Fits t within) (λ f. Fits (formula_expression f) within) (λ t f k h. formula_fits t f k within h) (and no_formulas) tt (field slots.Precondition ts) f k (field_fits slots.Precondition ts within h)
 
-  -- the section of an initial network
-  abbrev pub IsFittingHtn : Htn → Type 0
-  IsFittingHtn m = Fits (htn_section m) (suc (suc (suc (suc n))))
+  -- sections
+  pub predicate_fits : (t : Tree) (p : Predicate) → SpellsPredicate t p → IsTidy t → Fits (predicate_expression p) within
+  predicate_fits _ _ (a_predicate t w ts s xs k l) h = (symbol_tidy t w k h.0, typed_fits (suc (suc n)) sorts.Variable ts xs l h.1)
 
-  pub htn_fits : (s : Span) (ts : Trees) → AreTidy ts → IfSome (htn_of s ts) IsFittingHtn
-  htn_fits s ts h =
-      if_true IsFittingHtn (is_field_list htn_slots ts) (both (htn s) (parameters_at (field slots.Parameters ts)) (network_of ts))
-      (if_both (htn s) AreFittingParameters (IsFittingNetwork n) IsFittingHtn (λ vs m a b. ((refl, refl), ((refl, refl), (a, b)))) (parameters_at (field slots.Parameters ts)) (network_of ts)
-      (parameters_fit (field slots.Parameters ts) (field_tidy slots.Parameters ts h)) (network_fits n ts h))
+  pub task_fits : (s : Span) (ts : Trees) (x : Task) → SpellsTask s ts x → AllFit ts within → Fits (task_section x) (suc within)
+  task_fits s _ _ (a_task t w ts xs k e f g l) h = ((refl, refl), (symbol_tidy t w k (is_tidy t within h.0), ((refl, refl), (given_parameters ts xs l h.1, tt))))
 
--- the name of what is defined, and its sections
-pub one_name_tidy : (ts : Trees) → AreTidy ts → IfSome (one_name ts) IsTidyWord
-one_name_tidy ts h = and_then (sorted_word_of sorts.Name) IsTidy IsTidyWord (λ t k. sorted_tidy sorts.Name t k) (only ts) (only_tidy ts h)
+  pub method_fits : (s : Span) (ts : Trees) (x : Method) → SpellsMethod s ts x → AllFit ts within → Fits (method_section x) (suc within)
+  method_fits s _ _ (a_method t w ts xs a m f k e l j i g) h =
+      let task : Fits (atom_expression a) within = it_fits SpellsAtom (λ t. Fits t within) (λ a. Fits (atom_expression a) within) (λ t a k h. atom_fits (suc (suc n)) t a k (is_tidy t within h)) (field slots.Task ts) a j (field_fits slots.Task ts within h.1) in
+      ((refl, refl), (symbol_tidy t w k (is_tidy t within h.0), ((refl, refl), (given_parameters ts xs l h.1, ((refl, refl), (task, ((refl, refl), (given_precondition ts f g h.1, network_fits ts m i h.1))))))))
 
-title_tidy : (v : List ℕ) (t : Tree) → IsTidy t → IfSome (title_of v t) IsTidyWord
-title_tidy v (word w s) h = tt
-title_tidy v (list none s) h = tt
-title_tidy v (list (more t ts) s) h = if_true IsTidyWord (is_the_word v t) (one_name ts) (one_name_tidy ts h.1)
+  pub action_fits : (s : Span) (ts : Trees) (x : Action) → SpellsAction s ts x → AllFit ts within → Fits (action_section x) (suc within)
+  action_fits s _ _ (an_action t w ts xs x f k e l j g) h =
+      let brought : Fits (effect_expression x) within = if_any_fits SpellsEffect (λ t. Fits t within) (λ x. Fits (effect_expression x) within) effect_fits (effect []) tt (field slots.Effect ts) x j (field_fits slots.Effect ts within h.1) in
+      ((refl, refl), (symbol_tidy t w k (is_tidy t within h.0), ((refl, refl), (given_parameters ts xs l h.1, ((refl, refl), (given_precondition ts f g h.1, ((refl, refl), (brought, tt))))))))
 
-abbrev pub IsFittingDefinition : ℕ → WordAt × Trees × Span → Type 0
-IsFittingDefinition n p = IsTidyWord p.0 × AllFit p.1 n
-
-define_fits : (v : List ℕ) (t : Tree) (n : ℕ) → Fits t (suc (suc n)) → IfSome (define_form v t) (IsFittingDefinition (suc n))
-define_fits v (word w s) n h = tt
-define_fits v (list none s) n h = tt
-define_fits v (list (more d none) s) n h = tt
-define_fits v (list (more d (more (word w p) ts)) s) n h = if_true (IsFittingDefinition (suc n)) (is_the_word (codes "define") d) None tt
-define_fits v (list (more d (more (list us p) ts)) s) n h =
-    if_true (IsFittingDefinition (suc n)) (is_the_word (codes "define") d) (option_map (defined_with ts s) (title_of v (list us p)))
-    (if_map (defined_with ts s) IsTidyWord (IsFittingDefinition (suc n)) (λ w k. (k, h.1.1)) (title_of v (list us p)) (title_tidy v (list us p) (are_tidy us n h.1.0)))
-
-pub sections_fit : (v : List ℕ) (ts : Trees) (n : ℕ) → AllFit ts (suc (suc n)) → IfSome (sections_of v ts) (IsFittingDefinition (suc n))
-sections_fit v none n h = tt
-sections_fit v (more t none) n h = define_fits v t n h.0
-sections_fit v (more t (more u ts)) n h = tt
-
-headed_fits : (t : Tree) (n : ℕ) → Fits t (suc n) → IfSome (headed t) (λ p. AllFit p.1 n)
-headed_fits (word w s) n h = tt
-headed_fits (list none s) n h = tt
-headed_fits (list (more (word w p) ts) s) n h = h.1
-headed_fits (list (more (list us p) ts) s) n h = tt
-
--- what holds of all sections, and is kept when one is added, holds of the whole
-module _ {S : Type 0} (standing : List ℕ → Standing) (spelled : List ℕ → Span → Trees → Option S) (P : S → Type 0) (n : ℕ)
-    (good : (w : List ℕ) (s : Span) (ts : Trees) → AllFit ts n → IfSome (spelled w s ts) P) where
-  judged_good : (k : Option SyntaxKind) (odd : Bool) (o : Option S) → IfSome o P → (p : Span) → IfOk (at_place p (judged k odd o)) P
-  judged_good (Some kind) odd o h p = tt
-  judged_good None odd None h p = tt
-  judged_good None odd (Some s) h p = h
-
-  by_good : (before : List Tree) (p : Span) (o : Option (List ℕ × Trees)) → IfSome o (λ q. AllFit q.1 n) → IfOk (at_place p (section_by standing spelled before p o)) P
-  by_good before p None h = tt
-  by_good before p (Some (w, ts)) h = judged_good (refused (standing w) (occurs w before)) (has_unsupported w ts) (spelled w p ts) (good w p ts h) p
-
-  section_good : (before : List Tree) (t : Tree) → Fits t (suc n) → IfOk (section_of standing spelled before t) P
-  section_good before t h = by_good before (place_of t) (headed t) (headed_fits t n h)
-
-  module _ {V : Type 0} (add : V → S → V) (Q : V → Type 0) (kept : (v : V) (s : S) → Q v → P s → Q (add v s)) where
-    then_good : (r : Result S (SyntaxKind × Span)) (f : S → Result V (SyntaxKind × Span)) → IfOk r P → ((s : S) → P s → IfOk (f s) Q) → IfOk (r >>= f) Q
-    then_good (Ok s) f h k = k s h
-    then_good (Err e) f h k = tt
-
-    pub all_sections_fit : (ts : Trees) (v : V) (before : List Tree) → AllFit ts (suc n) → Q v → IfOk (sections_from (section_of standing spelled) add v before ts) Q
-    all_sections_fit none v before h k = k
-    all_sections_fit (more t ts) v before h k =
-        then_good (section_of standing spelled before t) (λ s. sections_from (section_of standing spelled) add (add v s) (before ++ t ∷ []) ts) (section_good before t h.0)
-        (λ s l. all_sections_fit ts (add v s) (before ++ t ∷ []) h.1 (kept v s k l))
-
--- sections one after another
-pub both_fit : (xs ys : List Tree) (n : ℕ) → AllFit (trees_of xs) n → AllFit (trees_of ys) n → AllFit (trees_of (xs ++ ys)) n
-both_fit [] ys n h k = k
-both_fit (x ∷ xs) ys n h k = (h.0, both_fit xs ys n h.1 k)
-
-pub unless_empty_fits : (k : List ℕ) (ts : Trees) (n : ℕ) → (is_word k ≡ true) × (lower k ≡ k) → AllFit ts n → AllFit (trees_of (unless_empty k ts)) (suc n)
-unless_empty_fits k none n v h = tt
-unless_empty_fits k (more t ts) n v h = ((v, h), tt)
-
-pub definition_fits : (kind : List ℕ) (w : WordAt) (ts : List Tree) (n : ℕ) → (is_word kind ≡ true) × (lower kind ≡ kind) → IsTidyWord w → AllFit (trees_of ts) (suc n) → Fits (definition kind w ts) (suc (suc n))
-definition_fits kind w ts n v h k = ((refl, refl), ((v, (h, tt)), k))
+  pub htn_fits : (s : Span) (ts : Trees) (x : Htn) → SpellsHtn s ts x → AllFit ts within → Fits (htn_section x) (suc within)
+  htn_fits s _ _ (an_htn ts xs m e k l) h = ((refl, refl), ((refl, refl), (given_parameters ts xs k h, network_fits ts m l h)))

@@ -1,127 +1,82 @@
--- The canonical expressions of domains and problems that were read have words in lower case, and nest no deeper than 256.
-use Rattle.std.proofs.Common.{◌≡◌, ℕ, suc, List, [], ◌∷◌, ◌++◌, Option, Some, None, Result, Ok, Err, option_map, refl, subst, codes, if◌then◌else◌}
-use Rattle.std.specs.Prelude.{IfSome, IfOk}
+-- The same of domains and problems.
+use Rattle.std.proofs.Common.{ℕ, suc, List, [], ◌∷◌, ◌++◌, Option, Some, None, refl, subst, codes}
+use Rattle.std.specs.Prelude.{IfSome}
 use Rattle.hv_text.specs.Trees.{Tree, Trees, none, more, trees_of}
 use Rattle.hv_text.specs.declared.span.Span.{Span}
+use Rattle.hv_syntax.specs.declared.section.Standing.{Standing}
 use Rattle.hv_syntax.specs.declared.word.Sort.TheVariants as sorts
-use Rattle.hv_syntax.specs.declared.fault.SyntaxKind.{SyntaxKind}
-use Rattle.hv_syntax.specs.Values.{WordAt, Typed, Formula, Literal, Predicate, Domain, Htn, Problem}
-use Rattle.hv_syntax.specs.Words.{is}
-use Rattle.hv_syntax.specs.Reading.{every}
-use Rattle.hv_syntax.specs.TypedLists.{typed_list_of}
-use Rattle.hv_syntax.specs.Literals.{ground_literal_of}
-use Rattle.hv_syntax.specs.Declarations.{predicate_of, task_of, method_of, action_of}
-use Rattle.hv_syntax.specs.Sections.{one_name, keyword_of, sections_of, ◌>>=◌}
+use Rattle.hv_syntax.specs.Values.{WordAt, Formula, Domain, Problem}
 use Rattle.hv_syntax.specs.Domains as domains
-use Rattle.hv_syntax.specs.Domains.{DomainSection, has_types, has_constants, has_predicates, has_task, has_method, has_action, domain_standing, domain_section_by, no_domain, add_section, domain_in, domain_of}
+use Rattle.hv_syntax.specs.Domains.{DomainSection, has_types, has_constants, has_predicates, has_task, has_method, has_action, domain_standing, no_domain, add_section}
 use Rattle.hv_syntax.specs.Problems as problems
-use Rattle.hv_syntax.specs.Problems.{ProblemSection, is_for, has_objects, has_htn, has_init, has_goal, htn_of, goal_of, problem_standing, problem_section_by, Parts, no_parts, add_part, parts_from, whole_by, whole, problem_in, problem_of}
-use Rattle.hv_syntax.specs.Canonical.{form, each, word_expression, typed_members, literal_expression}
-use Rattle.hv_syntax.specs.CanonicalSections.{predicate_expression, task_section, method_section, action_section, unless_empty, section_of_each, domain_sections, htn_section, goal_section, problem_sections, domain_expression, problem_expression}
-use Rattle.hv_syntax.proofs.Again.{if_map}
-use Rattle.hv_syntax.proofs.AgainSections.{if_else}
-use Rattle.hv_syntax.proofs.Fitting.{Fits, AllFit, are_tidy, IsTidyWord, sorted_tidy, every_fits, AreFittingTyped, typed_list_fits, IsFittingFormula, formula_fits}
-use Rattle.hv_syntax.proofs.FittingParts.{ground_literal_fits}
-use Rattle.hv_syntax.proofs.FittingSections.{predicate_fits, IsFittingTaskSection, task_fits, IsFittingMethod, method_fits, IsFittingAction, action_fits, IsFittingHtn, htn_fits, one_name_tidy, IsFittingDefinition, sections_fit, all_sections_fit, both_fit, unless_empty_fits, definition_fits}
+use Rattle.hv_syntax.specs.Problems.{ProblemSection, is_for, has_objects, has_htn, has_init, has_goal, problem_standing, Parts, no_parts, add_part}
+use Rattle.hv_syntax.specs.Spellings.{SpellsWord, SpellsGround}
+use Rattle.hv_syntax.specs.Tables as tables
+use Rattle.hv_syntax.specs.Tables.{SpellsPredicate, SpellsDomainSection, SpellsProblemSection, SpellsSection, a_section, SpellSections, no_sections, more_sections, SpellsDefine, a_definition, IsDomain, a_domain, IsProblem, a_problem}
+use Rattle.hv_syntax.specs.Canonical.{form, each, word_expression, typed_members, formula_expression, literal_expression}
+use Rattle.hv_syntax.specs.CanonicalSections.{predicate_expression, task_section, method_section, action_section, unless_empty, section_of_each, domain_sections, htn_section, goal_section, problem_sections, definition, domain_expression, problem_expression}
+use Rattle.hv_syntax.proofs.Parts.{Each, OfDomain, section_added, OfParts, part_added}
+use Rattle.hv_syntax.proofs.Fitting.{Fits, AllFit, is_tidy, are_tidy, IsTidyText, word_tidy, each_fits, typed_fits, formula_fits}
+use Rattle.hv_syntax.proofs.FittingSections.{ground_fits, predicate_fits, task_fits, method_fits, action_fits, htn_fits}
 
-abbrev Each : {A : Type 0} → (A → Type 0) → List A → Type 0
-Each P [] = Unit {0}
-Each P (x ∷ xs) = P x × Each P xs
+-- what holds of all sections, and is kept when one is added, holds of the whole
+module _ {S V : Type 0} (standing : List ℕ → Standing) (Spells : List ℕ → Span → Trees → S → Type 0) (add : V → S → V) (P : S → Type 0) (Q : V → Type 0) (n : ℕ)
+    (good : (w : List ℕ) (s : Span) (ts : Trees) (x : S) → Spells w s ts x → AllFit ts n → P x) (kept : (v : V) (x : S) → Q v → P x → Q (add v x)) where
+  section_good : (before : List Tree) (t : Tree) (x : S) → SpellsSection standing Spells before t x → Fits t (suc n) → P x
+  section_good before _ _ (a_section w p s ts x m k) h = good w s ts x k h.1
 
-each_more : {A : Type 0} (P : A → Type 0) (xs : List A) (x : A) → Each P xs → P x → Each P (xs ++ x ∷ [])
-each_more P [] x h k = (k, tt)
-each_more P (y ∷ ys) x h k = (h.0, each_more P ys x h.1 k)
+  sections_good : (v : V) (before : List Tree) (ts : Trees) (u : V) → SpellSections standing Spells add v before ts u → AllFit ts (suc n) → Q v → Q u
+  sections_good _ _ _ _ (no_sections v before) h q = q
+  sections_good _ _ _ _ (more_sections v u before t ts x k l) h q = sections_good (add v x) (before ++ t ∷ []) ts u l h.1 (kept v x q (section_good before t x k h.0))
 
-each_fits : {A : Type 0} (f : A → Tree) (n : ℕ) (xs : List A) → Each (λ x. Fits (f x) n) xs → AllFit (trees_of (section_of_each f xs)) n
-each_fits f n [] h = tt
-each_fits f n (x ∷ xs) h = (h.0, each_fits f n xs h.1)
+-- the name and the sections of a definition
+define_fits : (kind : List ℕ) (es : Trees) (w : WordAt) (ts : Trees) (s : Span) → SpellsDefine kind es w ts s → (n : ℕ) → AllFit es (suc (suc n)) → IsTidyText w.text × AllFit ts (suc n)
+define_fits kind _ _ _ _ (a_definition d p k q t w r ts s e f v) n h = (word_tidy sorts.Name t w v (is_tidy t n h.0.1.0.1.0), h.0.1.1)
 
+-- sections one after another
+both_fit : (xs ys : List Tree) (n : ℕ) → AllFit (trees_of xs) n → AllFit (trees_of ys) n → AllFit (trees_of (xs ++ ys)) n
+both_fit [] ys n h k = k
+both_fit (x ∷ xs) ys n h k = (h.0, both_fit xs ys n h.1 k)
+
+unless_empty_fits : (k : List ℕ) (ts : Trees) (n : ℕ) → IsTidyText k → AllFit ts n → AllFit (trees_of (unless_empty k ts)) (suc n)
+unless_empty_fits k none n v h = tt
+unless_empty_fits k (more t ts) n v h = ((v, h), tt)
+
+each_section_fits : {A : Type 0} (f : A → Tree) (n : ℕ) (xs : List A) → Each (λ x. Fits (f x) n) xs → AllFit (trees_of (section_of_each f xs)) n
+each_section_fits f n [] h = tt
+each_section_fits f n (x ∷ xs) h = (h.0, each_section_fits f n xs h.1)
+
+definition_fits : (kind : List ℕ) (w : WordAt) (ts : List Tree) (n : ℕ) → IsTidyText kind → IsTidyText w.text → AllFit (trees_of ts) (suc n) → Fits (definition kind w ts) (suc (suc n))
+definition_fits kind w ts n v h k = ((refl, refl), ((v, (h, tt)), k))
+
+-- a definition opens no more than so many parentheses, where effects and networks have room
 module _ (n : ℕ) where
-  -- how many parentheses may be open in a section, and among its members
-  abbrev most : ℕ
-  most = suc (suc (suc (suc n)))
-
   abbrev within : ℕ
   within = suc (suc (suc n))
 
-  abbrev AreFittingWords : List WordAt → Type 0
-  AreFittingWords ws = AllFit (each word_expression ws) within
+  abbrev IsFittingName : WordAt → Type 0
+  IsFittingName w = IsTidyText w.text
 
-  abbrev AreFittingNames : List Typed → Type 0
-  AreFittingNames vs = AreFittingTyped within vs
-
-  abbrev AreFittingPredicates : List Predicate → Type 0
-  AreFittingPredicates ps = AllFit (each predicate_expression ps) within
-
+  -- domains
   abbrev IsFittingSection : DomainSection → Type 0
-  IsFittingSection (domains.has_requirements ws) = AreFittingWords ws
-  IsFittingSection (has_types vs) = AreFittingNames vs
-  IsFittingSection (has_constants vs) = AreFittingNames vs
-  IsFittingSection (has_predicates ps) = AreFittingPredicates ps
-  IsFittingSection (has_task t) = IsFittingTaskSection n t
-  IsFittingSection (has_method m) = IsFittingMethod n m
-  IsFittingSection (has_action a) = IsFittingAction n a
+  IsFittingSection (domains.has_requirements ws) = AllFit (each word_expression ws) within
+  IsFittingSection (has_types vs) = AllFit (typed_members vs) within
+  IsFittingSection (has_constants vs) = AllFit (typed_members vs) within
+  IsFittingSection (has_predicates ps) = AllFit (each predicate_expression ps) within
+  IsFittingSection (has_task t) = Fits (task_section t) (suc within)
+  IsFittingSection (has_method m) = Fits (method_section m) (suc within)
+  IsFittingSection (has_action a) = Fits (action_section a) (suc within)
 
-  section_fits : (w : List ℕ) (s : Span) (ts : Trees) → AllFit ts within → IfSome (domain_section_by w s ts) IsFittingSection
-  section_fits w s ts h =
-      let k = are_tidy ts within h in
-      let requirements : Option DomainSection = option_map domains.has_requirements (every keyword_of ts) in
-      let types : Option DomainSection = option_map has_types (typed_list_of sorts.Name ts) in
-      let constants : Option DomainSection = option_map has_constants (typed_list_of sorts.Name ts) in
-      let predicates : Option DomainSection = option_map has_predicates (every predicate_of ts) in
-      let tasks : Option DomainSection = option_map has_task (task_of s ts) in
-      let methods : Option DomainSection = option_map has_method (method_of s ts) in
-      let actions : Option DomainSection = option_map has_action (action_of s ts) in
-      let r6 : Option DomainSection = if is w (codes ":action") then actions else None in
-      let r5 : Option DomainSection = if is w (codes ":method") then methods else r6 in
-      let r4 : Option DomainSection = if is w (codes ":task") then tasks else r5 in
-      let r3 : Option DomainSection = if is w (codes ":predicates") then predicates else r4 in
-      let r2 : Option DomainSection = if is w (codes ":constants") then constants else r3 in
-      let r1 : Option DomainSection = if is w (codes ":types") then types else r2 in
-      if_else IsFittingSection (is w (codes ":requirements")) requirements r1
-      (if_map domains.has_requirements AreFittingWords IsFittingSection (λ x l. l) (every keyword_of ts) (every_fits keyword_of word_expression within (λ t l. sorted_tidy sorts.Keyword t l) ts k))
-      (if_else IsFittingSection (is w (codes ":types")) types r2 (if_map has_types AreFittingNames IsFittingSection (λ x l. l) (typed_list_of sorts.Name ts) (typed_list_fits within sorts.Name ts k))
-      (if_else IsFittingSection (is w (codes ":constants")) constants r3 (if_map has_constants AreFittingNames IsFittingSection (λ x l. l) (typed_list_of sorts.Name ts) (typed_list_fits within sorts.Name ts k))
-      (if_else IsFittingSection (is w (codes ":predicates")) predicates r4
-      (if_map has_predicates AreFittingPredicates IsFittingSection (λ x l. l) (every predicate_of ts) (every_fits predicate_of predicate_expression within (predicate_fits (suc (suc n))) ts k))
-      (if_else IsFittingSection (is w (codes ":task")) tasks r5 (if_map has_task (IsFittingTaskSection n) IsFittingSection (λ x l. l) (task_of s ts) (task_fits n s ts k))
-      (if_else IsFittingSection (is w (codes ":method")) methods r6 (if_map has_method (IsFittingMethod n) IsFittingSection (λ x l. l) (method_of s ts) (method_fits n s ts h))
-      (if_else IsFittingSection (is w (codes ":action")) actions None (if_map has_action (IsFittingAction n) IsFittingSection (λ x l. l) (action_of s ts) (action_fits n s ts h)) tt))))))
+  section_fits : (w : List ℕ) (s : Span) (ts : Trees) (x : DomainSection) → SpellsDomainSection w s ts x → AllFit ts within → IsFittingSection x
+  section_fits _ _ _ _ (tables.requirements s ts ws k) h = each_fits (SpellsWord sorts.Keyword) word_expression within (word_tidy sorts.Keyword) ts ws k (are_tidy ts within h)
+  section_fits _ _ _ _ (tables.types s ts vs k) h = typed_fits within sorts.Name ts vs k (are_tidy ts within h)
+  section_fits _ _ _ _ (tables.constants s ts vs k) h = typed_fits within sorts.Name ts vs k (are_tidy ts within h)
+  section_fits _ _ _ _ (tables.predicates s ts ps k) h = each_fits SpellsPredicate predicate_expression within (predicate_fits n) ts ps k (are_tidy ts within h)
+  section_fits _ _ _ _ (tables.task_section s ts x k) h = task_fits n s ts x k h
+  section_fits _ _ _ _ (tables.method_section s ts x k) h = method_fits n s ts x k h
+  section_fits _ _ _ _ (tables.action_section s ts x k) h = action_fits n s ts x k h
 
-  -- all that a domain says
-  record IsFittingDomain (d : Domain) : Type 0 where
-    name : IsTidyWord d.name
-    requirements : AreFittingWords d.requirements
-    types : AreFittingNames d.types
-    constants : AreFittingNames d.constants
-    predicates : AreFittingPredicates d.predicates
-    tasks : Each (IsFittingTaskSection n) d.tasks
-    methods : Each (IsFittingMethod n) d.methods
-    actions : Each (IsFittingAction n) d.actions
-
-  kept : (d : Domain) (s : DomainSection) → IsFittingDomain d → IsFittingSection s → IsFittingDomain (add_section d s)
-  kept d (domains.has_requirements ws) g h =
-      record { name = g.name; requirements = h; types = g.types; constants = g.constants; predicates = g.predicates; tasks = g.tasks; methods = g.methods; actions = g.actions }
-  kept d (has_types vs) g h =
-      record { name = g.name; requirements = g.requirements; types = h; constants = g.constants; predicates = g.predicates; tasks = g.tasks; methods = g.methods; actions = g.actions }
-  kept d (has_constants vs) g h =
-      record { name = g.name; requirements = g.requirements; types = g.types; constants = h; predicates = g.predicates; tasks = g.tasks; methods = g.methods; actions = g.actions }
-  kept d (has_predicates ps) g h =
-      record { name = g.name; requirements = g.requirements; types = g.types; constants = g.constants; predicates = h; tasks = g.tasks; methods = g.methods; actions = g.actions }
-  kept d (has_task t) g h =
-      record { name = g.name; requirements = g.requirements; types = g.types; constants = g.constants; predicates = g.predicates; tasks = each_more (IsFittingTaskSection n) d.tasks t g.tasks h; methods = g.methods; actions = g.actions }
-  kept d (has_method m) g h =
-      record { name = g.name; requirements = g.requirements; types = g.types; constants = g.constants; predicates = g.predicates; tasks = g.tasks; methods = each_more (IsFittingMethod n) d.methods m g.methods h; actions = g.actions }
-  kept d (has_action a) g h =
-      record { name = g.name; requirements = g.requirements; types = g.types; constants = g.constants; predicates = g.predicates; tasks = g.tasks; methods = g.methods; actions = each_more (IsFittingAction n) d.actions a g.actions h }
-
-  domain_in_fits : (o : Option (WordAt × Trees × Span)) → IfSome o (IsFittingDefinition most) → IfOk (domain_in o) IsFittingDomain
-  domain_in_fits None h = tt
-  domain_in_fits (Some (w, ts, s)) h =
-      all_sections_fit domain_standing domain_section_by IsFittingSection within section_fits add_section IsFittingDomain kept ts (no_domain w) [] h.1
-      (record { name = h.0; requirements = tt; types = tt; constants = tt; predicates = tt; tasks = tt; methods = tt; actions = tt })
-
-  domain_fits : (d : Domain) → IsFittingDomain d → Fits (domain_expression d) (suc most)
+  domain_fits : (d : Domain) → OfDomain IsFittingName IsFittingSection d → Fits (domain_expression d) (suc (suc within))
   domain_fits d g =
       let r : List Tree = unless_empty (codes ":requirements") (each word_expression d.requirements) in
       let t : List Tree = unless_empty (codes ":types") (typed_members d.types) in
@@ -131,124 +86,75 @@ module _ (n : ℕ) where
       let m : List Tree = section_of_each method_section d.methods in
       let a : List Tree = section_of_each action_section d.actions in
       definition_fits (codes "domain") d.name (domain_sections d) within (refl, refl) g.name
-      (both_fit (r ++ t ++ c ++ p ++ k ++ m) a most
-      (both_fit (r ++ t ++ c ++ p ++ k) m most
-      (both_fit (r ++ t ++ c ++ p) k most
-      (both_fit (r ++ t ++ c) p most
-      (both_fit (r ++ t) c most
-      (both_fit r t most
+      (both_fit (r ++ t ++ c ++ p ++ k ++ m) a (suc within)
+      (both_fit (r ++ t ++ c ++ p ++ k) m (suc within)
+      (both_fit (r ++ t ++ c ++ p) k (suc within)
+      (both_fit (r ++ t ++ c) p (suc within)
+      (both_fit (r ++ t) c (suc within)
+      (both_fit r t (suc within)
       (unless_empty_fits (codes ":requirements") (each word_expression d.requirements) within (refl, refl) g.requirements)
       (unless_empty_fits (codes ":types") (typed_members d.types) within (refl, refl) g.types))
       (unless_empty_fits (codes ":constants") (typed_members d.constants) within (refl, refl) g.constants))
       (unless_empty_fits (codes ":predicates") (each predicate_expression d.predicates) within (refl, refl) g.predicates))
-      (each_fits task_section most d.tasks g.tasks))
-      (each_fits method_section most d.methods g.methods))
-      (each_fits action_section most d.actions g.actions))
+      (each_section_fits task_section (suc within) d.tasks g.tasks))
+      (each_section_fits method_section (suc within) d.methods g.methods))
+      (each_section_fits action_section (suc within) d.actions g.actions))
 
-  pub domain_read_fits : (ts : Trees) (d : Domain) → domain_of ts ≡ Ok d → AllFit ts (suc most) → Fits (domain_expression d) (suc most)
-  domain_read_fits ts d e h = domain_fits d (subst (λ r. IfOk r IsFittingDomain) e (domain_in_fits (sections_of (codes "domain") ts) (sections_fit (codes "domain") ts within h)))
+  pub domain_said_fits : (es : Trees) (d : Domain) → IsDomain es d → AllFit es (suc (suc within)) → Fits (domain_expression d) (suc (suc within))
+  domain_said_fits _ _ (a_domain es w ts s d k l) h =
+      let f = define_fits (codes "domain") es w ts s k within h in
+      domain_fits d
+      (sections_good domain_standing SpellsDomainSection add_section IsFittingSection (OfDomain IsFittingName IsFittingSection) within section_fits (section_added IsFittingName IsFittingSection) (no_domain w) [] ts d l f.1
+      (record { name = f.0; requirements = tt; types = tt; constants = tt; predicates = tt; tasks = tt; methods = tt; actions = tt }))
 
   -- problems
-  abbrev AreFittingLiterals : List Literal → Type 0
-  AreFittingLiterals ls = AllFit (each literal_expression ls) within
-
-  abbrev IsFittingGoal : Formula → Type 0
-  IsFittingGoal f = IsFittingFormula within f
-
   abbrev IsFittingPart : ProblemSection → Type 0
-  IsFittingPart (is_for w) = IsTidyWord w
-  IsFittingPart (problems.has_requirements ws) = AreFittingWords ws
-  IsFittingPart (has_objects vs) = AreFittingNames vs
-  IsFittingPart (has_htn h) = IsFittingHtn n h
-  IsFittingPart (has_init ls) = AreFittingLiterals ls
-  IsFittingPart (has_goal f) = IsFittingGoal f
+  IsFittingPart (is_for w) = IsFittingName w
+  IsFittingPart (problems.has_requirements ws) = AllFit (each word_expression ws) within
+  IsFittingPart (has_objects vs) = AllFit (typed_members vs) within
+  IsFittingPart (has_htn x) = Fits (htn_section x) (suc within)
+  IsFittingPart (has_init ls) = AllFit (each literal_expression ls) within
+  IsFittingPart (has_goal f) = Fits (formula_expression f) within
 
-  goal_fits : (ts : Trees) → AllFit ts within → IfSome (goal_of ts) IsFittingGoal
-  goal_fits none h = tt
-  goal_fits (more t none) h = formula_fits t within h.0
-  goal_fits (more t (more u ts)) h = tt
+  part_fits : (w : List ℕ) (s : Span) (ts : Trees) (x : ProblemSection) → SpellsProblemSection w s ts x → AllFit ts within → IsFittingPart x
+  part_fits _ _ _ _ (tables.domain_name s t w k) h = word_tidy sorts.Name t w k (is_tidy t within h.0)
+  part_fits _ _ _ _ (tables.problem_requirements s ts ws k) h = each_fits (SpellsWord sorts.Keyword) word_expression within (word_tidy sorts.Keyword) ts ws k (are_tidy ts within h)
+  part_fits _ _ _ _ (tables.objects s ts vs k) h = typed_fits within sorts.Name ts vs k (are_tidy ts within h)
+  part_fits _ _ _ _ (tables.htn_section s ts x k) h = htn_fits n s ts x k h
+  part_fits _ _ _ _ (tables.init s ts ls k) h = each_fits SpellsGround literal_expression within (ground_fits (suc n)) ts ls k (are_tidy ts within h)
+  part_fits _ _ _ _ (tables.goal s t f k) h = formula_fits t f k within h.0
 
-  part_fits : (w : List ℕ) (s : Span) (ts : Trees) → AllFit ts within → IfSome (problem_section_by w s ts) IsFittingPart
-  part_fits w s ts h =
-      let k = are_tidy ts within h in
-      let domain : Option ProblemSection = option_map is_for (one_name ts) in
-      let requirements : Option ProblemSection = option_map problems.has_requirements (every keyword_of ts) in
-      let objects : Option ProblemSection = option_map has_objects (typed_list_of sorts.Name ts) in
-      let network : Option ProblemSection = option_map has_htn (htn_of s ts) in
-      let literals : Option ProblemSection = option_map has_init (every ground_literal_of ts) in
-      let wanted : Option ProblemSection = option_map has_goal (goal_of ts) in
-      let r5 : Option ProblemSection = if is w (codes ":goal") then wanted else None in
-      let r4 : Option ProblemSection = if is w (codes ":init") then literals else r5 in
-      let r3 : Option ProblemSection = if is w (codes ":htn") then network else r4 in
-      let r2 : Option ProblemSection = if is w (codes ":objects") then objects else r3 in
-      let r1 : Option ProblemSection = if is w (codes ":requirements") then requirements else r2 in
-      if_else IsFittingPart (is w (codes ":domain")) domain r1 (if_map is_for IsTidyWord IsFittingPart (λ x l. l) (one_name ts) (one_name_tidy ts k))
-      (if_else IsFittingPart (is w (codes ":requirements")) requirements r2
-      (if_map problems.has_requirements AreFittingWords IsFittingPart (λ x l. l) (every keyword_of ts) (every_fits keyword_of word_expression within (λ t l. sorted_tidy sorts.Keyword t l) ts k))
-      (if_else IsFittingPart (is w (codes ":objects")) objects r3 (if_map has_objects AreFittingNames IsFittingPart (λ x l. l) (typed_list_of sorts.Name ts) (typed_list_fits within sorts.Name ts k))
-      (if_else IsFittingPart (is w (codes ":htn")) network r4 (if_map has_htn (IsFittingHtn n) IsFittingPart (λ x l. l) (htn_of s ts) (htn_fits n s ts k))
-      (if_else IsFittingPart (is w (codes ":init")) literals r5
-      (if_map has_init AreFittingLiterals IsFittingPart (λ x l. l) (every ground_literal_of ts) (every_fits ground_literal_of literal_expression within (ground_literal_fits (suc n)) ts k))
-      (if_else IsFittingPart (is w (codes ":goal")) wanted None (if_map has_goal IsFittingGoal IsFittingPart (λ x l. l) (goal_of ts) (goal_fits ts h)) tt)))))
-
-  -- all that the sections of a problem say
-  record AreFittingParts (p : Parts) : Type 0 where
-    domain : IfSome p.domain IsTidyWord
-    requirements : AreFittingWords p.requirements
-    objects : AreFittingNames p.objects
-    network : IfSome p.htn (IsFittingHtn n)
-    literals : IfSome p.init AreFittingLiterals
-    wanted : IfSome p.goal IsFittingGoal
-
-  part_kept : (p : Parts) (s : ProblemSection) → AreFittingParts p → IsFittingPart s → AreFittingParts (add_part p s)
-  part_kept p (is_for w) g h = record { domain = h; requirements = g.requirements; objects = g.objects; network = g.network; literals = g.literals; wanted = g.wanted }
-  part_kept p (problems.has_requirements ws) g h = record { domain = g.domain; requirements = h; objects = g.objects; network = g.network; literals = g.literals; wanted = g.wanted }
-  part_kept p (has_objects vs) g h = record { domain = g.domain; requirements = g.requirements; objects = h; network = g.network; literals = g.literals; wanted = g.wanted }
-  part_kept p (has_htn m) g h = record { domain = g.domain; requirements = g.requirements; objects = g.objects; network = h; literals = g.literals; wanted = g.wanted }
-  part_kept p (has_init ls) g h = record { domain = g.domain; requirements = g.requirements; objects = g.objects; network = g.network; literals = h; wanted = g.wanted }
-  part_kept p (has_goal f) g h = record { domain = g.domain; requirements = g.requirements; objects = g.objects; network = g.network; literals = g.literals; wanted = h }
-
-  goal_section_fits : (o : Option Formula) → IfSome o IsFittingGoal → AllFit (trees_of (goal_section o)) most
+  goal_section_fits : (o : Option Formula) → IfSome o (λ f. IsFittingPart (has_goal f)) → AllFit (trees_of (goal_section o)) (suc within)
   goal_section_fits None h = tt
   goal_section_fits (Some f) h = (((refl, refl), (h, tt)), tt)
 
-  problem_fits : (p : Problem) → IsTidyWord p.name → IsTidyWord p.domain → AreFittingWords p.requirements → AreFittingNames p.objects → IsFittingHtn n p.htn → AreFittingLiterals p.init → IfSome p.goal IsFittingGoal
-      → Fits (problem_expression p) (suc most)
-  problem_fits p a b c d e f g =
+  problem_fits : (p : Problem) → IsFittingName p.name → IsFittingPart (is_for p.domain) → IsFittingPart (problems.has_requirements p.requirements) → IsFittingPart (has_objects p.objects) → IsFittingPart (has_htn p.htn)
+      → IsFittingPart (has_init p.init) → IfSome p.goal (λ f. IsFittingPart (has_goal f)) → Fits (problem_expression p) (suc (suc within))
+  problem_fits p name for requirements objects network literals wanted =
+      let d : List Tree = form (codes ":domain") (more (word_expression p.domain) none) ∷ [] in
       let r : List Tree = unless_empty (codes ":requirements") (each word_expression p.requirements) in
       let o : List Tree = unless_empty (codes ":objects") (typed_members p.objects) in
-      let d1 : List Tree = form (codes ":domain") (more (word_expression p.domain) none) ∷ [] in
-      let h1 : List Tree = htn_section p.htn ∷ [] in
-      let l1 : List Tree = form (codes ":init") (each literal_expression p.init) ∷ [] in
-      definition_fits (codes "problem") p.name (problem_sections p) within (refl, refl) a
-      (both_fit (d1 ++ r ++ o ++ h1 ++ l1) (goal_section p.goal) most
-      (both_fit (d1 ++ r ++ o ++ h1) l1 most
-      (both_fit (d1 ++ r ++ o) h1 most
-      (both_fit (d1 ++ r) o most
-      (both_fit d1 r most (((refl, refl), (b, tt)), tt)
-      (unless_empty_fits (codes ":requirements") (each word_expression p.requirements) within (refl, refl) c))
-      (unless_empty_fits (codes ":objects") (typed_members p.objects) within (refl, refl) d))
-      (e, tt))
-      (((refl, refl), f), tt))
-      (goal_section_fits p.goal g))
+      let h : List Tree = htn_section p.htn ∷ [] in
+      let i : List Tree = form (codes ":init") (each literal_expression p.init) ∷ [] in
+      definition_fits (codes "problem") p.name (problem_sections p) within (refl, refl) name
+      (both_fit (d ++ r ++ o ++ h ++ i) (goal_section p.goal) (suc within)
+      (both_fit (d ++ r ++ o ++ h) i (suc within)
+      (both_fit (d ++ r ++ o) h (suc within)
+      (both_fit (d ++ r) o (suc within)
+      (both_fit d r (suc within) (((refl, refl), (for, tt)), tt)
+      (unless_empty_fits (codes ":requirements") (each word_expression p.requirements) within (refl, refl) requirements))
+      (unless_empty_fits (codes ":objects") (typed_members p.objects) within (refl, refl) objects))
+      (network, tt))
+      (((refl, refl), literals), tt))
+      (goal_section_fits p.goal wanted))
 
-  whole_fits : (s : Span) (w : WordAt) (p : Parts) (d : Option WordAt) (h : Option Htn) (ls : Option (List Literal)) → IsTidyWord w → AreFittingWords p.requirements → AreFittingNames p.objects → IfSome p.goal IsFittingGoal
-      → IfSome d IsTidyWord → IfSome h (IsFittingHtn n) → IfSome ls AreFittingLiterals → IfOk (whole_by s w p d h ls) (λ q. Fits (problem_expression q) (suc most))
-  whole_fits s w p None h ls a c d g b e f = tt
-  whole_fits s w p (Some x) None ls a c d g b e f = tt
-  whole_fits s w p (Some x) (Some h) None a c d g b e f = tt
-  whole_fits s w p (Some x) (Some h) (Some ls) a c d g b e f = problem_fits (record { name = w; domain = x; requirements = p.requirements; objects = p.objects; htn = h; init = ls; goal = p.goal }) a b c d e f g
-
-  then_whole : (s : Span) (w : WordAt) (r : Result Parts (SyntaxKind × Span)) → IsTidyWord w → IfOk r AreFittingParts → IfOk (r >>= whole s w) (λ q. Fits (problem_expression q) (suc most))
-  then_whole s w (Ok p) a g = whole_fits s w p p.domain p.htn p.init a g.requirements g.objects g.wanted g.domain g.network g.literals
-  then_whole s w (Err e) a g = tt
-
-  problem_in_fits : (o : Option (WordAt × Trees × Span)) → IfSome o (IsFittingDefinition most) → IfOk (problem_in o) (λ q. Fits (problem_expression q) (suc most))
-  problem_in_fits None h = tt
-  problem_in_fits (Some (w, ts, s)) h =
-      then_whole s w (parts_from no_parts [] ts) h.0
-      (all_sections_fit problem_standing problem_section_by IsFittingPart within part_fits add_part AreFittingParts part_kept ts no_parts [] h.1
-      (record { domain = tt; requirements = tt; objects = tt; network = tt; literals = tt; wanted = tt }))
-
-  pub problem_read_fits : (ts : Trees) (p : Problem) → problem_of ts ≡ Ok p → AllFit ts (suc most) → Fits (problem_expression p) (suc most)
-  problem_read_fits ts p e h = subst (λ r. IfOk r (λ q. Fits (problem_expression q) (suc most))) e (problem_in_fits (sections_of (codes "problem") ts) (sections_fit (codes "problem") ts within h))
+  pub problem_said_fits : (es : Trees) (p : Problem) → IsProblem es p → AllFit es (suc (suc within)) → Fits (problem_expression p) (suc (suc within))
+  problem_said_fits _ _ (a_problem es w ts s p m x ls k l d e f) h =
+      let a = define_fits (codes "problem") es w ts s k within h in
+      let g : OfParts IsFittingPart p =
+      sections_good problem_standing SpellsProblemSection add_part IsFittingPart (OfParts IsFittingPart) within part_fits (part_added IsFittingPart) no_parts [] ts p l a.1
+      (record { domain = tt; requirements = tt; objects = tt; network = tt; literals = tt; wanted = tt }) in
+      problem_fits (record { name = w; domain = m; requirements = p.requirements; objects = p.objects; htn = x; init = ls; goal = p.goal }) a.0
+      (subst (λ o. IfSome o (λ n. IsFittingPart (is_for n))) d g.domain) g.requirements g.objects
+      (subst (λ o. IfSome o (λ n. IsFittingPart (has_htn n))) e g.network)
+      (subst (λ o. IfSome o (λ n. IsFittingPart (has_init n))) f g.literals) g.wanted

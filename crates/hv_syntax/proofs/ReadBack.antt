@@ -1,11 +1,10 @@
 -- What is read from the canonical text of a domain.
-use Rattle.std.proofs.Common.{◌≡◌, ◌≤◌, ℕ, List, length, map, Option, Some, None, Ok, option_map, refl, ap, ◌∙◌, codes, arith}
+use Rattle.std.proofs.Common.{◌≡◌, ◌≤◌, ℕ, List, length, map, Option, Some, None, option_map, refl, ap, ◌∙◌, codes, arith}
 use Rattle.hv_text.specs.Trees.{Tree, Trees, none, more}
 use Rattle.hv_text.specs.Words.{pieces}
 use Rattle.hv_text.specs.Sexps.{spelled_all, AreExpressions}
 use Rattle.hv_text.specs.declared.fault.TheConstants.{MOST_BYTES, MOST_OPEN}
 use Rattle.hv_syntax.specs.Values.{WordAt, Effect, Subtask, Constraint, Network, network, Predicate, Task, Method, Action, Domain}
-use Rattle.hv_syntax.specs.Domains.{domain_of}
 use Rattle.hv_syntax.specs.Tables.{IsDomain}
 use Rattle.hv_syntax.specs.Texts.{IsDomainText}
 use Rattle.hv_syntax.specs.ReadBack.{IsReadBack}
@@ -17,7 +16,7 @@ use Rattle.hv_syntax.proofs.Alike.{domains_alike}
 use Rattle.hv_syntax.proofs.TextWords.{definition_pieces}
 use Rattle.hv_syntax.proofs.TextSpellings.{domain_table, one_domain, one_text}
 use Rattle.hv_syntax.proofs.Fitting.{Fits, is_tidy, is_within, all_fit}
-use Rattle.hv_syntax.proofs.FittingTexts.{domain_read_fits}
+use Rattle.hv_syntax.proofs.FittingTexts.{domain_said_fits}
 use Rattle.hv_syntax.proofs.PlacesSections.{map_twice, term_twice, atom_twice, typed_twice, formula_twice, literal_twice, domain_found}
 
 effect_twice : (e : Effect) → bare_effect (bare_effect e) ≡ bare_effect e
@@ -87,14 +86,14 @@ definition_found found kind n ts f l =
     let deep : depth t ≤ MOST_OPEN = is_within t MOST_OPEN f in
     found (definition_text kind n ts) (more t none) l (definition_pieces kind n ts (is_tidy t MOST_OPEN f)) (omega arith)
 
-domain_fits : Tidied → (text : List ℕ) (ts : Trees) (d : Domain) → AreExpressions text ts → domain_of ts ≡ Ok d → Fits (domain_expression d) MOST_OPEN
-domain_fits tidied text ts d x k = let w = tidied text ts x in domain_read_fits 251 ts d k (all_fit ts MOST_OPEN w.0 w.1)
+domain_fits : Tidied → (text : List ℕ) (d : Domain) → IsDomainText text d → Fits (domain_expression d) MOST_OPEN
+domain_fits tidied text d h = let w = tidied text h.0 h.1 in domain_said_fits 251 h.0 d h.2 (all_fit h.0 MOST_OPEN w.0 w.1)
 
 -- the canonical text of a domain has its canonical expression alone, places aside
 pub domain_expression_found : Tidied → Found → (text : List ℕ) (d : Domain) → IsDomainText text d → length (canonical_domain d) ≤ MOST_BYTES
     → (us : Trees) × AreExpressions (canonical_domain d) us × (bare_trees us ≡ bare_trees (more (domain_expression d) none))
 domain_expression_found tidied found text d h l =
-    definition_found found (codes "domain") d.name (domain_sections d) (domain_fits tidied text h.0 d h.1 ((domain_table h.0 d).0 h.2)) l
+    definition_found found (codes "domain") d.name (domain_sections d) (domain_fits tidied text d h) l
 
 -- it is read as that domain, places aside
 pub domain_back : Tidied → Found → (text : List ℕ) (d : Domain) → IsDomainText text d → IsReadBack IsDomainText bare_domain (canonical_domain d) d

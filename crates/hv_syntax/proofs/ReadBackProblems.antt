@@ -25,7 +25,7 @@ use Rattle.hv_syntax.proofs.AgainProblems.{problem_again}
 use Rattle.hv_syntax.proofs.Alike.{problems_alike}
 use Rattle.hv_syntax.proofs.TextSpellings.{problem_table, one_problem, one_text}
 use Rattle.hv_syntax.proofs.Fitting.{Fits, all_fit}
-use Rattle.hv_syntax.proofs.FittingTexts.{problem_read_fits}
+use Rattle.hv_syntax.proofs.FittingTexts.{problem_said_fits}
 use Rattle.hv_syntax.proofs.Places.{Same, same_map, same_if, every_same, sorted_same, word_is_same, typed_list_same, only_bare, formula_same, ground_literal_same}
 use Rattle.hv_syntax.proofs.PlacesSections.{ok_of, SameOk, then_same, sections_same, one_name_same, title_same, htn_same, map_twice, typed_twice, formula_twice, literal_twice, found}
 use Rattle.hv_syntax.proofs.ReadBack.{network_twice, Tidied, Found, One, definition_found}
@@ -134,14 +134,14 @@ problem_twice p =
     ∙ ap (λ x. record (bare_problem p) { init = x; goal = option_map bare_formula (option_map bare_formula p.goal) }) (map_twice bare_literal literal_twice p.init)
     ∙ ap (λ x. record (bare_problem p) { goal = x }) (goal_twice p.goal)
 
-problem_fits : Tidied → (text : List ℕ) (ts : Trees) (p : Problem) → AreExpressions text ts → problem_of ts ≡ Ok p → Fits (problem_expression p) MOST_OPEN
-problem_fits tidied text ts p x k = let w = tidied text ts x in problem_read_fits 251 ts p k (all_fit ts MOST_OPEN w.0 w.1)
+problem_fits : Tidied → (text : List ℕ) (p : Problem) → IsProblemText text p → Fits (problem_expression p) MOST_OPEN
+problem_fits tidied text p h = let w = tidied text h.0 h.1 in problem_said_fits 251 h.0 p h.2 (all_fit h.0 MOST_OPEN w.0 w.1)
 
 -- the canonical text of a problem has its canonical expression alone, places aside
 pub problem_expression_found : Tidied → Found → (text : List ℕ) (p : Problem) → IsProblemText text p → length (canonical_problem p) ≤ MOST_BYTES
     → (us : Trees) × AreExpressions (canonical_problem p) us × (bare_trees us ≡ bare_trees (more (problem_expression p) none))
 problem_expression_found tidied found text p h l =
-    definition_found found (codes "problem") p.name (problem_sections p) (problem_fits tidied text h.0 p h.1 ((problem_table h.0 p).0 h.2)) l
+    definition_found found (codes "problem") p.name (problem_sections p) (problem_fits tidied text p h) l
 
 -- it is read as that problem, places aside
 pub problem_back : Tidied → Found → (text : List ℕ) (p : Problem) → IsProblemText text p → IsReadBack IsProblemText bare_problem (canonical_problem p) p
