@@ -4,17 +4,17 @@ ghost use Rattle.std.specs.Prelude.{◌≡◌, ◌≤◌, ℕ, List, Some, Ok, l
 ghost use Rattle.hv_text.specs.Trees.{Tree, Trees, none, more};
 ghost use Rattle.hv_text.specs.Words.{pieces};
 ghost use Rattle.hv_text.specs.Sexps.{spelled, AreExpressions};
+ghost use Rattle.hv_text.specs.Shapes.{bare_piece, bare_trees, IsTidy};
+ghost use Rattle.hv_text.specs.declared.fault.TheConstants.{MOST_BYTES};
 ghost use Rattle.hv_syntax.specs.Values.{Formula, Effect, Domain, Problem};
 ghost use Rattle.hv_syntax.specs.Formulas.{formula_of};
 ghost use Rattle.hv_syntax.specs.Literals.{effect_of};
 ghost use Rattle.hv_syntax.specs.Domains.{domain_of};
 ghost use Rattle.hv_syntax.specs.Problems.{problem_of};
+ghost use Rattle.hv_syntax.specs.Texts.{IsDomainText, IsProblemText};
 ghost use Rattle.hv_syntax.specs.CanonicalSections.{domain_expression, problem_expression, canonical_domain, canonical_problem};
 ghost use Rattle.hv_syntax.specs.Canonical.{text, formula_expression, effect_expression};
 ghost use Rattle.hv_syntax.specs.Bare.{bare_formula, bare_effect, bare_domain, bare_problem};
-ghost use Rattle.hv_text.specs.Shapes.{bare_piece, bare_trees, IsTidy};
-ghost use Rattle.hv_text.specs.declared.fault.TheConstants.{MOST_BYTES};
-ghost use Rattle.hv_syntax.specs.Texts.{IsDomainText, IsProblemText};
 ghost use Rattle.hv_syntax.specs.ReadBack.{IsReadBack};
 
 use hv_text::{a_text_has_one_reading, expressions_are_tidy, texts_have_what_they_spell};
@@ -39,6 +39,11 @@ pub fn problems_are_read_again()
     ensures { (ts : Trees) (p : Problem) → problem_of ts ≡ Ok p → problem_of (more (problem_expression p) none) ≡ Ok (bare_problem p) }
 {}
 
+/// Where some expressions are read as a domain, those that differ from them in places alone are read as the same domain, places aside.
+pub fn domains_are_read_wherever_they_stand()
+    ensures { (us vs : Trees) (d : Domain) → bare_trees us ≡ bare_trees vs → domain_of vs ≡ Ok d → (e : Domain) × (domain_of us ≡ Ok e) × (bare_domain e ≡ bare_domain d) }
+{}
+
 /// Domains that are the same, places aside, have the same canonical text.
 pub fn domains_are_printed_alike()
     ensures { (d e : Domain) → bare_domain d ≡ bare_domain e → canonical_domain d ≡ canonical_domain e }
@@ -54,7 +59,8 @@ pub fn texts_have_the_words_of_their_expressions()
     ensures { (e : Tree) → IsTidy e → map bare_piece (pieces (text e)) ≡ map bare_piece (spelled e) }
 {}
 
-/// The canonical text of a domain that a text says has the domain's canonical expression alone, places aside, where it is within the limit.
+/// Where a text says a domain, the canonical text of that domain has its canonical expression alone, places aside, if it is within
+/// the limit of texts. Its parentheses are never too many: formulas nest as deep as in that text, all else at most five.
 pub fn domain_texts_have_their_expression()
     ensures { (text : List ℕ) (d : Domain) → IsDomainText text d → length (canonical_domain d) ≤ MOST_BYTES → (ts : Trees) × AreExpressions (canonical_domain d) ts × (bare_trees ts ≡ bare_trees (more (domain_expression d) none)) }
 {
@@ -62,7 +68,8 @@ pub fn domain_texts_have_their_expression()
     texts_have_what_they_spell();
 }
 
-/// The canonical text of a problem that a text says has the problem's canonical expression alone, places aside, where it is within the limit.
+/// Where a text says a problem, the canonical text of that problem has its canonical expression alone, places aside, if it is within
+/// the limit of texts. Its parentheses are never too many: formulas nest as deep as in that text, all else at most five.
 pub fn problem_texts_have_their_expression()
     ensures { (text : List ℕ) (p : Problem) → IsProblemText text p → length (canonical_problem p) ≤ MOST_BYTES → (ts : Trees) × AreExpressions (canonical_problem p) ts × (bare_trees ts ≡ bare_trees (more (problem_expression p) none)) }
 {
@@ -70,12 +77,8 @@ pub fn problem_texts_have_their_expression()
     texts_have_what_they_spell();
 }
 
-/// Where some expressions are read as a domain, those that differ from them in places alone are read as the same domain, places aside.
-pub fn domains_are_read_wherever_they_stand()
-    ensures { (us vs : Trees) (d : Domain) → bare_trees us ≡ bare_trees vs → domain_of vs ≡ Ok d → (e : Domain) × (domain_of us ≡ Ok e) × (bare_domain e ≡ bare_domain d) }
-{}
-
-/// The canonical text of a domain that a text says is read as that domain, places aside, where it is within the limit; and as no other.
+/// Where a text says a domain, the canonical text of that domain says it too, places aside, if it is within the limit of texts; and it
+/// says no other.
 pub fn domain_texts_are_read_back()
     ensures some { (text : List ℕ) (d : Domain) → IsDomainText text d → IsReadBack IsDomainText bare_domain (canonical_domain d) d }
     ensures only { (text : List ℕ) (d e : Domain) → IsDomainText text d → IsDomainText (canonical_domain d) e → bare_domain e ≡ bare_domain d }
@@ -85,7 +88,7 @@ pub fn domain_texts_are_read_back()
     a_text_has_one_reading();
 }
 
-/// What is read from the canonical text of a domain that a text says has that canonical text too.
+/// Where a text says a domain, what the canonical text of that domain says is printed again as the same bytes.
 pub fn domain_texts_are_printed_again()
     ensures { (text : List ℕ) (d e : Domain) → IsDomainText text d → IsDomainText (canonical_domain d) e → canonical_domain e ≡ canonical_domain d }
 {
@@ -94,7 +97,8 @@ pub fn domain_texts_are_printed_again()
     a_text_has_one_reading();
 }
 
-/// The canonical text of a problem that a text says is read as that problem, places aside, where it is within the limit; and as no other.
+/// Where a text says a problem, the canonical text of that problem says it too, places aside, if it is within the limit of texts; and it
+/// says no other.
 pub fn problem_texts_are_read_back()
     ensures some { (text : List ℕ) (p : Problem) → IsProblemText text p → IsReadBack IsProblemText bare_problem (canonical_problem p) p }
     ensures only { (text : List ℕ) (p q : Problem) → IsProblemText text p → IsProblemText (canonical_problem p) q → bare_problem q ≡ bare_problem p }
@@ -104,7 +108,7 @@ pub fn problem_texts_are_read_back()
     a_text_has_one_reading();
 }
 
-/// What is read from the canonical text of a problem that a text says has that canonical text too.
+/// Where a text says a problem, what the canonical text of that problem says is printed again as the same bytes.
 pub fn problem_texts_are_printed_again()
     ensures { (text : List ℕ) (p q : Problem) → IsProblemText text p → IsProblemText (canonical_problem p) q → canonical_problem q ≡ canonical_problem p }
 {
