@@ -19,15 +19,8 @@ use Rattle.hv_syntax.specs.CanonicalSections.{predicate_expression, task_section
 use Rattle.hv_syntax.specs.Bare.{bare_word, bare_typed, bare_predicate, bare_task, bare_method, bare_action, bare_domain}
 use Rattle.hv_syntax.proofs.Again.{if_map, AreReadAgain, every_again, sorted_again, AreTypedAgain, typed_list_again}
 use Rattle.hv_syntax.proofs.AgainDeclarations.{predicate_again, task_members, IsTaskAgain, task_again, method_members, IsMethodAgain, method_again, action_members, IsActionAgain, action_again}
+use Rattle.hv_syntax.proofs.Parts.{Each, OfDomain, section_added}
 use Rattle.hv_syntax.proofs.AgainSections.{IsNameAgain, if_else, sections_again, sections_good, once_read, often_read, nor, not_in_other, Reads, reads_one, reads_none, reads_both, reads_all}
-
-abbrev Each : {A : Type 0} → (A → Type 0) → List A → Type 0
-Each P [] = Unit {0}
-Each P (x ∷ xs) = P x × Each P xs
-
-each_more : {A : Type 0} (P : A → Type 0) (xs : List A) (x : A) → Each P xs → P x → Each P (xs ++ x ∷ [])
-each_more P [] x h k = (k, tt)
-each_more P (y ∷ ys) x h k = (h.0, each_more P ys x h.1 k)
 
 abbrev AreKeywordsAgain : List WordAt → Type 0
 AreKeywordsAgain ws = AreReadAgain keyword_of word_expression bare_word ws
@@ -71,36 +64,13 @@ section_again w s ts =
     (if_else IsSectionAgain (is w (codes ":action")) actions None (if_map has_action IsActionAgain IsSectionAgain (λ x h. h) (action_of s ts) (action_again s ts)) tt))))))
 
 -- all that a domain says is read again
-record IsDomainAgain (d : Domain) : Type 0 where
-  name : IsNameAgain d.name
-  requirements : AreKeywordsAgain d.requirements
-  types : AreNamesAgain d.types
-  constants : AreNamesAgain d.constants
-  predicates : ArePredicatesAgain d.predicates
-  tasks : Each IsTaskAgain d.tasks
-  methods : Each IsMethodAgain d.methods
-  actions : Each IsActionAgain d.actions
-
-kept : (d : Domain) (s : DomainSection) → IsDomainAgain d → IsSectionAgain s → IsDomainAgain (add_section d s)
-kept d (has_requirements ws) g h =
-    record { name = g.name; requirements = h; types = g.types; constants = g.constants; predicates = g.predicates; tasks = g.tasks; methods = g.methods; actions = g.actions }
-kept d (has_types vs) g h =
-    record { name = g.name; requirements = g.requirements; types = h; constants = g.constants; predicates = g.predicates; tasks = g.tasks; methods = g.methods; actions = g.actions }
-kept d (has_constants vs) g h =
-    record { name = g.name; requirements = g.requirements; types = g.types; constants = h; predicates = g.predicates; tasks = g.tasks; methods = g.methods; actions = g.actions }
-kept d (has_predicates ps) g h =
-    record { name = g.name; requirements = g.requirements; types = g.types; constants = g.constants; predicates = h; tasks = g.tasks; methods = g.methods; actions = g.actions }
-kept d (has_task t) g h =
-    record { name = g.name; requirements = g.requirements; types = g.types; constants = g.constants; predicates = g.predicates; tasks = each_more IsTaskAgain d.tasks t g.tasks h; methods = g.methods; actions = g.actions }
-kept d (has_method m) g h =
-    record { name = g.name; requirements = g.requirements; types = g.types; constants = g.constants; predicates = g.predicates; tasks = g.tasks; methods = each_more IsMethodAgain d.methods m g.methods h; actions = g.actions }
-kept d (has_action a) g h =
-    record { name = g.name; requirements = g.requirements; types = g.types; constants = g.constants; predicates = g.predicates; tasks = g.tasks; methods = g.methods; actions = each_more IsActionAgain d.actions a g.actions h }
+abbrev IsDomainAgain : Domain → Type 0
+IsDomainAgain d = OfDomain IsNameAgain IsSectionAgain d
 
 domain_in_good : (o : Option (WordAt × Trees × Span)) → IfSome o (λ p. IsNameAgain p.0) → IfOk (domain_in o) IsDomainAgain
 domain_in_good None h = tt
 domain_in_good (Some (n, ts, s)) h =
-    sections_good domain_standing domain_section_by IsSectionAgain section_again add_section IsDomainAgain kept ts (no_domain n) []
+    sections_good domain_standing domain_section_by IsSectionAgain section_again add_section IsDomainAgain (section_added IsNameAgain IsSectionAgain) ts (no_domain n) []
     (record { name = h; requirements = refl; types = refl; constants = refl; predicates = refl; tasks = tt; methods = tt; actions = tt })
 
 domain_good : (ts : Trees) → IfOk (domain_of ts) IsDomainAgain

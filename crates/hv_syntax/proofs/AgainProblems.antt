@@ -21,6 +21,7 @@ use Rattle.hv_syntax.specs.Bare.{bare_word, bare_typed, bare_formula, bare_liter
 use Rattle.hv_syntax.proofs.Again.{if_map, AreReadAgain, every_again, sorted_again, AreTypedAgain, typed_list_again}
 use Rattle.hv_syntax.proofs.AgainFormulas.{IsFormulaAgain, formula_again, ground_literal_again}
 use Rattle.hv_syntax.proofs.AgainDeclarations.{htn_members, IsHtnAgain, htn_again}
+use Rattle.hv_syntax.proofs.Parts.{OfParts, part_added}
 use Rattle.hv_syntax.proofs.AgainSections.{IsNameAgain, if_else, one_name_again, sections_again, sections_good, once_read, nor, not_in_other, Reads, reads_one, reads_none, reads_both, reads_all}
 
 abbrev AreKeywordsAgain : List WordAt → Type 0
@@ -65,21 +66,8 @@ section_again w s ts =
     (if_else IsSectionAgain (is w (codes ":goal")) wanted None (if_map has_goal IsFormulaAgain IsSectionAgain (λ x h. h) (goal_of ts) (goal_of_only (only ts))) tt)))))
 
 -- all that the sections of a problem say is read again
-record ArePartsAgain (p : Parts) : Type 0 where
-  domain : IfSome p.domain IsNameAgain
-  requirements : AreKeywordsAgain p.requirements
-  objects : AreNamesAgain p.objects
-  network : IfSome p.htn IsHtnAgain
-  literals : IfSome p.init AreGroundAgain
-  wanted : IfSome p.goal IsFormulaAgain
-
-kept : (p : Parts) (s : ProblemSection) → ArePartsAgain p → IsSectionAgain s → ArePartsAgain (add_part p s)
-kept p (is_for n) g h = record { domain = h; requirements = g.requirements; objects = g.objects; network = g.network; literals = g.literals; wanted = g.wanted }
-kept p (has_requirements ws) g h = record { domain = g.domain; requirements = h; objects = g.objects; network = g.network; literals = g.literals; wanted = g.wanted }
-kept p (has_objects vs) g h = record { domain = g.domain; requirements = g.requirements; objects = h; network = g.network; literals = g.literals; wanted = g.wanted }
-kept p (has_htn n) g h = record { domain = g.domain; requirements = g.requirements; objects = g.objects; network = h; literals = g.literals; wanted = g.wanted }
-kept p (has_init ls) g h = record { domain = g.domain; requirements = g.requirements; objects = g.objects; network = g.network; literals = h; wanted = g.wanted }
-kept p (has_goal f) g h = record { domain = g.domain; requirements = g.requirements; objects = g.objects; network = g.network; literals = g.literals; wanted = h }
+abbrev ArePartsAgain : Parts → Type 0
+ArePartsAgain p = OfParts IsSectionAgain p
 
 -- all that a problem says is read again
 record IsProblemAgain (p : Problem) : Type 0 where
@@ -106,7 +94,7 @@ problem_in_good : (o : Option (WordAt × Trees × Span)) → IfSome o (λ p. IsN
 problem_in_good None h = tt
 problem_in_good (Some (n, ts, s)) h =
     then_whole s n h (parts_from no_parts [] ts)
-    (sections_good problem_standing problem_section_by IsSectionAgain section_again add_part ArePartsAgain kept ts no_parts []
+    (sections_good problem_standing problem_section_by IsSectionAgain section_again add_part ArePartsAgain (part_added IsSectionAgain) ts no_parts []
     (record { domain = tt; requirements = refl; objects = refl; network = tt; literals = tt; wanted = tt }))
 
 problem_good : (ts : Trees) → IfOk (problem_of ts) IsProblemAgain

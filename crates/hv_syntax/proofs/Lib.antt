@@ -17,11 +17,15 @@ pub mod AgainFormulas
 pub mod AgainNetworks
 pub mod AgainDeclarations
 pub mod AgainSections
+pub mod Parts
 pub mod AgainDomains
 pub mod AgainProblems
 pub mod Alike
 pub mod TextWords
 pub mod Places
 pub mod PlacesSections
+pub mod Fitting
+pub mod FittingSections
+pub mod FittingTexts
 pub mod ReadBack
 pub mod ReadBackProblems

@@ -24,7 +24,7 @@ use Rattle.hv_syntax.specs.Literals.{literal_by, literal_of, effect_of, is_const
 use Rattle.hv_syntax.specs.Fields.{slot_of, same_slot, is_in, field, is_field_list}
 use Rattle.hv_syntax.specs.Networks.{with_list, labelled, with_label, subtask_by, subtask_of, pair_by, pair_of, equation_by, equation_of, constraint_by, constraint_of, listed_at, subtasks_by, network_with, network_of}
 use Rattle.hv_syntax.specs.Bare.{bare_word, bare_term, bare_atom, bare_typed, bare_formula, bare_formulas, bare_literal, bare_effect, bare_subtask, bare_pair, bare_constraint, bare_network}
-use Rattle.hv_syntax.specs.Shapes.{bare_tree, bare_trees}
+use Rattle.hv_text.specs.Shapes.{bare_tree, bare_trees}
 
 -- both are nothing, or the same with their places aside
 abbrev pub Same : {A : Type 0} → (A → A) → Option A → Option A → Type 0

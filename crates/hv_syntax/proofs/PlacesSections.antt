@@ -24,7 +24,7 @@ use Rattle.hv_syntax.specs.Domains as d
 use Rattle.hv_syntax.specs.Domains.{DomainSection, has_types, has_constants, has_predicates, has_task, has_method, has_action, domain_standing, domain_section_by, domain_section, no_domain, add_section, domain_in, domain_of}
 use Rattle.hv_syntax.specs.Problems.{htn_slots, htn_of}
 use Rattle.hv_syntax.specs.Bare.{bare_word, bare_term, bare_atom, bare_typed, bare_formula, bare_formulas, bare_literal, bare_effect, bare_network, bare_predicate, bare_task, bare_method, bare_action, bare_domain, bare_htn}
-use Rattle.hv_syntax.specs.Shapes.{bare_tree, bare_trees}
+use Rattle.hv_text.specs.Shapes.{bare_tree, bare_trees}
 use Rattle.hv_syntax.proofs.Places.{Same, same_map, same_both, same_if, same_then, every_same, sorted_same, symbol_same, word_is_same, atom_same, typed_list_same, only_bare, conjuncts_same, formula_same, effect_same, field_same, field_list_same, network_same}
 
 predicate_same : (t : Tree) → Same bare_predicate (predicate_of (bare_tree t)) (predicate_of t)

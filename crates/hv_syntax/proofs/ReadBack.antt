@@ -1,15 +1,22 @@
 -- What is read from the canonical text of a domain.
-use Rattle.std.proofs.Common.{◌≡◌, map, Option, Some, None, Result, Ok, option_map, refl, ap, ◌∙◌, codes}
-use Rattle.hv_text.specs.Trees.{Trees, none, more}
-use Rattle.hv_text.specs.Sexps.{AreExpressions}
+use Rattle.std.proofs.Common.{◌≡◌, ◌≤◌, ℕ, List, length, map, Option, Some, None, option_map, refl, ap, ◌∙◌, codes, arith}
+use Rattle.hv_text.specs.Trees.{Tree, Trees, none, more}
+use Rattle.hv_text.specs.Words.{pieces}
+use Rattle.hv_text.specs.Sexps.{spelled_all, AreExpressions}
+use Rattle.hv_text.specs.declared.fault.TheConstants.{MOST_BYTES, MOST_OPEN}
 use Rattle.hv_syntax.specs.Values.{WordAt, Effect, Subtask, Constraint, Network, network, Predicate, Task, Method, Action, Domain}
-use Rattle.hv_syntax.specs.Domains.{domain_of}
-use Rattle.hv_syntax.specs.CanonicalSections.{domain_sections, domain_expression, canonical_domain}
+use Rattle.hv_syntax.specs.Tables.{IsDomain}
+use Rattle.hv_syntax.specs.Texts.{IsDomainText}
+use Rattle.hv_syntax.specs.ReadBack.{IsReadBack}
+use Rattle.hv_syntax.specs.CanonicalSections.{definition, definition_text, domain_sections, domain_expression, canonical_domain}
 use Rattle.hv_syntax.specs.Bare.{bare_word, bare_term, bare_atom, bare_typed, bare_literal, bare_effect, bare_subtask, bare_pair, bare_constraint, bare_network, bare_predicate, bare_task, bare_method, bare_action, bare_domain}
-use Rattle.hv_syntax.specs.Shapes.{IsTidy}
+use Rattle.hv_text.specs.Shapes.{bare_piece, bare_trees, AreTidy, depth, depth_all}
 use Rattle.hv_syntax.proofs.AgainDomains.{domain_again}
 use Rattle.hv_syntax.proofs.Alike.{domains_alike}
-use Rattle.hv_syntax.proofs.TextWords.{definition_expressions}
+use Rattle.hv_syntax.proofs.TextWords.{definition_pieces}
+use Rattle.hv_syntax.proofs.TextSpellings.{domain_table, one_domain, one_text}
+use Rattle.hv_syntax.proofs.Fitting.{Fits, is_tidy, is_within, all_fit}
+use Rattle.hv_syntax.proofs.FittingTexts.{domain_said_fits}
 use Rattle.hv_syntax.proofs.PlacesSections.{map_twice, term_twice, atom_twice, typed_twice, formula_twice, literal_twice, domain_found}
 
 effect_twice : (e : Effect) → bare_effect (bare_effect e) ≡ bare_effect e
@@ -61,17 +68,46 @@ domain_twice d =
     ∙ ap (λ x. record (bare_domain d) { methods = x; actions = map bare_action (map bare_action d.actions) }) (map_twice bare_method method_twice d.methods)
     ∙ ap (λ x. record (bare_domain d) { actions = x }) (map_twice bare_action action_twice d.actions)
 
--- the expressions of the canonical text of a domain are read as that domain, places aside
-pub domain_back : (ts : Trees) (d : Domain) → domain_of ts ≡ Ok d → IsTidy (domain_expression d) → (us : Trees) → AreExpressions (canonical_domain d) us → (e : Domain) × (domain_of us ≡ Ok e) × (bare_domain e ≡ bare_domain d)
-domain_back ts d k h us x =
-    let f = domain_found us (more (domain_expression d) none) (bare_domain d) (definition_expressions (codes "domain") d.name (domain_sections d) h us x.spelled) (domain_again ts d k) in
-    (f.0, f.1, f.2 ∙ domain_twice d)
+-- what is known of the expressions of texts
+abbrev pub Tidied : Type 0
+Tidied = (text : List ℕ) (ts : Trees) → AreExpressions text ts → AreTidy ts × (depth_all ts ≤ MOST_OPEN)
 
-pub same_ok : {A E : Type 0} (r : Result A E) (x y : A) → r ≡ Ok x → r ≡ Ok y → x ≡ y
-same_ok r x y h k = cc
+abbrev pub Found : Type 0
+Found = (text : List ℕ) (ts : Trees) → length text ≤ MOST_BYTES → map bare_piece (pieces text) ≡ map bare_piece (spelled_all ts) → depth_all ts ≤ MOST_OPEN → (us : Trees) × AreExpressions text us × (bare_trees us ≡ bare_trees ts)
+
+abbrev pub One : Type 0
+One = (text : List ℕ) (ts us : Trees) → AreExpressions text ts → AreExpressions text us → ts ≡ us
+
+-- the text of a definition has it alone
+pub definition_found : Found → (kind : List ℕ) (n : WordAt) (ts : List Tree) → Fits (definition kind n ts) MOST_OPEN → length (definition_text kind n ts) ≤ MOST_BYTES
+    → (us : Trees) × AreExpressions (definition_text kind n ts) us × (bare_trees us ≡ bare_trees (more (definition kind n ts) none))
+definition_found found kind n ts f l =
+    let t : Tree = definition kind n ts in
+    let deep : depth t ≤ MOST_OPEN = is_within t MOST_OPEN f in
+    found (definition_text kind n ts) (more t none) l (definition_pieces kind n ts (is_tidy t MOST_OPEN f)) (omega arith)
+
+domain_fits : Tidied → (text : List ℕ) (d : Domain) → IsDomainText text d → Fits (domain_expression d) MOST_OPEN
+domain_fits tidied text d h = let w = tidied text h.0 h.1 in domain_said_fits 251 h.0 d h.2 (all_fit h.0 MOST_OPEN w.0 w.1)
+
+-- the canonical text of a domain has its canonical expression alone, places aside
+pub domain_expression_found : Tidied → Found → (text : List ℕ) (d : Domain) → IsDomainText text d → length (canonical_domain d) ≤ MOST_BYTES
+    → (us : Trees) × AreExpressions (canonical_domain d) us × (bare_trees us ≡ bare_trees (more (domain_expression d) none))
+domain_expression_found tidied found text d h l =
+    definition_found found (codes "domain") d.name (domain_sections d) (domain_fits tidied text d h) l
+
+-- it is read as that domain, places aside
+pub domain_back : Tidied → Found → (text : List ℕ) (d : Domain) → IsDomainText text d → IsReadBack IsDomainText bare_domain (canonical_domain d) d
+domain_back tidied found text d h l =
+    let w = domain_expression_found tidied found text d h l in
+    let f = domain_found w.0 (more (domain_expression d) none) (bare_domain d) w.2 (domain_again h.0 d ((domain_table h.0 d).0 h.2)) in
+    (f.0, (w.0, w.1, (domain_table w.0 f.0).1 f.1), f.2 ∙ domain_twice d)
+
+-- and as no other
+pub domain_only : Tidied → Found → One → (text : List ℕ) (d e : Domain) → IsDomainText text d → IsDomainText (canonical_domain d) e → bare_domain e ≡ bare_domain d
+domain_only tidied found one text d e h k =
+    let f = domain_back tidied found text d h k.1.size in
+    ap bare_domain (one_text IsDomain one_domain (canonical_domain d) (one (canonical_domain d)) e f.0 k f.1) ∙ f.2
 
 -- printing what is read from it gives that text again
-pub domain_bytes : (ts : Trees) (d : Domain) → domain_of ts ≡ Ok d → IsTidy (domain_expression d) → (us : Trees) → AreExpressions (canonical_domain d) us → (e : Domain) → domain_of us ≡ Ok e → canonical_domain e ≡ canonical_domain d
-domain_bytes ts d k h us x e l =
-    let f = domain_back ts d k h us x in
-    domains_alike e d (ap bare_domain (same_ok (domain_of us) e f.0 l f.1) ∙ f.2)
+pub domain_bytes : Tidied → Found → One → (text : List ℕ) (d e : Domain) → IsDomainText text d → IsDomainText (canonical_domain d) e → canonical_domain e ≡ canonical_domain d
+domain_bytes tidied found one text d e h k = domains_alike e d (domain_only tidied found one text d e h k)

@@ -1,30 +1,34 @@
 -- What is read of problems does not look at places; what is read from the canonical text of a problem.
-use Rattle.std.proofs.Common.{◌≡◌, ◌||◌, ℕ, Bool, true, false, List, [], ◌∷◌, map, Option, Some, None, Result, Ok, Err, option_map, refl, sym, ap, ◌∙◌, codes, if◌then◌else◌}
+use Rattle.std.proofs.Common.{◌≡◌, ◌≤◌, ℕ, Bool, true, false, List, [], length, map, Option, Some, None, Ok, option_map, refl, sym, ap, ◌∙◌, codes, if◌then◌else◌}
 use Rattle.std.specs.Prelude.{option_and_then}
 use Rattle.hv_text.specs.Trees.{Tree, word, list, Trees, none, more}
 use Rattle.hv_text.specs.Words.{nowhere}
 use Rattle.hv_text.specs.Sexps.{AreExpressions}
 use Rattle.hv_text.specs.declared.span.Span.{Span}
+use Rattle.hv_text.specs.declared.fault.TheConstants.{MOST_BYTES, MOST_OPEN}
 use Rattle.hv_syntax.specs.declared.word.Sort.TheVariants as sorts
-use Rattle.hv_syntax.specs.declared.fault.SyntaxKind.{SyntaxKind}
-use Rattle.hv_syntax.specs.Values.{WordAt, Typed, Formula, Literal, Htn, Problem}
+use Rattle.hv_syntax.specs.Values.{WordAt, Formula, Literal, Htn, Problem}
 use Rattle.hv_syntax.specs.Words.{is, is_the_word}
 use Rattle.hv_syntax.specs.Reading.{every, only}
 use Rattle.hv_syntax.specs.TypedLists.{typed_list_of}
 use Rattle.hv_syntax.specs.Formulas.{formula_of}
 use Rattle.hv_syntax.specs.Literals.{ground_literal_of}
-use Rattle.hv_syntax.specs.Sections.{one_name, keyword_of, title_of, defined_with, define_form, ◌>>=◌}
+use Rattle.hv_syntax.specs.Sections.{one_name, keyword_of, title_of, defined_with, define_form}
 use Rattle.hv_syntax.specs.Problems.{ProblemSection, is_for, has_requirements, has_objects, has_htn, has_init, has_goal, htn_of, goal_of, problem_standing, problem_section_by, Parts, no_parts, add_part, parts_from, whole_by, whole, problem_in, problem_of}
+use Rattle.hv_syntax.specs.Tables.{IsProblem}
+use Rattle.hv_syntax.specs.Texts.{IsProblemText}
+use Rattle.hv_syntax.specs.ReadBack.{IsReadBack}
 use Rattle.hv_syntax.specs.CanonicalSections.{problem_sections, problem_expression, canonical_problem}
-use Rattle.hv_syntax.specs.Bare.{bare_word, bare_typed, bare_formula, bare_literal, bare_network, bare_htn, bare_problem}
-use Rattle.hv_syntax.specs.Shapes.{bare_tree, bare_trees, IsTidy}
-use Rattle.hv_syntax.proofs.Again.{IsReadAgain}
+use Rattle.hv_syntax.specs.Bare.{bare_word, bare_typed, bare_formula, bare_literal, bare_htn, bare_problem}
+use Rattle.hv_text.specs.Shapes.{bare_tree, bare_trees}
 use Rattle.hv_syntax.proofs.AgainProblems.{problem_again}
 use Rattle.hv_syntax.proofs.Alike.{problems_alike}
-use Rattle.hv_syntax.proofs.TextWords.{definition_expressions}
+use Rattle.hv_syntax.proofs.TextSpellings.{problem_table, one_problem, one_text}
+use Rattle.hv_syntax.proofs.Fitting.{Fits, all_fit}
+use Rattle.hv_syntax.proofs.FittingTexts.{problem_said_fits}
 use Rattle.hv_syntax.proofs.Places.{Same, same_map, same_if, every_same, sorted_same, word_is_same, typed_list_same, only_bare, formula_same, ground_literal_same}
 use Rattle.hv_syntax.proofs.PlacesSections.{ok_of, SameOk, then_same, sections_same, one_name_same, title_same, htn_same, map_twice, typed_twice, formula_twice, literal_twice, found}
-use Rattle.hv_syntax.proofs.ReadBack.{network_twice, same_ok}
+use Rattle.hv_syntax.proofs.ReadBack.{network_twice, Tidied, Found, One, definition_found}
 
 abbrev bare_section : ProblemSection → ProblemSection
 bare_section (is_for n) = is_for (bare_word n)
@@ -130,14 +134,28 @@ problem_twice p =
     ∙ ap (λ x. record (bare_problem p) { init = x; goal = option_map bare_formula (option_map bare_formula p.goal) }) (map_twice bare_literal literal_twice p.init)
     ∙ ap (λ x. record (bare_problem p) { goal = x }) (goal_twice p.goal)
 
--- the expressions of the canonical text of a problem are read as that problem, places aside
-pub problem_back : (ts : Trees) (p : Problem) → problem_of ts ≡ Ok p → IsTidy (problem_expression p) → (us : Trees) → AreExpressions (canonical_problem p) us → (q : Problem) × (problem_of us ≡ Ok q) × (bare_problem q ≡ bare_problem p)
-problem_back ts p k h us x =
-    let f = problem_found us (more (problem_expression p) none) (bare_problem p) (definition_expressions (codes "problem") p.name (problem_sections p) h us x.spelled) (problem_again ts p k) in
-    (f.0, f.1, f.2 ∙ problem_twice p)
+problem_fits : Tidied → (text : List ℕ) (p : Problem) → IsProblemText text p → Fits (problem_expression p) MOST_OPEN
+problem_fits tidied text p h = let w = tidied text h.0 h.1 in problem_said_fits 251 h.0 p h.2 (all_fit h.0 MOST_OPEN w.0 w.1)
+
+-- the canonical text of a problem has its canonical expression alone, places aside
+pub problem_expression_found : Tidied → Found → (text : List ℕ) (p : Problem) → IsProblemText text p → length (canonical_problem p) ≤ MOST_BYTES
+    → (us : Trees) × AreExpressions (canonical_problem p) us × (bare_trees us ≡ bare_trees (more (problem_expression p) none))
+problem_expression_found tidied found text p h l =
+    definition_found found (codes "problem") p.name (problem_sections p) (problem_fits tidied text p h) l
+
+-- it is read as that problem, places aside
+pub problem_back : Tidied → Found → (text : List ℕ) (p : Problem) → IsProblemText text p → IsReadBack IsProblemText bare_problem (canonical_problem p) p
+problem_back tidied found text p h l =
+    let w = problem_expression_found tidied found text p h l in
+    let f = problem_found w.0 (more (problem_expression p) none) (bare_problem p) w.2 (problem_again h.0 p ((problem_table h.0 p).0 h.2)) in
+    (f.0, (w.0, w.1, (problem_table w.0 f.0).1 f.1), f.2 ∙ problem_twice p)
+
+-- and as no other
+pub problem_only : Tidied → Found → One → (text : List ℕ) (p q : Problem) → IsProblemText text p → IsProblemText (canonical_problem p) q → bare_problem q ≡ bare_problem p
+problem_only tidied found one text p q h k =
+    let f = problem_back tidied found text p h k.1.size in
+    ap bare_problem (one_text IsProblem one_problem (canonical_problem p) (one (canonical_problem p)) q f.0 k f.1) ∙ f.2
 
 -- printing what is read from it gives that text again
-pub problem_bytes : (ts : Trees) (p : Problem) → problem_of ts ≡ Ok p → IsTidy (problem_expression p) → (us : Trees) → AreExpressions (canonical_problem p) us → (q : Problem) → problem_of us ≡ Ok q → canonical_problem q ≡ canonical_problem p
-problem_bytes ts p k h us x q l =
-    let f = problem_back ts p k h us x in
-    problems_alike q p (ap bare_problem (same_ok (problem_of us) q f.0 l f.1) ∙ f.2)
+pub problem_bytes : Tidied → Found → One → (text : List ℕ) (p q : Problem) → IsProblemText text p → IsProblemText (canonical_problem p) q → canonical_problem q ≡ canonical_problem p
+problem_bytes tidied found one text p q h k = problems_alike q p (problem_only tidied found one text p q h k)

@@ -14,7 +14,7 @@ use Rattle.hv_text.specs.declared.words.Class.TheVariants.{Blank, Semicolon, Lef
 use Rattle.hv_syntax.specs.Values.{WordAt}
 use Rattle.hv_syntax.specs.Canonical.{text, joined, spaced}
 use Rattle.hv_syntax.specs.CanonicalSections.{title, definition, lines, definition_text}
-use Rattle.hv_syntax.specs.Shapes.{bare_piece, bare_tree, bare_trees, IsTidy, AreTidy}
+use Rattle.hv_text.specs.Shapes.{bare_piece, IsTidy, AreTidy}
 
 -- what stands in bytes without comments, places aside
 abbrev begins : Bool → ℕ → List ℕ → List Piece
@@ -205,40 +205,8 @@ pub text_pieces : (t : Tree) → IsTidy t → map bare_piece (pieces (text t)) �
 text_pieces t h =
     pieces_shown (text t) (text_clear t h) ∙ ap (shown_in false) (sym (append-nil (text t))) ∙ text_shown t [] h tt ∙ append-nil (shown t) ∙ sym (spelled_shown t)
 
--- an expression is spelled in one way, whatever follows
-abbrev follows : List Piece → List Piece
-follows [] = []
-follows (x ∷ xs) = xs
-
-not_closed : (u : Tree) (xs r : List Piece) → (right nowhere ∷ r) ≡ shown u ++ xs → ⊥
-not_closed (word w s) xs r e = cc
-not_closed (list us s) xs r e = cc
-
-mutual
-  one_tree : (t u : Tree) (r q : List Piece) → shown t ++ r ≡ shown u ++ q → (bare_tree t ≡ bare_tree u) × (r ≡ q)
-  one_tree (word w s) (word v p) r q e = let same : w ≡ v = cc in (ap (λ x. word x nowhere) same, cc)
-  one_tree (word w s) (list us p) r q e = absurd cc
-  one_tree (list ts s) (word v p) r q e = absurd cc
-  one_tree (list ts s) (list us p) r q e =
-      let grouped : shown_all ts ++ (right nowhere ∷ r) ≡ shown_all us ++ (right nowhere ∷ q) =
-      sym (append_assoc (shown_all ts) (right nowhere ∷ []) r) ∙ ap follows e ∙ append_assoc (shown_all us) (right nowhere ∷ []) q in
-      let both = one_row ts us r q grouped in
-      (ap (λ x. list x nowhere) both.0, both.1)
-
-  one_row : (ts us : Trees) (r q : List Piece) → shown_all ts ++ (right nowhere ∷ r) ≡ shown_all us ++ (right nowhere ∷ q) → (bare_trees ts ≡ bare_trees us) × (r ≡ q)
-  one_row none none r q e = (refl, cc)
-  one_row none (more u us) r q e = absurd (not_closed u _ r (e ∙ append_assoc (shown u) (shown_all us) (right nowhere ∷ q)))
-  one_row (more t ts) none r q e = absurd (not_closed t _ q (sym e ∙ append_assoc (shown t) (shown_all ts) (right nowhere ∷ r)))
-  one_row (more t ts) (more u us) r q e =
-      let p = one_tree t u (shown_all ts ++ (right nowhere ∷ r)) (shown_all us ++ (right nowhere ∷ q)) (sym (append_assoc (shown t) (shown_all ts) (right nowhere ∷ r)) ∙ e ∙ append_assoc (shown u) (shown_all us) (right nowhere ∷ q)) in
-      let s = one_row ts us r q p.1 in
-      (ap (λ x. more x (bare_trees ts)) p.0 ∙ ap (more (bare_tree u)) s.0, s.1)
-
--- the expressions of the text of a definition are that definition
-pub definition_expressions : (kind : List ℕ) (n : WordAt) (ts : List Tree) → IsTidy (definition kind n ts) → (us : Trees) → spelled_all us ≡ pieces (definition_text kind n ts)
-    → bare_trees us ≡ more (bare_tree (definition kind n ts)) none
-definition_expressions kind n ts h us e =
+-- what stands in the text of a definition
+pub definition_pieces : (kind : List ℕ) (n : WordAt) (ts : List Tree) → IsTidy (definition kind n ts) → map bare_piece (pieces (definition_text kind n ts)) ≡ map bare_piece (spelled_all (more (definition kind n ts) none))
+definition_pieces kind n ts h =
     let t : Tree = definition kind n ts in
-    let same : shown_all us ≡ shown t =
-    sym (all_shown us) ∙ ap (map bare_piece) e ∙ pieces_shown (definition_text kind n ts) (definition_clear kind n ts h) ∙ definition_shown kind n ts h in
-    (one_row us (more t none) [] [] (ap (λ xs. xs ++ right nowhere ∷ []) (same ∙ sym (append-nil (shown t))))).0
+    pieces_shown (definition_text kind n ts) (definition_clear kind n ts h) ∙ definition_shown kind n ts h ∙ sym (append-nil (shown t)) ∙ sym (all_shown (more t none))

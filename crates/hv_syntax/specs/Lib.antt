@@ -26,4 +26,4 @@ pub mod ProblemViews
 pub mod Canonical
 pub mod CanonicalSections
 pub mod Bare
-pub mod Shapes
+pub mod ReadBack

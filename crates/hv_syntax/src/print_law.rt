@@ -1,18 +1,23 @@
 //! What is printed is read back. These functions do nothing: their contracts are the laws.
 
-ghost use Rattle.std.specs.Prelude.{◌≡◌, Some, Ok, map};
+ghost use Rattle.std.specs.Prelude.{◌≡◌, ◌≤◌, ℕ, List, Some, Ok, length, map};
 ghost use Rattle.hv_text.specs.Trees.{Tree, Trees, none, more};
 ghost use Rattle.hv_text.specs.Words.{pieces};
 ghost use Rattle.hv_text.specs.Sexps.{spelled, AreExpressions};
+ghost use Rattle.hv_text.specs.Shapes.{bare_piece, bare_trees, IsTidy};
+ghost use Rattle.hv_text.specs.declared.fault.TheConstants.{MOST_BYTES};
 ghost use Rattle.hv_syntax.specs.Values.{Formula, Effect, Domain, Problem};
 ghost use Rattle.hv_syntax.specs.Formulas.{formula_of};
 ghost use Rattle.hv_syntax.specs.Literals.{effect_of};
 ghost use Rattle.hv_syntax.specs.Domains.{domain_of};
 ghost use Rattle.hv_syntax.specs.Problems.{problem_of};
+ghost use Rattle.hv_syntax.specs.Texts.{IsDomainText, IsProblemText};
 ghost use Rattle.hv_syntax.specs.CanonicalSections.{domain_expression, problem_expression, canonical_domain, canonical_problem};
 ghost use Rattle.hv_syntax.specs.Canonical.{text, formula_expression, effect_expression};
 ghost use Rattle.hv_syntax.specs.Bare.{bare_formula, bare_effect, bare_domain, bare_problem};
-ghost use Rattle.hv_syntax.specs.Shapes.{bare_piece, bare_trees, IsTidy};
+ghost use Rattle.hv_syntax.specs.ReadBack.{IsReadBack};
+
+use hv_text::{a_text_has_one_reading, expressions_are_tidy, texts_have_what_they_spell};
 
 /// The canonical expression of a formula that is read from some expression is read as that formula, places aside.
 pub fn formulas_are_read_again()
@@ -34,6 +39,11 @@ pub fn problems_are_read_again()
     ensures { (ts : Trees) (p : Problem) → problem_of ts ≡ Ok p → problem_of (more (problem_expression p) none) ≡ Ok (bare_problem p) }
 {}
 
+/// Where some expressions are read as a domain, those that differ from them in places alone are read as the same domain, places aside.
+pub fn domains_are_read_wherever_they_stand()
+    ensures { (us vs : Trees) (d : Domain) → bare_trees us ≡ bare_trees vs → domain_of vs ≡ Ok d → (e : Domain) × (domain_of us ≡ Ok e) × (bare_domain e ≡ bare_domain d) }
+{}
+
 /// Domains that are the same, places aside, have the same canonical text.
 pub fn domains_are_printed_alike()
     ensures { (d e : Domain) → bare_domain d ≡ bare_domain e → canonical_domain d ≡ canonical_domain e }
@@ -49,37 +59,60 @@ pub fn texts_have_the_words_of_their_expressions()
     ensures { (e : Tree) → IsTidy e → map bare_piece (pieces (text e)) ≡ map bare_piece (spelled e) }
 {}
 
-/// The expressions of a domain's canonical text are its canonical expression alone, places aside.
+/// Where a text says a domain, the canonical text of that domain has its canonical expression alone, places aside, if it is within
+/// the limit of texts. Its parentheses are never too many: formulas nest as deep as in that text, all else at most five.
 pub fn domain_texts_have_their_expression()
-    ensures { (d : Domain) → IsTidy (domain_expression d) → (ts : Trees) → AreExpressions (canonical_domain d) ts → bare_trees ts ≡ bare_trees (more (domain_expression d) none) }
-{}
+    ensures { (text : List ℕ) (d : Domain) → IsDomainText text d → length (canonical_domain d) ≤ MOST_BYTES → (ts : Trees) × AreExpressions (canonical_domain d) ts × (bare_trees ts ≡ bare_trees (more (domain_expression d) none)) }
+{
+    expressions_are_tidy();
+    texts_have_what_they_spell();
+}
 
-/// The expressions of a problem's canonical text are its canonical expression alone, places aside.
+/// Where a text says a problem, the canonical text of that problem has its canonical expression alone, places aside, if it is within
+/// the limit of texts. Its parentheses are never too many: formulas nest as deep as in that text, all else at most five.
 pub fn problem_texts_have_their_expression()
-    ensures { (p : Problem) → IsTidy (problem_expression p) → (ts : Trees) → AreExpressions (canonical_problem p) ts → bare_trees ts ≡ bare_trees (more (problem_expression p) none) }
-{}
+    ensures { (text : List ℕ) (p : Problem) → IsProblemText text p → length (canonical_problem p) ≤ MOST_BYTES → (ts : Trees) × AreExpressions (canonical_problem p) ts × (bare_trees ts ≡ bare_trees (more (problem_expression p) none)) }
+{
+    expressions_are_tidy();
+    texts_have_what_they_spell();
+}
 
-/// Where some expressions are read as a domain, those that differ from them in places alone are read as the same domain, places aside.
-pub fn domains_are_read_wherever_they_stand()
-    ensures { (us vs : Trees) (d : Domain) → bare_trees us ≡ bare_trees vs → domain_of vs ≡ Ok d → (e : Domain) × (domain_of us ≡ Ok e) × (bare_domain e ≡ bare_domain d) }
-{}
-
-/// The expressions of a domain's canonical text are read as that domain, places aside.
+/// Where a text says a domain, the canonical text of that domain says it too, places aside, if it is within the limit of texts; and it
+/// says no other.
 pub fn domain_texts_are_read_back()
-    ensures { (ts : Trees) (d : Domain) → domain_of ts ≡ Ok d → IsTidy (domain_expression d) → (us : Trees) → AreExpressions (canonical_domain d) us → (e : Domain) × (domain_of us ≡ Ok e) × (bare_domain e ≡ bare_domain d) }
-{}
+    ensures some { (text : List ℕ) (d : Domain) → IsDomainText text d → IsReadBack IsDomainText bare_domain (canonical_domain d) d }
+    ensures only { (text : List ℕ) (d e : Domain) → IsDomainText text d → IsDomainText (canonical_domain d) e → bare_domain e ≡ bare_domain d }
+{
+    expressions_are_tidy();
+    texts_have_what_they_spell();
+    a_text_has_one_reading();
+}
 
-/// Where a domain is read from the canonical text of a domain, its canonical text is that text.
+/// Where a text says a domain, what the canonical text of that domain says is printed again as the same bytes.
 pub fn domain_texts_are_printed_again()
-    ensures { (ts : Trees) (d : Domain) → domain_of ts ≡ Ok d → IsTidy (domain_expression d) → (us : Trees) → AreExpressions (canonical_domain d) us → (e : Domain) → domain_of us ≡ Ok e → canonical_domain e ≡ canonical_domain d }
-{}
+    ensures { (text : List ℕ) (d e : Domain) → IsDomainText text d → IsDomainText (canonical_domain d) e → canonical_domain e ≡ canonical_domain d }
+{
+    expressions_are_tidy();
+    texts_have_what_they_spell();
+    a_text_has_one_reading();
+}
 
-/// The expressions of a problem's canonical text are read as that problem, places aside.
+/// Where a text says a problem, the canonical text of that problem says it too, places aside, if it is within the limit of texts; and it
+/// says no other.
 pub fn problem_texts_are_read_back()
-    ensures { (ts : Trees) (p : Problem) → problem_of ts ≡ Ok p → IsTidy (problem_expression p) → (us : Trees) → AreExpressions (canonical_problem p) us → (q : Problem) × (problem_of us ≡ Ok q) × (bare_problem q ≡ bare_problem p) }
-{}
+    ensures some { (text : List ℕ) (p : Problem) → IsProblemText text p → IsReadBack IsProblemText bare_problem (canonical_problem p) p }
+    ensures only { (text : List ℕ) (p q : Problem) → IsProblemText text p → IsProblemText (canonical_problem p) q → bare_problem q ≡ bare_problem p }
+{
+    expressions_are_tidy();
+    texts_have_what_they_spell();
+    a_text_has_one_reading();
+}
 
-/// Where a problem is read from the canonical text of a problem, its canonical text is that text.
+/// Where a text says a problem, what the canonical text of that problem says is printed again as the same bytes.
 pub fn problem_texts_are_printed_again()
-    ensures { (ts : Trees) (p : Problem) → problem_of ts ≡ Ok p → IsTidy (problem_expression p) → (us : Trees) → AreExpressions (canonical_problem p) us → (q : Problem) → problem_of us ≡ Ok q → canonical_problem q ≡ canonical_problem p }
-{}
+    ensures { (text : List ℕ) (p q : Problem) → IsProblemText text p → IsProblemText (canonical_problem p) q → canonical_problem q ≡ canonical_problem p }
+{
+    expressions_are_tidy();
+    texts_have_what_they_spell();
+    a_text_has_one_reading();
+}

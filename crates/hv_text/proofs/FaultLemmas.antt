@@ -45,7 +45,7 @@ past_right n k s ps h =
     let r : count_by is_right (take (suc k) (right s ∷ ps)) ≡ 1 + count_by is_right (take k ps) = sum_by-cons (λ x. cond (is_right x) 1 0) (right s) (take k ps) in
     let e : open_behind n (right s ∷ ps) (suc k) ≡ open_behind (n - 1) ps k = omega arith in ap (fault_of (slice_get ps k)) e
 
-if_none : {X : Type 0} (b : Bool) (x : X) (y : Option X) → (if b then Some x else y) ≡ None → (b ≡ false) × (y ≡ None)
+pub if_none : {X : Type 0} (b : Bool) (x : X) (y : Option X) → (if b then Some x else y) ≡ None → (b ≡ false) × (y ≡ None)
 if_none true x y e = cc
 if_none false x y e = (refl, e)
 
@@ -262,7 +262,7 @@ count_open (right s ∷ ps) st n l e =
 same_open : (ps : List Piece) (k : ℕ) → open_before ps k ≡ open_behind 0 ps k
 same_open ps k = omega arith
 
-none_open : (ps : List Piece) → fault_from 0 ps ≡ None → open_from [] ps ≡ [] → open_before ps (length ps) ≡ 0
+pub none_open : (ps : List Piece) → fault_from 0 ps ≡ None → open_from [] ps ≡ [] → open_before ps (length ps) ≡ 0
 none_open ps e c = same_open ps (length ps) ∙ sym (count_open ps [] 0 refl e) ∙ ap length c
 
 some_left : (more : List Span) (s : Span) (i : ℕ) → more ++ s ∷ [] ≡ take i [] → ⊥

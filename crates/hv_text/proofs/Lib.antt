@@ -8,3 +8,4 @@ pub mod IoLemmas
 pub mod CommentLemmas
 pub mod CoverLemmas
 pub mod TreeLemmas
+pub mod ShapeLemmas

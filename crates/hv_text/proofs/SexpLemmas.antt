@@ -18,7 +18,7 @@ pub same_spelling : (es : List Sexp) → spelled_all (trees es) ≡ spellings es
 same_spelling [] = refl
 same_spelling (e ∷ es) = ap (λ ps. spelled (tree e) ++ ps) (same_spelling es)
 
-closing_is : (start : ℕ) (s : Span) → s.past ≡ s.start + 1 → closing (record { start = start; past = s.past }) ≡ s
+pub closing_is : (start : ℕ) (s : Span) → s.past ≡ s.start + 1 → closing (record { start = start; past = s.past }) ≡ s
 closing_is start s e =
     let p : s.past - 1 ≡ s.start = omega arith in
     rw p refl
@@ -49,7 +49,7 @@ closed os os' o here here' e s ps ps' whole a b t f q w =
     ap (λ z. spelling_of_open os' ++ z ++ ps') g
     ∙ sym (regroup (spelling_of_open os') (spellings o.before.items) (spellings here) ps' (left (opening o.left)) (right s)) ∙ w2
 
-one_less : (xs : List Span) (x : Span) → take (length (xs ++ x ∷ []) - 1) (xs ++ x ∷ []) ≡ xs
+pub one_less : (xs : List Span) (x : Span) → take (length (xs ++ x ∷ []) - 1) (xs ++ x ∷ []) ≡ xs
 one_less xs x = rw (length-append xs (x ∷ [])) (let n : length xs + 1 - 1 ≡ length xs = omega arith in rw (n) (take-append_seam xs (x ∷ [])))
 
 pub open_after : (os os' : List Open) (o : Open) (s : Span) (ps ps' : List Piece) (whole : List Span) → os ≡ os' ++ o ∷ [] → ps ≡ right s ∷ ps'

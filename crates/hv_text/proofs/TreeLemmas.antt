@@ -37,7 +37,7 @@ same_left a b ps qs e = (cc, cc)
 same_right : (a b : Span) (ps qs : List Piece) → ◌≡◌ {A = List Piece} (right a ∷ ps) (right b ∷ qs) → (a ≡ b) × (ps ≡ qs)
 same_right a b ps qs e = (cc, cc)
 
-list_spelled : (ts : Trees) (s : Span) (ps : List Piece) → spelled (list ts s) ++ ps ≡ left (opening s) ∷ (spelled_all ts ++ (right (closing s) ∷ ps))
+pub list_spelled : (ts : Trees) (s : Span) (ps : List Piece) → spelled (list ts s) ++ ps ≡ left (opening s) ∷ (spelled_all ts ++ (right (closing s) ∷ ps))
 list_spelled ts s ps = simp append_assoc
 
 mutual

@@ -8,3 +8,4 @@ pub mod Io
 pub mod Memory
 pub mod Faltering
 pub mod Runs
+pub mod Shapes

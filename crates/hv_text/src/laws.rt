@@ -1,6 +1,6 @@
 //! What holds of the words, expressions and names of any text. These functions do nothing: their contracts are the laws.
 
-ghost use Rattle.std.specs.Prelude.{◌≡◌, ◌↔◌, ℕ, List, true, false, Some, Contains, slice_get};
+ghost use Rattle.std.specs.Prelude.{◌≡◌, ◌↔◌, ◌≤◌, ℕ, List, true, false, Some, Contains, length, map, slice_get};
 ghost use Rattle.std.specs.Str.{bytes_eq};
 ghost use Rattle.std.specs.Cmp.Lexicographic.{slice_cmp};
 ghost use Rattle.std.specs.Ordering.{on, nat_cmp, is_eq};
@@ -10,7 +10,9 @@ ghost use Rattle.hv_text.specs.Names.{text_of, hash_input_of};
 ghost use Rattle.hv_text.specs.Words.{Piece, uncommented, pieces};
 ghost use Rattle.hv_text.specs.Runs.{IsInComment, StandsIn, IsInOrder, IsHeldOnce};
 ghost use Rattle.hv_text.specs.Trees.{Trees};
-ghost use Rattle.hv_text.specs.Sexps.{AreExpressions};
+ghost use Rattle.hv_text.specs.Sexps.{spelled_all, AreExpressions};
+ghost use Rattle.hv_text.specs.Shapes.{bare_piece, bare_trees, AreTidy, depth_all};
+ghost use Rattle.hv_text.specs.declared.fault.TheConstants.{MOST_BYTES, MOST_OPEN};
 
 use crate::name::Name;
 use indexmap::IndexMap;
@@ -39,6 +41,16 @@ pub fn words_cover_the_text(text: &[u8])
 /// A text has one reading as expressions, their places included.
 pub fn a_text_has_one_reading()
     ensures { (text : List ℕ) (ts us : Trees) → AreExpressions text ts → AreExpressions text us → ts ≡ us }
+{}
+
+/// The words of a text's expressions are words in lower case, and no more parentheses are open at once in them than may be.
+pub fn expressions_are_tidy()
+    ensures { (text : List ℕ) (ts : Trees) → AreExpressions text ts → AreTidy ts × (depth_all ts ≤ MOST_OPEN) }
+{}
+
+/// A text within the limit has the expressions that it spells, places aside, where no more parentheses are open at once in them than may be.
+pub fn texts_have_what_they_spell()
+    ensures { (text : List ℕ) (ts : Trees) → length text ≤ MOST_BYTES → map bare_piece (pieces text) ≡ map bare_piece (spelled_all ts) → depth_all ts ≤ MOST_OPEN → (us : Trees) × AreExpressions text us × (bare_trees us ≡ bare_trees ts) }
 {}
 
 /// Two names are equal exactly where their lower case is the same, and exactly where their order says so; equal names are hashed alike.

@@ -19,8 +19,9 @@ pub use fault::{MOST_BYTES, MOST_OPEN, TextFault, TextKind};
 pub use files::{FromReader, ToWriter};
 pub use io::{DeviceFault, ReadFault, Sink, Source, WriteFault, read_all, write_all};
 pub use laws::{
-    a_text_has_one_reading, comments_are_blanks, every_spelling_finds, names_agree,
-    words_are_in_order, words_are_maximal_runs, words_cover_the_text,
+    a_text_has_one_reading, comments_are_blanks, every_spelling_finds, expressions_are_tidy,
+    names_agree, texts_have_what_they_spell, words_are_in_order, words_are_maximal_runs,
+    words_cover_the_text,
 };
 pub use memory::{FromMemory, ToMemory};
 pub use name::Name;

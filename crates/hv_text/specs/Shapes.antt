@@ -1,5 +1,5 @@
--- Expressions, and what stands in texts, with their places aside.
-use Rattle.std.specs.Prelude.{◌≡◌, true}
+-- Expressions, and what stands in texts, with their places aside; what their words are, and how deep they nest.
+use Rattle.std.specs.Prelude.{◌≡◌, ◌+◌, ℕ, max, true}
 use Rattle.hv_text.specs.Bytes.{is_word, lower}
 use Rattle.hv_text.specs.Trees.{Tree, word, list, Trees, none, more}
 use Rattle.hv_text.specs.Words as found
@@ -29,3 +29,13 @@ abbrev mutual
   pub AreTidy : Trees → Type 0
   AreTidy none = Unit {0}
   AreTidy (more t ts) = IsTidy t × AreTidy ts
+
+abbrev mutual
+  -- how many parentheses are open at once in an expression, at most
+  pub depth : Tree → ℕ
+  depth (word w s) = 0
+  depth (list ts s) = 1 + depth_all ts
+
+  pub depth_all : Trees → ℕ
+  depth_all none = 0
+  depth_all (more t ts) = max (depth t) (depth_all ts)
