@@ -1,0 +1,56 @@
+-- Lists that are changed member by member.
+use Rattle.std.proofs.Common.{◌≡◌, ℕ, ◌+◌, ◌<◌, ◌≤◌, List, [], ◌∷◌, ◌++◌, length, map, drop, get_or, Option, All, refl, ap, sym, subst, ◌∙◌, arith}
+use Rattle.std.proofs.lemmas.List.{length-map, map-append, append-nil, append_assoc, drop_more, drop_all}
+use Rattle.std.proofs.lemmas.List.Elements.{All-get_or}
+use Rattle.hv_syntax.specs.Values as text
+use Rattle.hv_syntax.specs.Views.{typed_view}
+use Rattle.hv_syntax.specs.declared.typed.TypedText.{TypedText}
+use Rattle.hv_world.specs.Values.{Subtask, Formula, formulas_of, more_formulas}
+use Rattle.hv_world.specs.Names.{place_in}
+use Rattle.hv_world.specs.Scopes.{Scope, outer, parameters}
+use Rattle.hv_world.specs.Known.{Known, variables}
+use Rattle.hv_world.specs.Worlds.{Network, Method, method, formula_in, formulas_in}
+
+-- one more member of a list, seen and changed
+pub map_more : {X A B : Type 0} (f : A → B) (view : X → A) (xs : List X) (i : ℕ) (x : X) (front : List B) (y : B) (all : List B) → i < length xs → x ≡ get_or xs i x → y ≡ f (view x)
+    → front ++ map f (map view (drop i xs)) ≡ all → (front ++ y ∷ []) ++ map f (map view (drop (i + 1) xs)) ≡ all
+map_more f view xs i x front y all lt is e so_far =
+    let here : drop i xs ≡ x ∷ drop (i + 1) xs = drop_more xs i x lt ∙ ap (λ z. z ∷ drop (i + 1) xs) (sym is) in
+    append_assoc front (y ∷ []) (map f (map view (drop (i + 1) xs)))
+    ∙ ap (λ z. front ++ z ∷ map f (map view (drop (i + 1) xs))) e
+    ∙ sym (ap (λ zs. front ++ map f (map view zs)) here)
+    ∙ so_far
+
+-- behind the last member
+pub map_all : {X A B : Type 0} (f : A → B) (view : X → A) (xs : List X) (i : ℕ) (front : List B) (all : List B) → length xs ≤ i
+    → front ++ map f (map view (drop i xs)) ≡ all → front ≡ all
+map_all f view xs i front all le so_far = sym (append-nil front) ∙ sym (ap (λ zs. front ++ map f (map view zs)) (drop_all i xs le)) ∙ so_far
+
+-- formulas, one after another
+pub each_formula_in : (k : Known) (s : Scope) (fs : List text.Formula) → formulas_of (map (formula_in k s) fs) ≡ formulas_in k s (text.formulas_of fs)
+each_formula_in k s [] = refl
+each_formula_in k s (f ∷ fs) = ap (more_formulas (formula_in k s f)) (each_formula_in k s fs)
+
+-- methods of the same parts
+pub method_is : {n m : Option (List ℕ)} {ts us : List ℕ} {x y : Option Subtask} {f g : Formula} {w v : Network} → n ≡ m → ts ≡ us → x ≡ y → f ≡ g → w ≡ v → method n ts x f w ≡ method m us y g v
+method_is a b c d e = rw (a, b, c, d, e) refl
+
+-- the scope of parameters
+pub scope_of : (list : List TypedText) (number : List ℕ → Option ℕ) → number ≡ place_in (variables (map typed_view list)) → outer (length list) number ≡ parameters (variables (map typed_view list))
+scope_of list number e =
+    let counted : length (variables (map typed_view list)) ≡ length list = length-map (map typed_view list) (λ v. v.name.text) ∙ length-map list typed_view in
+    rw (e, counted) refl
+
+-- two arguments, each the same
+pub of_both : {A B C : Type 0} (f : A → B → C) {a b : A} {x y : B} → a ≡ b → x ≡ y → f a x ≡ f b y
+of_both f e g = rw (e, g) refl
+
+-- one more member of a list, seen and changed, behind others that are seen
+pub map_more_seen : {X Y A B : Type 0} (f : A → B) (view : X → A) (seen : Y → B) (xs : List X) (i : ℕ) (x : X) (front : List Y) (y : Y) (all : List B) → i < length xs → x ≡ get_or xs i x → seen y ≡ f (view x)
+    → map seen front ++ map f (map view (drop i xs)) ≡ all → map seen (front ++ y ∷ []) ++ map f (map view (drop (i + 1) xs)) ≡ all
+map_more_seen f view seen xs i x front y all lt is e so_far =
+    ap (λ zs. zs ++ map f (map view (drop (i + 1) xs))) (map-append seen front (y ∷ [])) ∙ map_more f view xs i x (map seen front) (seen y) all lt is e so_far
+
+-- what holds of all members holds of each
+pub at_member : {X : Type 0} (P : X → Type 0) (xs : List X) (i : ℕ) (x : X) → All P xs → i < length xs → x ≡ get_or xs i x → P x
+at_member P xs i x all lt is = subst P (sym is) (All-get_or P xs i x lt all)

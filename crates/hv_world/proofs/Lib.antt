@@ -1,0 +1,20 @@
+mod AlikeLemmas
+pub mod AlikeLaws
+pub mod CheckLemmas
+pub mod CycleLemmas
+pub mod FaultLemmas
+pub mod InternLemmas
+pub mod LabelLemmas
+pub mod NameLemmas
+pub mod OrderClosure
+pub mod OrderLists
+pub mod OrderMeanings
+pub mod OrderSubsets
+pub mod OrderWalk
+pub mod RepeatLemmas
+pub mod TypeLemmas
+pub mod WithinLemmas
+pub mod StaticLemmas
+pub mod BuildLemmas
+pub mod TableLemmas
+pub mod FirstFaults

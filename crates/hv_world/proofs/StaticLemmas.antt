@@ -1,0 +1,224 @@
+-- What a domain and a problem without static faults say.
+use Rattle.std.proofs.Common.{◌≡◌, ℕ, suc, ◌+◌, ◌<◌, ◌≤◌, Bool, true, false, not, ◌||◌, List, [], ◌∷◌, ◌++◌, map, length, get_or, Option, Some, None, option_map, bytes_eq, codes, if◌then◌else◌, All, refl, ap, sym, subst, ◌∙◌, arith}
+use Rattle.std.specs.List.{flat_map}
+use Rattle.std.specs.Cmp.Lexicographic.{bytes_decides}
+use Rattle.std.proofs.lemmas.List.Elements.{All-cons, All-nil, All-weaker, All-map, All-append}
+use Rattle.hv_text.specs.declared.span.Span.{Span}
+use Rattle.hv_syntax.specs.Values.{WordAt, TypeOf, no_type, of_type, type_name, Typed, Network, Method, Htn, Domain, Problem}
+use Rattle.hv_world.specs.declared.fault.StaticKind.{StaticKind}
+use Rattle.hv_world.specs.declared.fault.StaticKind.TheVariants as kinds
+use Rattle.hv_world.specs.declared.fault.Side.{Side}
+use Rattle.hv_world.specs.declared.fault.Side.TheVariants as sides
+use Rattle.hv_world.specs.declared.fault.StaticFault.{StaticFault}
+use Rattle.hv_world.specs.Faults.{fault_on}
+use Rattle.hv_world.specs.Names.{is_among, place_in, with_names, by_sight, number_or, number_in}
+use Rattle.hv_world.specs.Known.{Known, known_in, variables, both_types, type_names, object_names}
+use Rattle.hv_world.specs.Networks.{written_by, IsArrangeable}
+use Rattle.hv_world.specs.Cycles.{is_cyclic}
+use Rattle.hv_world.specs.Types.{IsInRange}
+use Rattle.hv_world.specs.StaticRules.{at_word_if, type_faults, typed_faults, label_faults, order_faults, network_faults, method_faults, htn_faults, IsStatic}
+use Rattle.hv_world.specs.Worlds.{type_of, type_pair, object_pair, typing_by}
+use Rattle.hv_world.proofs.WithinLemmas.{sound_within}
+use Rattle.hv_world.proofs.CycleLemmas.{cycle_there}
+
+-- where two lists are nothing together, each is
+pub first_none : {A : Type 0} (xs ys : List A) → xs ++ ys ≡ [] → xs ≡ []
+first_none [] ys e = refl
+first_none (x ∷ xs) ys e = absurd (cc)
+
+pub last_none : {A : Type 0} (xs ys : List A) → xs ++ ys ≡ [] → ys ≡ []
+last_none [] ys e = e
+last_none (x ∷ xs) ys e = absurd (cc)
+
+pub none_of_each : {X A : Type 0} (f : X → List A) (xs : List X) → flat_map f xs ≡ [] → All (λ x. f x ≡ []) xs
+none_of_each f [] e = All-nil (λ x. f x ≡ [])
+none_of_each f (x ∷ xs) e = All-cons (λ y. f y ≡ []) x xs (first_none (f x) (flat_map f xs) e) (none_of_each f xs (last_none (f x) (flat_map f xs) e))
+
+pub no_fault : (b : Bool) (k : StaticKind) (s : Side) (w : WordAt) → at_word_if (not b) k s w ≡ [] → b ≡ true
+no_fault true k s w e = refl
+no_fault false k s w e = absurd (cc)
+
+clash : (b : Bool) → b ≡ true → b ≡ false → ⊥
+clash b e g = absurd (cc)
+
+-- networks
+module _ (k : Known) (s : Side) where
+  abbrev after : Span → Bool → List StaticFault → List StaticFault
+  after place b fs = elim fs [ g ∷ gs ↦ g ∷ gs | [] ↦ if b then fault_on kinds.CyclicOrdering s place ∷ [] else [] ]
+
+  sound : (place : Span) (b : Bool) (fs : List StaticFault) → after place b fs ≡ [] → (fs ≡ []) × (b ≡ false)
+  sound place true [] e = absurd (cc)
+  sound place false [] e = (refl, refl)
+  sound place b (f ∷ fs) e = absurd (cc)
+
+  pub order_arrangeable : (place : Span) (n : Network) → order_faults k s place n ≡ [] → IsArrangeable (written_by n)
+  order_arrangeable place n e =
+      let both = sound place (is_cyclic (written_by n)) (label_faults k s n) e in
+      let within = sound_within k s n both.0 in
+      record { pairs = within; acyclic = λ c. clash (is_cyclic (written_by n)) (cycle_there (written_by n) within c) both.1 }
+
+  pub method_arrangeable : (m : Method) → method_faults k s m ≡ [] → IsArrangeable (written_by m.network)
+  method_arrangeable m e = order_arrangeable m.place m.network (last_none _ _ (last_none _ _ e))
+
+  pub htn_arrangeable : (h : Htn) → htn_faults k s h ≡ [] → IsArrangeable (written_by h.network)
+  htn_arrangeable h e = order_arrangeable h.place h.network (last_none _ _ (last_none _ _ e))
+
+-- names among names
+pub among_append : (xs ys : List (List ℕ)) (n : List ℕ) → is_among (xs ++ ys) n ≡ (is_among xs n || is_among ys n)
+among_append [] ys n = refl
+among_append (x ∷ xs) ys n = go (bytes_eq n x) (among_append xs ys n)
+  where
+    go : (b : Bool) → is_among (xs ++ ys) n ≡ (is_among xs n || is_among ys n) → (b || is_among (xs ++ ys) n) ≡ ((b || is_among xs n) || is_among ys n)
+    go true e = refl
+    go false e = e
+
+or_left : (a b : Bool) → a ≡ true → (a || b) ≡ true
+or_left a b e = rw e refl
+
+or_right : (a b : Bool) → b ≡ true → (a || b) ≡ true
+or_right true b e = refl
+or_right false b e = e
+
+pub among_left : (xs ys : List (List ℕ)) (n : List ℕ) → is_among xs n ≡ true → is_among (xs ++ ys) n ≡ true
+among_left xs ys n e = among_append xs ys n ∙ or_left _ _ e
+
+pub among_right : (xs ys : List (List ℕ)) (n : List ℕ) → is_among ys n ≡ true → is_among (xs ++ ys) n ≡ true
+among_right xs ys n e = among_append xs ys n ∙ or_right (is_among xs n) _ e
+
+pub among_self : (n : List ℕ) (ns : List (List ℕ)) → is_among (n ∷ ns) n ≡ true
+among_self n ns = or_left (bytes_eq n n) (is_among ns n) ((bytes_decides n n).1 refl)
+
+noted : (seen : List (List ℕ)) (m n : List ℕ) → is_among seen n ≡ true → is_among (if is_among seen m then seen else seen ++ m ∷ []) n ≡ true
+noted seen m n e = go (is_among seen m)
+  where
+    go : (b : Bool) → is_among (if b then seen else seen ++ m ∷ []) n ≡ true
+    go true = e
+    go false = among_left seen (m ∷ []) n e
+
+noted_itself : (seen : List (List ℕ)) (m : List ℕ) → is_among (if is_among seen m then seen else seen ++ m ∷ []) m ≡ true
+noted_itself seen m = go (is_among seen m) refl
+  where
+    go : (b : Bool) → is_among seen m ≡ b → is_among (if b then seen else seen ++ m ∷ []) m ≡ true
+    go true e = e
+    go false e = among_right seen (m ∷ []) m (among_self m [])
+
+pub still_seen : (seen ns : List (List ℕ)) (n : List ℕ) → is_among seen n ≡ true → is_among (with_names seen ns) n ≡ true
+still_seen seen [] n e = e
+still_seen seen (m ∷ ns) n e = still_seen (if is_among seen m then seen else seen ++ m ∷ []) ns n (noted seen m n e)
+
+pub seen_of : (seen ns : List (List ℕ)) (n : List ℕ) → is_among ns n ≡ true → is_among (with_names seen ns) n ≡ true
+seen_of seen [] n e = absurd (cc)
+seen_of seen (m ∷ ns) n e = go (bytes_eq n m) refl e (seen_of (if is_among seen m then seen else seen ++ m ∷ []) ns n)
+  where
+    go : (b : Bool) → bytes_eq n m ≡ b → (b || is_among ns n) ≡ true → (is_among ns n ≡ true → is_among (with_names seen (m ∷ ns)) n ≡ true) → is_among (with_names seen (m ∷ ns)) n ≡ true
+    go false t h later = later h
+    go true t h later =
+        still_seen (if is_among seen m then seen else seen ++ m ∷ []) ns n
+        (subst (λ q. is_among (if is_among seen m then seen else seen ++ m ∷ []) q ≡ true) (sym ((bytes_decides n m).0 t)) (noted_itself seen m))
+
+-- by sight, each of these is among them
+pub by_sight_has : (ns : List (List ℕ)) (n : List ℕ) → is_among ns n ≡ true → is_among (by_sight ns) n ≡ true
+by_sight_has ns n e = seen_of [] ns n e
+
+-- a name that is there has a number within
+pub place_there : (ns : List (List ℕ)) (n : List ℕ) → is_among ns n ≡ true → (i : ℕ) × (place_in ns n ≡ Some i) × (i < length ns)
+place_there [] n e = absurd (cc)
+place_there (m ∷ ns) n e = go (bytes_eq n m) e (place_there ns n)
+  where
+    go : (b : Bool) → (b || is_among ns n) ≡ true → (is_among ns n ≡ true → (i : ℕ) × (place_in ns n ≡ Some i) × (i < length ns))
+        → (i : ℕ) × ((if b then Some 0 else option_map suc (place_in ns n)) ≡ Some i) × (i < suc (length ns))
+    go true h later = (0, refl, omega arith)
+    go false h later = let r = later h in let lt = r.2 in (suc r.0, ap (option_map suc) r.1, omega arith)
+
+pub number_within : (ns : List (List ℕ)) (n : List ℕ) → is_among ns n ≡ true → number_in ns n < length ns
+number_within ns n e = let r = place_there ns n e in subst (λ o. number_or (length ns) o < length ns) (sym r.1) r.2
+
+pub some_within : (ns : List (List ℕ)) (n : List ℕ) → is_among ns n ≡ true → 0 < length ns
+some_within ns n e = let lt = number_within ns n e in omega arith
+
+-- the types of a domain, and the objects
+abbrev AreAmong : List (List ℕ) → Typed → Type 0
+AreAmong ns v = (is_among ns v.name.text ≡ true) × (is_among ns (type_name v.of) ≡ true)
+
+known_parents : (vs : List Typed) → All (AreAmong (flat_map both_types vs)) vs
+known_parents [] = All-nil (AreAmong [])
+known_parents (v ∷ vs) =
+    let more : (n : List ℕ) → is_among (flat_map both_types vs) n ≡ true → is_among (flat_map both_types (v ∷ vs)) n ≡ true = λ n e. among_right (both_types v) (flat_map both_types vs) n e in
+    All-cons (AreAmong (flat_map both_types (v ∷ vs))) v vs
+    (among_self v.name.text (type_name v.of ∷ flat_map both_types vs), or_right (bytes_eq (type_name v.of) v.name.text) _ (among_self (type_name v.of) (flat_map both_types vs)))
+    (All-weaker (AreAmong (flat_map both_types vs)) (AreAmong (flat_map both_types (v ∷ vs))) (λ w h. (more w.name.text h.0, more (type_name w.of) h.1)) vs (known_parents vs))
+
+abbrev IsAmong : List (List ℕ) → Typed → Type 0
+IsAmong ns v = is_among ns v.name.text ≡ true
+
+known_names : (vs : List Typed) → All (IsAmong (variables vs)) vs
+known_names [] = All-nil (IsAmong [])
+known_names (v ∷ vs) =
+    All-cons (IsAmong (variables (v ∷ vs))) v vs (among_self v.name.text (variables vs))
+    (All-weaker (IsAmong (variables vs)) (IsAmong (variables (v ∷ vs))) (λ w h. or_right (bytes_eq w.name.text v.name.text) _ h) vs (known_names vs))
+
+module _ (d : Domain) where
+  abbrev sights : List (List ℕ)
+  sights = codes "object" ∷ flat_map both_types d.types
+
+  pub object_is_type : is_among (type_names d) (codes "object") ≡ true
+  object_is_type = by_sight_has sights (codes "object") (among_self (codes "object") (flat_map both_types d.types))
+
+  type_is_known : (n : List ℕ) → is_among (flat_map both_types d.types) n ≡ true → is_among (type_names d) n ≡ true
+  type_is_known n e = by_sight_has sights n (or_right (bytes_eq n (codes "object")) _ e)
+
+  declared_type : (k : Known) (s : Side) (t : TypeOf) → k.types ≡ type_names d → type_faults k s t ≡ [] → is_among k.types (type_name t) ≡ true
+  declared_type k s no_type e none = subst (λ ns. is_among ns (codes "object") ≡ true) (sym e) object_is_type
+  declared_type k s (of_type w) e none = no_fault (is_among k.types w.text) kinds.UnknownType s w none
+
+  module _ (p : Problem) where
+    abbrev known : Known
+    known = known_in d p
+
+    abbrev IsOfType : Typed → Type 0
+    IsOfType v = is_among known.types (type_name v.of) ≡ true
+
+    of_known_type : (s : Side) (vs : List Typed) → typed_faults known s vs ≡ [] → All IsOfType vs
+    of_known_type s vs e =
+        All-weaker (λ v. type_faults known s v.of ≡ []) IsOfType (λ v none. declared_type known s v.of refl none) vs (none_of_each (λ v. type_faults known s v.of) vs e)
+
+    abbrev AreTypes : ℕ × ℕ → Type 0
+    AreTypes q = (q.0 < length known.types) × (q.1 < length known.types)
+
+    parents_within : All AreTypes (map (type_pair known) d.types)
+    parents_within =
+        All-map AreTypes (type_pair known) d.types
+        (All-weaker (AreAmong (flat_map both_types d.types)) (λ v. AreTypes (type_pair known v))
+        (λ v h. (number_within known.types v.name.text (type_is_known v.name.text h.0), number_within known.types (type_name v.of) (type_is_known (type_name v.of) h.1)))
+        d.types (known_parents d.types))
+
+    abbrev AreObjectAndType : ℕ × ℕ → Type 0
+    AreObjectAndType q = (q.0 < length known.objects) × (q.1 < length known.types)
+
+    abbrev all : List Typed
+    all = d.constants ++ p.objects
+
+    both_known : (v : Typed) → IsAmong (variables all) v → IsOfType v → AreObjectAndType (object_pair known v)
+    both_known v named typed = (number_within known.objects v.name.text (by_sight_has (variables all) v.name.text named), number_within known.types (type_name v.of) typed)
+
+    declared_within : All IsOfType all → All AreObjectAndType (map (object_pair known) all)
+    declared_within typed = All-map AreObjectAndType (object_pair known) all (λ i e lt. both_known (get_or all i e) (known_names all i e lt) (typed i e lt))
+
+    module _ (static : IsStatic d p) where
+      pub methods_arrangeable : All (λ m. IsArrangeable (written_by m.network)) d.methods
+      methods_arrangeable =
+          All-weaker (λ m. method_faults known sides.Domain m ≡ []) (λ m. IsArrangeable (written_by m.network)) (λ m e. method_arrangeable known sides.Domain m e) d.methods
+          (none_of_each (method_faults known sides.Domain) d.methods (last_none _ _ (first_none _ _ static.of_domain)))
+
+      pub top_arrangeable : IsArrangeable (written_by p.htn.network)
+      top_arrangeable = htn_arrangeable known sides.Problem p.htn (last_none _ _ (first_none _ _ (first_none _ _ static.of_problem)))
+
+      pub typing_in_range : IsInRange (typing_by known d p)
+      typing_in_range =
+          let constants = of_known_type sides.Domain d.constants (last_none _ _ (first_none _ _ (first_none _ _ (first_none _ _ static.of_domain)))) in
+          let objects = of_known_type sides.Problem p.objects (first_none _ _ (first_none _ _ (first_none _ _ static.of_problem))) in
+          record {
+            object = some_within known.types (codes "object") object_is_type;
+            parents = parents_within;
+            declared = declared_within (All-append IsOfType d.constants p.objects constants objects);
+          }

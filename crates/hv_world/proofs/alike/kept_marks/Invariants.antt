@@ -1,0 +1,8 @@
+use Rattle.std.proofs.Common.{◌≡◌, ◌++◌, map, drop}
+use Rattle.hv_world.specs.Alike.Kept.{kept_marks}
+use Rattle.hv_world.specs.Views.{term_view}
+use Rattle.hv_world.proofs.alike.kept_marks.Given as goal
+
+abbrev pub invariant-loop-position : goal.invariant-loop-position
+invariant-loop-position l =
+    l.kept.items ++ kept_marks (map term_view l.terms) l.position (drop l.position l.marks) ≡ kept_marks (map term_view l.terms) 0 l.marks

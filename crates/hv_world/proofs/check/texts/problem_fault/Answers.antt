@@ -1,0 +1,28 @@
+use Rattle.std.proofs.Common.{◌++◌, ap, ◌∙◌}
+use Rattle.hv_syntax.specs.ProblemViews.{problem_view}
+use Rattle.hv_world.specs.declared.fault.Side.TheVariants as sides
+use Rattle.hv_world.specs.Scopes.{parameters}
+use Rattle.hv_world.specs.Faults.{least}
+use Rattle.hv_world.specs.StaticRules.{typed_faults, htn_faults, literals_faults, goal_faults}
+use Rattle.hv_world.specs.Tables.{known_by}
+use Rattle.hv_world.proofs.FaultLemmas.{least-both}
+use Rattle.hv_world.proofs.check.texts.problem_fault.Goals as goal
+use Rattle.std.proofs.Common.{[]}
+
+pub returns : goal.returns
+returns c =
+    let k = known_by c.args.tables.now in
+    let s = sides.Problem in
+    let problem = problem_view c.args.problem.now in
+    let objects = typed_faults k s problem.objects in
+    let htn = htn_faults k s problem.htn in
+    let init = literals_faults k s (parameters []) problem.init in
+    c.earlier.ensures
+    ∙ least-both (objects ++ htn ++ init) (goal_faults k s problem.goal) _ _
+    (c.earlier-state.ensures
+    ∙ least-both (objects ++ htn) init _ _
+    (c.earlier-front.ensures
+    ∙ least-both objects htn _ _ (c.typed_fault-object.ensures ∙ ap (λ vs. least (typed_faults k s vs)) c.objects.ensures)
+    (c.in_ok-htn.ensures ∙ ap (λ h. least (htn_faults k s h)) c.htn.ensures))
+    (c.init_fault-literal.ensures ∙ ap (λ ls. least (literals_faults k s (parameters []) ls)) c.init.ensures))
+    (c.goal_fault-goal.ensures ∙ ap (λ g. least (goal_faults k s g)) c.goal.ensures)

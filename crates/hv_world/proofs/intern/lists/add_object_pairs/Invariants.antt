@@ -1,0 +1,8 @@
+use Rattle.std.proofs.Common.{◌≡◌, ◌++◌, drop, map}
+use Rattle.hv_syntax.specs.Views.{typed_view}
+use Rattle.hv_world.specs.Tables.{known_by}
+use Rattle.hv_world.specs.Worlds.{object_pair}
+use Rattle.hv_world.proofs.intern.lists.add_object_pairs.Given as goal
+
+abbrev pub invariant-loop-typed : goal.invariant-loop-typed
+invariant-loop-typed l = map (λ p. (p.0.0, p.1.0)) l.pairs.items ++ map (object_pair (known_by l.tables)) (map typed_view (drop l.typed-index l.list)) ≡ map (λ p. (p.0.0, p.1.0)) l.initial.pairs.items ++ map (object_pair (known_by l.tables)) (map typed_view l.list)

@@ -1,0 +1,13 @@
+use Rattle.std.proofs.Common.{◌≡◌, ap, sym, ◌∙◌, map}
+use Rattle.std.proofs.lemmas.List.{length-map}
+use Rattle.hv_syntax.specs.NetworkViews.{subtask_view}
+use Rattle.hv_syntax.specs.Views.{word_view}
+use Rattle.hv_world.specs.Names.{names, place_in}
+use Rattle.hv_world.specs.Networks.{labels}
+use Rattle.hv_world.proofs.LabelLemmas.{numbers_of_labels}
+use Rattle.hv_world.proofs.labels.Labels.of.Goals as goal
+
+pub returns : goal.returns
+returns c =
+    let placed : place_in (names (map word_view c.deref.result.now)) ≡ place_in (names (labels (map subtask_view c.args.subtasks.now))) = rw c.deref.ensures.value (ap (λ ws. place_in (names ws)) c.in_ok-words.ensures) in
+    numbers_of_labels (map subtask_view c.args.subtasks.now) _ _ _ (c.in_ok-places.ensures ∙ placed) c.in_ok-holders.ensures (sym (length-map c.args.subtasks.now subtask_view))

@@ -1,0 +1,52 @@
+-- What the code keeps while it counts classes and looks for free parameters.
+use Rattle.std.specs.Prelude.{◌≡◌, ℕ, ◌+◌, Bool, true, false, ◌&&◌, if◌then◌else◌, List, [], ◌∷◌, ◌++◌, map, Option, None, Some, option_map, slice_index_or, Vec}
+use Rattle.indexmap.specs.IndexMap.{IndexMap, get}
+use Rattle.std.specs.Hash as fed
+use Rattle.hv_world.specs.declared.id.TaskName as code
+use Rattle.hv_world.specs.declared.id.TaskName.TheVariants as names
+use Rattle.hv_world.specs.declared.alike.Key as code_key
+use Rattle.hv_world.specs.Values.{Term, object, variable, Subtask, TaskName}
+use Rattle.hv_world.specs.Views.{name_view}
+use Rattle.hv_world.specs.Alike.{Key, key_with, same_name, same_key, has_object, is_fixed}
+
+-- what a name feeds to a hasher
+abbrev pub name_bytes : code.TaskName → fed.HashWrites
+name_bytes (names.Compound t) = fed.u8 0 ++ fed.usize t.0
+name_bytes (names.Primitive a) = fed.u8 1 ++ fed.usize a.0
+
+-- whether a position is marked
+abbrev pub is_marked : List Bool → ℕ → Bool
+is_marked marks k = slice_index_or marks k false
+
+abbrev pub is_object : Term → Bool
+is_object (object o) = true
+is_object (variable v) = false
+
+-- the marks, the first of them at position k, of those positions at which the terms have an object
+abbrev pub kept_marks : List Term → ℕ → List Bool → List Bool
+kept_marks xs k [] = []
+kept_marks xs k (b ∷ bs) = (b && has_object xs k) ∷ kept_marks xs (k + 1) bs
+
+-- the row of a name says which positions are fixed; with no row all are
+abbrev pub RowSays : List Subtask → TaskName → Option (List Bool) → Type 0
+RowSays ss n None = (k : ℕ) → is_fixed ss n k ≡ true
+RowSays ss n (Some row) = (k : ℕ) → is_marked row k ≡ is_fixed ss n k
+
+abbrev pub key_view : code_key.Key → Key
+key_view k = key_with (name_view k.name) k.objects.items
+
+-- one more of the class of k
+abbrev pub counted : Key → List (Key × ℕ) → List (Key × ℕ)
+counted k [] = (k, 1) ∷ []
+counted k (c ∷ cs) = if same_key k c.0 then (c.0, c.1 + 1) ∷ cs else c ∷ counted k cs
+
+abbrev pub is_name : code.TaskName → code.TaskName → Bool
+is_name m n = same_name (name_view m) (name_view n)
+
+-- the rows say which positions are fixed for each name
+abbrev pub RowsSay : {A S : Type 0} → List Subtask → IndexMap code.TaskName (Vec Bool A) S → Type 0
+RowsSay ss m = (n : code.TaskName) → RowSays ss (name_view n) (option_map (λ v. v.items) (get is_name m n))
+
+-- each class so far by its key, with its size
+abbrev pub counts_in : {S : Type 0} → IndexMap code_key.Key ℕ S → List (Key × ℕ)
+counts_in m = map (λ e. (key_view e.0, e.1)) m.entries

@@ -1,0 +1,24 @@
+-- The objects of variables, and actions with their objects.
+use Rattle.std.specs.Prelude.{ℕ, List, [], ◌∷◌, ◌++◌, map}
+use Rattle.hv_world.specs.declared.id.ObjectId.{ObjectId}
+use Rattle.hv_world.specs.declared.binding.Binding.{Binding, Given, With'}
+use Rattle.hv_world.specs.declared.binding.GroundAction as code
+
+abbrev pub object_number : ObjectId → ℕ
+object_number o = o.0
+
+-- the objects of the variables, in the order of their numbers
+abbrev pub objects_in : Binding → List ℕ
+objects_in (Given os) = map object_number os.now
+objects_in (With' p b o) = objects_in b ++ object_number o ∷ []
+
+-- an action, and the objects of its parameters
+pub record GroundAction : Type 0 where
+  pub action : ℕ
+  pub objects : List ℕ
+
+abbrev pub ground_action : ℕ → List ℕ → GroundAction
+ground_action a os = record { action = a; objects = os }
+
+abbrev pub ground_action_view : code.GroundAction → GroundAction
+ground_action_view a = ground_action a.action.0 (map object_number a.objects.items)

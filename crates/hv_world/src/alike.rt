@@ -1,0 +1,278 @@
+//! The classes of alike subtasks of a network, and its free parameters.
+
+ghost use Rattle.std.specs.Prelude.{◌≡◌, ◌↔◌, ℕ, true, List, ◌++◌, ◌&&◌, ◌+◌, ◌<◌, ◌^◌, not, [], ◌∷◌, map, filter, length, Contains, All, AllPairs, ◌≢◌, IfOk, OnOk};
+ghost use Rattle.std.specs.List.{range_with_len};
+ghost use Rattle.hv_world.specs.Alike as alike;
+ghost use Rattle.hv_world.specs.Alike.Kept.{is_marked, is_object, kept_marks, RowsSay, counts_in, counted, key_view};
+ghost use Rattle.hv_world.specs.Values as value;
+ghost use Rattle.hv_world.specs.Views.{term_view, subtask_view};
+
+use crate::formula::{Subtask, Term};
+use crate::id::TaskName;
+use hv_text::Memory;
+use indexmap::IndexMap;
+use std::alloc::Global;
+use std::hash::{Hash, Hasher};
+
+/// What tells classes apart: the name of a subtask, and its objects at the fixed positions.
+#[derive(PartialEq, Eq, Hash, Drop)]
+struct Key {
+    name: TaskName,
+    objects: Vec<usize>,
+}
+
+impl Hash for TaskName {
+    ghost use Rattle.std.proofs.Common.{rules};
+    ghost use Rattle.std.specs.Cmp.Rules.{hashing};
+    ghost use Rattle.hv_world.specs.Alike.Kept.{name_bytes};
+
+    ghost hash_input = { name_bytes };
+
+    ghost respects_eq = { Prim.search (hashing, rules) };
+
+    fn hash<H: Hasher>(&self, state: &mut H) {
+        match self {
+            TaskName::Compound(task) => {
+                state.write_u8(0);
+                state.write_usize(task.0);
+            }
+            TaskName::Primitive(action) => {
+                state.write_u8(1);
+                state.write_usize(action.0);
+            }
+        }
+    }
+}
+
+// Whether a position is marked.
+fn is_marked(marks: &[bool], position: usize) -> bool
+    ensures { result ≡ is_marked marks.now position }
+{
+    marks.get(position).copied().unwrap_or(false)
+}
+
+fn is_object(term: Term) -> bool
+    ensures { result ≡ is_object (term_view term) }
+{
+    matches!(term, Term::Object(_))
+}
+
+// Whether each of the terms is an object.
+fn object_marks(alloc: Global, terms: &[Term]) -> Result<Vec<bool>, Memory>
+    ensures { IfOk result (λ v. v.items ≡ map is_object (map term_view terms.now)) }
+{
+    let mut marks = Vec::new(alloc);
+    for term in terms {
+        marks.push(is_object(*term))?;
+    }
+    Ok(marks)
+}
+
+// Whether there is an object at a position.
+fn has_object(terms: &[Term], position: usize) -> bool
+    ensures { result ≡ alike.has_object (map term_view terms.now) position }
+{
+    position < terms.len() && is_object(terms[position])
+}
+
+// The marks of those positions at which these terms have an object too.
+fn kept_marks(alloc: Global, marks: &[bool], terms: &[Term]) -> Result<Vec<bool>, Memory>
+    ensures { IfOk result (λ v. v.items ≡ kept_marks (map term_view terms.now) 0 marks.now) }
+{
+    let mut kept = Vec::new(alloc);
+    for (position, mark) in marks.iter().enumerate() {
+        kept.push(*mark && has_object(terms, position))?;
+    }
+    Ok(kept)
+}
+
+// Takes account of one subtask more.
+fn note_objects(
+    alloc: Global,
+    rows: &mut IndexMap<TaskName, Vec<bool>>,
+    subtask: &Subtask,
+) -> Result<(), Memory>
+    ensures { OnOk result ((ss : List value.Subtask) → RowsSay ss rows.old → RowsSay (ss ++ subtask_view subtask.now ∷ []) rows.new) }
+{
+    let row = match rows.get(&subtask.name) {
+        Some(marks) => kept_marks(alloc, marks, &subtask.terms)?,
+        None => object_marks(alloc, &subtask.terms)?,
+    };
+    rows.insert(subtask.name, row)?;
+    Ok(())
+}
+
+// For each name the marks of its fixed positions.
+fn fixed_positions(
+    alloc: Global,
+    subtasks: &[Subtask],
+) -> Result<IndexMap<TaskName, Vec<bool>>, Memory>
+    ensures { IfOk result (RowsSay (map subtask_view subtasks.now)) }
+{
+    let mut rows = IndexMap::new(alloc);
+    for subtask in subtasks {
+        note_objects(alloc, &mut rows, subtask)?;
+    }
+    Ok(rows)
+}
+
+// The objects at the marked positions.
+fn marked_objects(alloc: Global, marks: &[bool], terms: &[Term]) -> Result<Vec<usize>, Memory>
+    ensures { IfOk result (λ v. v.items ≡ alike.fixed_objects (is_marked marks.now) 0 (map term_view terms.now)) }
+{
+    let mut objects = Vec::new(alloc);
+    for (position, term) in terms.iter().enumerate() {
+        match term {
+            Term::Object(object) if is_marked(marks, position) => objects.push(object.0)?,
+            _ => {}
+        }
+    }
+    Ok(objects)
+}
+
+// What tells the class of a subtask apart.
+fn key_of(
+    alloc: Global,
+    rows: &IndexMap<TaskName, Vec<bool>>,
+    subtask: &Subtask,
+) -> Result<Key, Memory>
+    ensures { IfOk result (λ k. (ss : List value.Subtask) → RowsSay ss rows.now → Contains ss (subtask_view subtask.now) → key_view k ≡ alike.key ss (subtask_view subtask.now)) }
+{
+    let objects = match rows.get(&subtask.name) {
+        Some(marks) => marked_objects(alloc, marks, &subtask.terms)?,
+        None => Vec::new(alloc),
+    };
+    Ok(Key {
+        name: subtask.name,
+        objects,
+    })
+}
+
+// Counts one subtask more of a class.
+fn count(sizes: &mut IndexMap<Key, usize>, key: Key) -> Result<(), Memory>
+    requires small { All (λ c. c.1 + 1 < 2 ^ 64) (counts_in sizes.old) }
+    ensures { OnOk result (counts_in sizes.new ≡ counted (key_view key) (counts_in sizes.old)) }
+{
+    let size = sizes.get(&key).copied().unwrap_or(0);
+    sizes.insert(key, size + 1)?;
+    Ok(())
+}
+
+// The sizes alone.
+fn sizes_in(alloc: Global, counts: &IndexMap<Key, usize>) -> Result<Vec<usize>, Memory>
+    ensures { IfOk result (λ v. v.items ≡ map (λ c. c.1) (counts_in counts.now)) }
+{
+    let mut sizes = Vec::new(alloc);
+    for size in counts.values() {
+        sizes.push(*size)?;
+    }
+    Ok(sizes)
+}
+
+/// The sizes of the classes of alike subtasks, in the order in which a class is first seen.
+pub(crate) fn class_sizes(alloc: Global, subtasks: &[Subtask]) -> Result<Vec<usize>, Memory>
+    ensures { IfOk result (λ v. v.items ≡ alike.class_sizes (map subtask_view subtasks.now)) }
+{
+    let rows = fixed_positions(alloc, subtasks)?;
+    let mut counts = IndexMap::new(alloc);
+    for subtask in subtasks {
+        let key = key_of(alloc, &rows, subtask)?;
+        count(&mut counts, key)?;
+    }
+    sizes_in(alloc, &counts)
+}
+
+// Takes the mark off the parameter that the term is, if it is one.
+fn unmark_term(marks: &mut [bool], term: Term)
+    ensures len { length marks.new ≡ length marks.old }
+    ensures marks { (k : ℕ) → is_marked marks.new k ≡ is_marked marks.old k && not (alike.is_variable k (term_view term)) }
+{
+    if let Term::Variable(variable) = term
+        && variable < marks.len()
+    {
+        marks[variable] = false;
+    }
+}
+
+// Takes the mark off each parameter that is one of these terms.
+fn unmark(marks: &mut [bool], terms: &[Term])
+    ensures len { length marks.new ≡ length marks.old }
+    ensures marks { (k : ℕ) → is_marked marks.new k ≡ is_marked marks.old k && not (alike.has_variable k (map term_view terms.now)) }
+{
+    for term in terms {
+        unmark_term(marks, *term);
+    }
+}
+
+// Takes the mark off each parameter that is an argument of a subtask.
+fn unmark_arguments(marks: &mut [bool], subtasks: &[Subtask])
+    ensures len { length marks.new ≡ length marks.old }
+    ensures marks { (k : ℕ) → is_marked marks.new k ≡ is_marked marks.old k && not (alike.is_argument k (map subtask_view subtasks.now)) }
+{
+    for subtask in subtasks {
+        unmark(marks, &subtask.terms);
+    }
+}
+
+// Takes the mark off each parameter that is an argument of the task or of a subtask.
+fn keep_free(marks: &mut [bool], task: &[Term], subtasks: &[Subtask])
+    ensures len { length marks.new ≡ length marks.old }
+    ensures marks { (k : ℕ) → is_marked marks.new k ≡ (is_marked marks.old k && not (alike.has_variable k (map term_view task.now))) && not (alike.is_argument k (map subtask_view subtasks.now)) }
+{
+    unmark(marks, task);
+    unmark_arguments(marks, subtasks);
+}
+
+// The marked positions.
+fn marked_numbers(alloc: Global, marks: &[bool]) -> Result<Vec<usize>, Memory>
+    ensures { IfOk result (λ v. v.items ≡ filter (is_marked marks.now) (range_with_len 0 (length marks.now))) }
+{
+    let mut numbers = Vec::new(alloc);
+    for (number, mark) in marks.iter().enumerate() {
+        if *mark {
+            numbers.push(number)?;
+        }
+    }
+    Ok(numbers)
+}
+
+/// The numbers of the parameters that are arguments neither of the task nor of a subtask, ascending.
+pub(crate) fn free_parameters(
+    alloc: Global,
+    parameters: usize,
+    task: &[Term],
+    subtasks: &[Subtask],
+) -> Result<Vec<usize>, Memory>
+    ensures { IfOk result (λ v. v.items ≡ alike.free_parameters parameters (map term_view task.now) (map subtask_view subtasks.now)) }
+{
+    let mut marks = vec![in alloc; true; parameters]?;
+    keep_free(&mut marks, task, subtasks);
+    marked_numbers(alloc, &marks)
+}
+
+/// Two subtasks of a network are alike exactly where their keys are the same. This function does nothing: its contract is the law.
+pub fn keys_tell_classes()
+    ensures { (ss : List value.Subtask) (s t : value.Subtask) → Contains ss s → Contains ss t → alike.AreAlike ss s t ↔ alike.key ss s ≡ alike.key ss t }
+{}
+
+/// A subtask with objects for its variables, as a plan has it, keeps its key.
+pub fn instances_keep_their_key()
+    ensures { (ss : List value.Subtask) (s : value.Subtask) (g : ℕ → ℕ) → Contains ss s → alike.key ss (alike.subtask_instance g s) ≡ alike.key ss s }
+{}
+
+/// The test for a fixed position says what is fixed.
+pub fn fixed_positions_are_found()
+    ensures { (ss : List value.Subtask) (n : value.TaskName) (k : ℕ) → alike.is_fixed ss n k ≡ true ↔ alike.IsFixed ss n k }
+{}
+
+/// The classes are those of the keys, each once, and with as many as have its key.
+pub fn classes_are_counted()
+    ensures each { (ks : List alike.Key) (k : alike.Key) → Contains ks k → Contains (alike.classes ks) (k, alike.how_many k ks) }
+    ensures sizes { (ks : List alike.Key) → All (λ c. c.1 ≡ alike.how_many c.0 ks) (alike.classes ks) }
+    ensures once { (ks : List alike.Key) → AllPairs (λ c d. c.0 ≢ d.0) (alike.classes ks) }
+{}
+
+/// The test for a free parameter says what is free.
+pub fn free_parameters_are_found()
+    ensures { (task : List value.Term) (ss : List value.Subtask) (i : ℕ) → alike.is_free task ss i ≡ true ↔ alike.IsFree task ss i }
+{}

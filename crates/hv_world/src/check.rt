@@ -1,0 +1,43 @@
+//! The first static fault of a domain and a problem.
+
+ghost use Rattle.std.specs.Prelude.{◌≡◌, IfOk, MatchOption};
+ghost use Rattle.hv_syntax.specs.DomainViews.{domain_view};
+ghost use Rattle.hv_syntax.specs.ProblemViews.{problem_view};
+ghost use Rattle.hv_world.specs.Known.{known_in};
+ghost use Rattle.hv_world.specs.StaticRules.{IsStatic, IsFirstFault};
+ghost use Rattle.hv_world.specs.Tables.{known_by};
+
+mod formulas;
+mod networks;
+mod sections;
+mod terms;
+mod texts;
+mod types;
+
+use crate::check::texts::{domain_fault, problem_fault};
+use crate::fault::StaticFault;
+use crate::tables::Tables;
+use hv_syntax::{DomainText, ProblemText};
+use hv_text::Memory;
+use std::alloc::Global;
+
+/// The static fault that stands first in a domain, and where the domain has none the one that stands
+/// first in its problem.
+///
+/// # Errors
+///
+/// `Memory` where a growth was refused.
+pub(crate) fn first_fault<'s>(
+    alloc: Global,
+    tables: &Tables<'s>,
+    domain: &DomainText<'s>,
+    problem: &ProblemText<'s>,
+) -> Result<Option<StaticFault>, Memory>
+    requires { known_by tables.now ≡ known_in (domain_view domain.now) (problem_view problem.now) }
+    ensures { IfOk result (λ o. MatchOption o (IsStatic (domain_view domain.now) (problem_view problem.now)) (IsFirstFault (domain_view domain.now) (problem_view problem.now))) }
+{
+    if let Some(fault) = domain_fault(alloc, tables, domain)? {
+        return Ok(Some(fault));
+    }
+    problem_fault(alloc, tables, problem)
+}

@@ -1,0 +1,93 @@
+//! Faults of a domain and of a problem.
+
+ghost use Rattle.std.specs.Prelude.{◌≡◌, map, IfOk};
+ghost use Rattle.hv_syntax.specs.Views.{word_view};
+ghost use Rattle.hv_syntax.specs.DomainViews.{domain_view};
+ghost use Rattle.hv_syntax.specs.ProblemViews.{problem_view};
+ghost use Rattle.hv_world.specs.declared.fault.StaticKind.TheVariants as kinds;
+ghost use Rattle.hv_world.specs.declared.fault.Side.TheVariants as sides;
+ghost use Rattle.hv_world.specs.Names.{repeated};
+ghost use Rattle.hv_world.specs.Faults.{faults_at, least};
+ghost use Rattle.hv_world.specs.StaticRules.{duplicate_faults, domain_faults_by, problem_faults_by};
+ghost use Rattle.hv_world.specs.Tables.{known_by};
+
+use crate::check::sections::{
+    actions_fault, compounds_fault, goal_fault, htn_fault, init_fault, methods_fault,
+};
+use crate::check::types::typed_fault;
+use crate::fault::{Side, StaticFault, StaticKind, earlier};
+use crate::names::{Names, repeated_word};
+use crate::tables::Tables;
+use crate::tables::sections::declarations;
+use crate::tables::words::{declared_words, method_words, predicate_words};
+use hv_syntax::{DomainText, Placed, ProblemText};
+use hv_text::Memory;
+use std::alloc::Global;
+
+// The first of these words that has one of its name before it.
+fn repeated_name(alloc: Global, words: &[Placed<'_>]) -> Result<Option<StaticFault>, Memory>
+    ensures { IfOk result (λ o. o ≡ least (faults_at kinds.DuplicateName sides.Domain (repeated (map word_view words.now)))) }
+{
+    let names = Names::of(alloc, words)?;
+    let kind = StaticKind::DuplicateName;
+    Ok(repeated_word(&names, words, kind, Side::Domain))
+}
+
+// The first name that is declared twice.
+fn duplicate_fault(alloc: Global, domain: &DomainText<'_>) -> Result<Option<StaticFault>, Memory>
+    ensures { IfOk result (λ o. o ≡ least (duplicate_faults (domain_view domain.now))) }
+{
+    let predicate_words = predicate_words(alloc, domain.predicates())?;
+    let predicate = repeated_name(alloc, &predicate_words)?;
+    let method_words = method_words(alloc, domain.methods())?;
+    let method = repeated_name(alloc, &method_words)?;
+    let sections = declarations(alloc, domain)?;
+    let task_words = declared_words(alloc, &sections)?;
+    let task = repeated_name(alloc, &task_words)?;
+    let front = earlier(predicate, method);
+    Ok(earlier(front, task))
+}
+
+/// The first fault of a domain.
+///
+/// # Errors
+///
+/// `Memory` where a growth was refused.
+pub(crate) fn domain_fault<'s>(
+    alloc: Global,
+    tables: &Tables<'s>,
+    domain: &DomainText<'s>,
+) -> Result<Option<StaticFault>, Memory>
+    ensures { IfOk result (λ o. o ≡ least (domain_faults_by (known_by tables.now) (domain_view domain.now))) }
+{
+    let duplicate = duplicate_fault(alloc, domain)?;
+    let constant = typed_fault(tables, Side::Domain, domain.constants());
+    let task = compounds_fault(alloc, tables, domain.tasks())?;
+    let method = methods_fault(alloc, tables, domain.methods())?;
+    let action = actions_fault(alloc, tables, domain.actions())?;
+    let names = earlier(duplicate, constant);
+    let tasks = earlier(names, task);
+    let methods = earlier(tasks, method);
+    Ok(earlier(methods, action))
+}
+
+/// The first fault of a problem, by the names that these tables have.
+///
+/// # Errors
+///
+/// `Memory` where a growth was refused.
+pub(crate) fn problem_fault<'s>(
+    alloc: Global,
+    tables: &Tables<'s>,
+    problem: &ProblemText<'s>,
+) -> Result<Option<StaticFault>, Memory>
+    ensures { IfOk result (λ o. o ≡ least (problem_faults_by (known_by tables.now) (problem_view problem.now))) }
+{
+    let object = typed_fault(tables, Side::Problem, problem.objects());
+    let htn = htn_fault(alloc, tables, problem.htn())?;
+    let literal = init_fault(alloc, tables, problem.init());
+    let goal = goal_fault(alloc, tables, problem.goal());
+    let front = earlier(object, htn);
+    let state = earlier(front, literal);
+    Ok(earlier(state, goal))
+}

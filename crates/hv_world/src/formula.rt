@@ -1,0 +1,61 @@
+//! Formulas over numbers.
+
+use crate::id::{ObjectId, PredicateId, TaskName, TypeId};
+
+/// A term: an object, or a variable. The variables in scope are numbered from 0: first the
+/// parameters as written, then those of the quantifiers around, the outermost first.
+#[derive(Clone, Copy, Debug)]
+pub enum Term {
+    Object(ObjectId),
+    Variable(usize),
+}
+
+/// A predicate and its terms.
+#[derive(Drop)]
+pub struct Atom {
+    pub predicate: PredicateId,
+    pub terms: Vec<Term>,
+}
+
+/// A formula, as preconditions and goals have it (PDDL's goal description).
+#[derive(Drop)]
+pub enum Formula {
+    /// The atom is true.
+    Holds(Atom),
+    /// All of these hold; none of them is always true.
+    And(Vec<Formula>),
+    /// One of these holds; none of them is never true.
+    Or(Vec<Formula>),
+    /// This one does not hold.
+    Not(Box<Formula>),
+    /// The second holds where the first does.
+    Imply(Box<Formula>, Box<Formula>),
+    /// It holds for all objects of these types.
+    Forall(Vec<TypeId>, Box<Formula>),
+    /// It holds for some objects of these types.
+    Exists(Vec<TypeId>, Box<Formula>),
+    /// Both terms are one object.
+    Equal(Term, Term),
+}
+
+/// An atom that an effect or an initial state makes true, or false.
+#[derive(Drop)]
+pub struct Literal {
+    pub is_positive: bool,
+    pub atom: Atom,
+}
+
+/// A subtask: what is to be done, and with what.
+#[derive(Drop)]
+pub struct Subtask {
+    pub name: TaskName,
+    pub terms: Vec<Term>,
+}
+
+/// A constraint: two terms are one object, or they are not.
+#[derive(Clone, Copy)]
+pub struct Constraint {
+    pub is_equal: bool,
+    pub left: Term,
+    pub right: Term,
+}

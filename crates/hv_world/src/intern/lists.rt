@@ -1,0 +1,150 @@
+//! What a domain and a problem list, over numbers.
+
+ghost use Rattle.std.specs.Prelude.{◌≡◌, ◌++◌, [], map, option_map, All, IfOk, OnOk};
+ghost use Rattle.hv_text.specs.Names.{text_of};
+ghost use Rattle.hv_syntax.specs.Views.{typed_view, formula_view as said_formula, literal_view as said_literal};
+ghost use Rattle.hv_syntax.specs.DeclarationViews.{predicate_view as said_predicate, task_view as said_task, method_view as said_method, action_view as said_action};
+ghost use Rattle.hv_world.specs.Networks.{written_by, IsArrangeable};
+ghost use Rattle.hv_world.specs.Scopes.{parameters};
+ghost use Rattle.hv_world.specs.Tables.{known_by};
+ghost use Rattle.hv_world.specs.Views.{atom_view, formula_view};
+ghost use Rattle.hv_world.specs.MethodViews.{method_view};
+ghost use Rattle.hv_world.specs.WorldViews.{task_view, action_view};
+ghost use Rattle.hv_world.specs.Worlds.{type_pair, object_pair, added, formula_in, method_in, task_by, action_in};
+
+use crate::action::Action;
+use crate::formula::{Atom, Formula};
+use crate::id::{ObjectId, TypeId};
+use crate::intern::formulas::formula_in;
+use crate::intern::literals::added;
+use crate::intern::sections::{action_in, method_in, task_by};
+use crate::intern::terms::type_of;
+use crate::method::Method;
+use crate::names::Names;
+use crate::scope::Scope;
+use crate::tables::Tables;
+use crate::task::Task;
+use hv_syntax::{
+    ActionText, FormulaText, LiteralText, MethodText, PredicateText, TaskText, TypedText,
+};
+use hv_text::{Memory, Name};
+use std::alloc::Global;
+
+/// The types, each with its parent.
+pub(crate) fn type_pairs<'s>(
+    alloc: Global,
+    tables: &Tables<'s>,
+    list: &[TypedText<'s>],
+) -> Result<Vec<(TypeId, TypeId)>, Memory>
+    ensures { IfOk result (λ v. map (λ p. (p.0.0, p.1.0)) v.items ≡ map (type_pair (known_by tables.now)) (map typed_view list.now)) }
+{
+    let mut pairs = Vec::new(alloc);
+    for typed in list {
+        let number = TypeId(tables.type_number(typed.name.name));
+        pairs.push((number, type_of(tables, *typed)))?;
+    }
+    Ok(pairs)
+}
+
+/// Puts the constants or objects of a list, each with its type, behind others.
+pub(crate) fn add_object_pairs<'s>(
+    tables: &Tables<'s>,
+    pairs: &mut Vec<(ObjectId, TypeId)>,
+    list: &[TypedText<'s>],
+) -> Result<(), Memory>
+    ensures { OnOk result (map (λ p. (p.0.0, p.1.0)) pairs.new.items ≡ map (λ p. (p.0.0, p.1.0)) pairs.old.items ++ map (object_pair (known_by tables.now)) (map typed_view list.now)) }
+{
+    for typed in list {
+        let number = ObjectId(tables.object_number(typed.name.name));
+        pairs.push((number, type_of(tables, *typed)))?;
+    }
+    Ok(())
+}
+
+/// The names of the predicates, as written.
+pub(crate) fn predicate_names<'s>(
+    alloc: Global,
+    predicates: &[PredicateText<'s>],
+) -> Result<Vec<Name<'s>>, Memory>
+    ensures { IfOk result (λ v. map text_of v.items ≡ map (λ q. q.name.text) (map said_predicate predicates.now)) }
+{
+    let mut names = Vec::new(alloc);
+    for predicate in predicates {
+        names.push(predicate.name().name)?;
+    }
+    Ok(names)
+}
+
+/// The tasks, as written.
+pub(crate) fn tasks_in<'s>(
+    alloc: Global,
+    tables: &Tables<'s>,
+    tasks: &[TaskText<'s>],
+) -> Result<Vec<Task<'s>>, Memory>
+    ensures { IfOk result (λ v. map task_view v.items ≡ map (task_by (known_by tables.now)) (map said_task tasks.now)) }
+{
+    let mut numbered = Vec::new(alloc);
+    for task in tasks {
+        numbered.push(task_by(alloc, tables, task)?)?;
+    }
+    Ok(numbered)
+}
+
+/// The methods, as written.
+pub(crate) fn methods_in<'s>(
+    alloc: Global,
+    tables: &Tables<'s>,
+    methods: &[MethodText<'s>],
+) -> Result<Vec<Method<'s>>, Memory>
+    requires { All (λ m. IsArrangeable (written_by (said_method m).network)) methods.now }
+    ensures { IfOk result (λ v. map method_view v.items ≡ map (method_in (known_by tables.now)) (map said_method methods.now)) }
+{
+    let mut numbered = Vec::new(alloc);
+    for method in methods {
+        numbered.push(method_in(alloc, tables, method)?)?;
+    }
+    Ok(numbered)
+}
+
+/// The actions, as written.
+pub(crate) fn actions_in<'s>(
+    alloc: Global,
+    tables: &Tables<'s>,
+    actions: &[ActionText<'s>],
+) -> Result<Vec<Action<'s>>, Memory>
+    ensures { IfOk result (λ v. map action_view v.items ≡ map (action_in (known_by tables.now)) (map said_action actions.now)) }
+{
+    let mut numbered = Vec::new(alloc);
+    for action in actions {
+        numbered.push(action_in(alloc, tables, action)?)?;
+    }
+    Ok(numbered)
+}
+
+/// The atoms that an initial state makes true.
+pub(crate) fn init_in<'s>(
+    alloc: Global,
+    tables: &Tables<'s>,
+    literals: &[LiteralText<'s>],
+) -> Result<Vec<Atom>, Memory>
+    ensures { IfOk result (λ v. map atom_view v.items ≡ added (known_by tables.now) (parameters []) (map said_literal literals.now)) }
+{
+    let names = Names::none(alloc);
+    added(alloc, tables, &Scope::Parameters(&names, 0), literals)
+}
+
+/// The goal, where there is one.
+pub(crate) fn goal_in<'s>(
+    alloc: Global,
+    tables: &Tables<'s>,
+    goal: Option<&FormulaText<'s>>,
+) -> Result<Option<Formula>, Memory>
+    ensures { IfOk result (λ o. option_map formula_view o ≡ option_map (formula_in (known_by tables.now) (parameters [])) (option_map (λ f. said_formula f.now) goal.entry)) }
+{
+    let Some(goal) = goal else {
+        return Ok(None);
+    };
+    let names = Names::none(alloc);
+    let scope = Scope::Parameters(&names, 0);
+    Ok(Some(formula_in(alloc, tables, &scope, goal)?))
+}

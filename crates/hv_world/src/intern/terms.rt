@@ -1,0 +1,109 @@
+//! Terms, atoms and types over numbers.
+
+ghost use Rattle.std.specs.Prelude.{◌≡◌, map, codes, IfOk};
+ghost use Rattle.hv_syntax.specs.Views.{typed_view, term_view as said_term, atom_view as said_atom, word_view};
+ghost use Rattle.hv_world.specs.Tables.{known_by, scope_view};
+ghost use Rattle.hv_world.specs.Names.{number_in};
+ghost use Rattle.hv_world.specs.Views.{type_number, term_view, atom_view};
+ghost use Rattle.hv_world.specs.Worlds.{type_of, types_of, term_in, terms_in, atom_in, number_of};
+
+use crate::formula::{Atom, Term};
+use crate::id::{ObjectId, PredicateId, TypeId};
+use crate::scope::Scope;
+use crate::tables::Tables;
+use hv_syntax::{AtomText, Placed, TermText, TypeText, TypedText};
+use hv_text::{Memory, Name};
+use std::alloc::Global;
+
+// The number of the type `object`.
+fn object_type(tables: &Tables<'_>) -> usize
+    ensures { result ≡ number_in (known_by tables.now).types (codes "object") }
+{
+    match Name::new(b"object") {
+        Some(name) => tables.type_number(name),
+        None => unreachable!(),
+    }
+}
+
+/// The number of the type of a name or a variable.
+pub(crate) fn type_of<'s>(tables: &Tables<'s>, typed: TypedText<'s>) -> TypeId
+    ensures { type_number result ≡ type_of (known_by tables.now) (typed_view typed.entry) }
+{
+    match typed.of {
+        TypeText::Object => TypeId(object_type(tables)),
+        TypeText::Named(word) => TypeId(tables.type_number(word.name)),
+    }
+}
+
+/// The numbers of the types of names or variables.
+pub(crate) fn types_of<'s>(
+    alloc: Global,
+    tables: &Tables<'s>,
+    list: &[TypedText<'s>],
+) -> Result<Vec<TypeId>, Memory>
+    ensures { IfOk result (λ v. map type_number v.items ≡ types_of (known_by tables.now) (map typed_view list.now)) }
+{
+    let mut types = Vec::new(alloc);
+    for typed in list {
+        types.push(type_of(tables, *typed))?;
+    }
+    Ok(types)
+}
+
+/// A term over numbers.
+///
+/// # Errors
+///
+/// `Memory` where no number can say how many variables are in scope.
+pub(crate) fn term_in<'s>(
+    tables: &Tables<'s>,
+    scope: &Scope<'_, 's>,
+    term: TermText<'s>,
+) -> Result<Term, Memory>
+    ensures { IfOk result (λ x. term_view x ≡ term_in (known_by tables.now) (scope_view scope.now) (said_term term.entry)) }
+{
+    match term {
+        TermText::Constant(word) => Ok(Term::Object(ObjectId(tables.object_number(word.name)))),
+        TermText::Variable(word) => Ok(Term::Variable(scope.variable(word.name)?)),
+    }
+}
+
+/// Terms over numbers.
+pub(crate) fn terms_in<'s>(
+    alloc: Global,
+    tables: &Tables<'s>,
+    scope: &Scope<'_, 's>,
+    terms: &[TermText<'s>],
+) -> Result<Vec<Term>, Memory>
+    ensures { IfOk result (λ v. map term_view v.items ≡ terms_in (known_by tables.now) (scope_view scope.now) (map said_term terms.now)) }
+{
+    let mut numbered = Vec::new(alloc);
+    for term in terms {
+        numbered.push(term_in(tables, scope, *term)?)?;
+    }
+    Ok(numbered)
+}
+
+// The number of a predicate.
+fn predicate_of<'s>(tables: &Tables<'s>, symbol: Placed<'s>) -> PredicateId
+    ensures { result.0 ≡ number_of ((known_by tables.now).predicate (word_view symbol.entry).text) }
+{
+    match tables.predicate(symbol.name) {
+        Some(signature) => signature.predicate,
+        None => PredicateId(0),
+    }
+}
+
+/// An atom over numbers.
+pub(crate) fn atom_in<'s>(
+    alloc: Global,
+    tables: &Tables<'s>,
+    scope: &Scope<'_, 's>,
+    atom: &AtomText<'s>,
+) -> Result<Atom, Memory>
+    ensures { IfOk result (λ a. atom_view a ≡ atom_in (known_by tables.now) (scope_view scope.now) (said_atom atom.now)) }
+{
+    let predicate = predicate_of(tables, atom.symbol);
+    let terms = terms_in(alloc, tables, scope, &atom.terms)?;
+    Ok(Atom { predicate, terms })
+}

@@ -1,0 +1,53 @@
+//! The world of a domain and a problem: every name has a number.
+
+#![tactic(auto)]
+
+mod action;
+mod alike;
+mod binding;
+mod build;
+mod check;
+mod fault;
+mod formula;
+mod id;
+mod intern;
+mod labels;
+mod laws;
+mod method;
+mod names;
+mod network;
+mod order;
+mod scope;
+mod seed;
+mod tables;
+mod task;
+mod types;
+mod world;
+
+pub use action::Action;
+pub use alike::{
+    classes_are_counted, fixed_positions_are_found, free_parameters_are_found,
+    instances_keep_their_key, keys_tell_classes,
+};
+pub use binding::{Binding, GroundAction};
+pub use fault::{Side, StaticFault, StaticKind};
+pub use formula::{Atom, Constraint, Formula, Literal, Subtask, Term};
+pub use id::{ActionId, MethodId, ObjectId, PredicateId, TaskId, TaskName, TypeId};
+pub use laws::cycles_are_found;
+pub use method::Method;
+pub use network::Network;
+pub use order::Order;
+pub use task::Task;
+pub use types::Types;
+pub use world::World;
+
+#[cfg(test)]
+mod alike_tests;
+#[cfg(test)]
+mod build_tests;
+#[cfg(test)]
+mod order_tests;
+#[cfg(test)]
+mod types_tests;
+#[cfg(test)]
+mod world_tests;

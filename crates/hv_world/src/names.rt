@@ -1,0 +1,162 @@
+//! Tables of names.
+
+ghost use Rattle.std.specs.Prelude.{◌≡◌, [], map, IfOk, OnOk};
+ghost use Rattle.hv_text.specs.Names.{text_of};
+ghost use Rattle.hv_syntax.specs.Views.{word_view, typed_view};
+ghost use Rattle.hv_world.specs.Names.{names, place_in, repeated};
+ghost use Rattle.hv_world.specs.Known.{variables, typed_words};
+ghost use Rattle.hv_world.specs.Scopes.{is_some};
+ghost use Rattle.hv_world.specs.Faults.{faults_at, least};
+ghost use Rattle.hv_world.specs.Tables.{places_by, with_place};
+
+use crate::fault::{Side, StaticFault, StaticKind, earlier, fault_if};
+use crate::seed::Seeded;
+use hv_syntax::{Placed, TypedText};
+use hv_text::{Memory, Name};
+use indexmap::IndexMap;
+use std::alloc::Global;
+
+/// Where each name stands first in a list of words.
+#[derive(Drop)]
+pub(crate) struct Names<'s> {
+    places: IndexMap<Name<'s>, usize, Seeded>,
+}
+
+impl<'s> Names<'s> {
+    /// A table of no names.
+    pub(crate) fn none(alloc: Global) -> Names<'s>
+        ensures { places_by result ≡ place_in [] }
+    {
+        Names {
+            places: IndexMap::with_hasher(alloc, Seeded::new()),
+        }
+    }
+
+    /// The first places of the names of words.
+    pub(crate) fn of(alloc: Global, words: &[Placed<'s>]) -> Result<Names<'s>, Memory>
+        ensures { IfOk result (λ t. places_by t ≡ place_in (names (map word_view words.now))) }
+    {
+        let mut names = Names {
+            places: IndexMap::with_hasher(alloc, Seeded::new().with_words(words)),
+        };
+        for place in 0..words.len() {
+            let word = words[place];
+            names.add(word.name, place)?;
+        }
+        Ok(names)
+    }
+
+    /// The first places of the names of variables.
+    pub(crate) fn of_variables(alloc: Global, list: &[TypedText<'s>]) -> Result<Names<'s>, Memory>
+        ensures { IfOk result (λ t. places_by t ≡ place_in (variables (map typed_view list.now))) }
+    {
+        let mut names = Names {
+            places: IndexMap::with_hasher(alloc, Seeded::new().with_typed(list)),
+        };
+        for place in 0..list.len() {
+            let variable = list[place];
+            names.add(variable.name.name, place)?;
+        }
+        Ok(names)
+    }
+
+    // Notes a place, where the name has none.
+    fn add(&mut self, name: Name<'s>, place: usize) -> Result<(), Memory>
+        ensures { OnOk result (places_by self.new ≡ with_place (places_by self.old) (text_of name.entry) place) }
+    {
+        if !self.places.contains_key(&name) {
+            self.places.insert(name, place)?;
+        }
+        Ok(())
+    }
+
+    /// Where a name stands first.
+    pub(crate) fn place(&self, name: Name<'s>) -> Option<usize>
+        ensures { result ≡ places_by self.now (text_of name.entry) }
+    {
+        match self.places.get(&name) {
+            Some(place) => Some(*place),
+            None => None,
+        }
+    }
+
+    /// Whether a name stands among them.
+    pub(crate) fn has(&self, name: Name<'s>) -> bool
+        ensures { result ≡ is_some (places_by self.now (text_of name.entry)) }
+    {
+        self.place(name).is_some()
+    }
+}
+
+/// The first of these words that has one of its name before it.
+pub(crate) fn repeated_word<'s>(
+    table: &Names<'s>,
+    words: &[Placed<'s>],
+    kind: StaticKind,
+    side: Side,
+) -> Option<StaticFault>
+    requires { places_by table.now ≡ place_in (names (map word_view words.now)) }
+    ensures { result ≡ least (faults_at kind side (repeated (map word_view words.now))) }
+{
+    let mut found = None;
+    for place in 0..words.len() {
+        let word = words[place];
+        let is_first = table.place(word.name) == Some(place);
+        let fault = fault_if(!is_first, kind, side, word);
+        found = earlier(found, fault);
+    }
+    found
+}
+
+/// Where a name stands first among variables.
+pub(crate) fn place_among<'s>(list: &[TypedText<'s>], name: Name<'s>) -> Option<usize>
+    ensures { result ≡ place_in (variables (map typed_view list.now)) (text_of name.entry) }
+{
+    for place in 0..list.len() {
+        let variable = list[place];
+        if name == variable.name.name {
+            return Some(place);
+        }
+    }
+    None
+}
+
+/// The first of a quantifier's variables that has one of its name before it; there are few of them.
+pub(crate) fn repeated_variable<'s>(
+    variables: &[TypedText<'s>],
+    kind: StaticKind,
+    side: Side,
+) -> Option<StaticFault>
+    ensures { result ≡ least (faults_at kind side (repeated (typed_words (map typed_view variables.now)))) }
+{
+    let mut found = None;
+    for place in 0..variables.len() {
+        let variable = variables[place];
+        let word = variable.name;
+        let is_first = place_among(variables, word.name) == Some(place);
+        let fault = fault_if(!is_first, kind, side, word);
+        found = earlier(found, fault);
+    }
+    found
+}
+
+/// The first of a list of parameters that has one of its name before it.
+pub(crate) fn repeated_parameter<'s>(
+    table: &Names<'s>,
+    list: &[TypedText<'s>],
+    kind: StaticKind,
+    side: Side,
+) -> Option<StaticFault>
+    requires { places_by table.now ≡ place_in (variables (map typed_view list.now)) }
+    ensures { result ≡ least (faults_at kind side (repeated (typed_words (map typed_view list.now)))) }
+{
+    let mut found = None;
+    for place in 0..list.len() {
+        let variable = list[place];
+        let word = variable.name;
+        let is_first = table.place(word.name) == Some(place);
+        let fault = fault_if(!is_first, kind, side, word);
+        found = earlier(found, fault);
+    }
+    found
+}

@@ -1,0 +1,73 @@
+//! The variables in scope.
+
+ghost use Rattle.std.specs.Prelude.{◌≡◌, IfSome, IfOk};
+ghost use Rattle.hv_text.specs.Names.{text_of};
+ghost use Rattle.hv_world.specs.Scopes.{size, variable_in, is_bound};
+ghost use Rattle.hv_world.specs.Names.{number_or};
+ghost use Rattle.hv_world.specs.Tables.{scope_view};
+
+use crate::names::{Names, place_among};
+use hv_syntax::TypedText;
+use hv_text::{Memory, Name};
+
+/// The parameters of a section and how many they are, or the variables of a quantifier inside a scope.
+#[derive(Clone, Copy)]
+pub(crate) enum Scope<'a, 's> {
+    Parameters(&'a Names<'s>, usize),
+    Inside(&'a Scope<'a, 's>, &'a [TypedText<'s>]),
+}
+
+impl<'a, 's> Scope<'a, 's> {
+    /// Whether a variable is in scope.
+    pub(crate) fn binds(&self, name: Name<'s>) -> bool
+        ensures { result ≡ is_bound (scope_view self.now) (text_of name.entry) }
+    {
+        match self {
+            Scope::Parameters(names, _) => names.place(name).is_some(),
+            Scope::Inside(outer, variables) => {
+                place_among(variables, name).is_some() || outer.binds(name)
+            }
+        }
+    }
+
+    /// How many variables are in scope, where a number can say so.
+    pub(crate) fn size(&self) -> Option<usize>
+        ensures { IfSome result (λ n. n ≡ size (scope_view self.now)) }
+    {
+        match self {
+            Scope::Parameters(_, count) => Some(*count),
+            Scope::Inside(outer, variables) => outer.size()?.checked_add(variables.len()),
+        }
+    }
+
+    /// The number of a variable; one of the innermost quantifier hides one of its name further out.
+    /// For one that is not in scope, the number behind the last.
+    ///
+    /// # Errors
+    ///
+    /// `Memory` where no number can say how many variables are in scope: they fill all memory.
+    pub(crate) fn variable(&self, name: Name<'s>) -> Result<usize, Memory>
+        ensures { IfOk result (λ v. v ≡ number_or (size (scope_view self.now)) (variable_in (scope_view self.now) (text_of name.entry))) }
+    {
+        match self.place(name)? {
+            Some(number) => Ok(number),
+            None => self.size().ok_or(Memory),
+        }
+    }
+
+    // The number of a variable that is in scope.
+    fn place(&self, name: Name<'s>) -> Result<Option<usize>, Memory>
+        ensures { IfOk result (λ o. o ≡ variable_in (scope_view self.now) (text_of name.entry)) }
+    {
+        match self {
+            Scope::Parameters(names, _) => Ok(names.place(name)),
+            Scope::Inside(outer, variables) => match place_among(variables, name) {
+                Some(place) => {
+                    let size = outer.size().ok_or(Memory)?;
+                    Ok(Some(size.checked_add(place).ok_or(Memory)?))
+                }
+                None => outer.place(name),
+            },
+        }
+    }
+}

@@ -1,0 +1,139 @@
+//! What a domain and a problem declare.
+
+ghost use Rattle.std.specs.Prelude.{◌≡◌, map, option_map, IfOk};
+ghost use Rattle.hv_text.specs.Names.{text_of};
+ghost use Rattle.hv_syntax.specs.DomainViews.{domain_view};
+ghost use Rattle.hv_syntax.specs.ProblemViews.{problem_view};
+ghost use Rattle.hv_world.specs.Names.{is_among, number_in};
+ghost use Rattle.hv_world.specs.Known.{known_in};
+ghost use Rattle.hv_world.specs.Tables.{known_by, signature_view, declaration_view};
+
+pub(crate) mod sections;
+mod sight;
+pub(crate) mod words;
+
+use crate::id::{PredicateId, TaskName};
+use crate::names::Names;
+use crate::seed::Seeded;
+use crate::tables::sections::declarations;
+use crate::tables::sight::{object_names, type_names};
+use crate::tables::words::{arities, declared_words, predicate_words};
+use hv_syntax::{DomainText, Placed, ProblemText};
+use hv_text::{Memory, Name};
+use indexmap::IndexSet;
+use std::alloc::Global;
+
+/// A predicate as it is declared: its number, and how many terms it takes.
+#[derive(Clone, Copy)]
+pub(crate) struct Signature {
+    pub predicate: PredicateId,
+    pub arity: usize,
+}
+
+/// A task or an action as it is declared: what it is, how many terms it takes, its name, and where
+/// its section starts.
+#[derive(Clone, Copy)]
+pub(crate) struct Declared<'s> {
+    pub what: TaskName,
+    pub arity: usize,
+    pub name: Placed<'s>,
+    pub start: u32,
+}
+
+/// What names are declared; of several declarations of a name the first counts.
+#[derive(Drop)]
+pub(crate) struct Tables<'s> {
+    pub types: IndexSet<Name<'s>, Seeded>,
+    pub objects: IndexSet<Name<'s>, Seeded>,
+    pub predicates: Names<'s>,
+    pub arities: Vec<usize>,
+    pub tasks: Names<'s>,
+    pub declared: Vec<Declared<'s>>,
+}
+
+impl<'s> Tables<'s> {
+    /// What a domain and a problem declare.
+    ///
+    /// # Errors
+    ///
+    /// `Memory` where a growth was refused.
+    pub(crate) fn of(
+        alloc: Global,
+        domain: &DomainText<'s>,
+        problem: &ProblemText<'s>,
+    ) -> Result<Tables<'s>, Memory>
+        ensures { IfOk result (λ t. known_by t ≡ known_in (domain_view domain.now) (problem_view problem.now)) }
+    {
+        let types = type_names(alloc, domain.types())?;
+        let objects = object_names(alloc, domain.constants(), problem.objects())?;
+        let predicate_words = predicate_words(alloc, domain.predicates())?;
+        let predicates = Names::of(alloc, &predicate_words)?;
+        let arities = arities(alloc, domain.predicates())?;
+        let declared = declarations(alloc, domain)?;
+        let task_words = declared_words(alloc, &declared)?;
+        let tasks = Names::of(alloc, &task_words)?;
+        Ok(Tables {
+            types,
+            objects,
+            predicates,
+            arities,
+            tasks,
+            declared,
+        })
+    }
+
+    /// Whether a type is declared.
+    pub(crate) fn is_type(&self, name: Name<'s>) -> bool
+        ensures { result ≡ is_among (known_by self.now).types (text_of name.entry) }
+    {
+        self.types.contains(&name)
+    }
+
+    /// The number of a type; of one that is not declared, the number behind the last.
+    pub(crate) fn type_number(&self, name: Name<'s>) -> usize
+        ensures { result ≡ number_in (known_by self.now).types (text_of name.entry) }
+    {
+        match self.types.get_index_of(&name) {
+            Some(number) => number,
+            None => self.types.len(),
+        }
+    }
+
+    /// Whether a constant or an object is declared.
+    pub(crate) fn is_object(&self, name: Name<'s>) -> bool
+        ensures { result ≡ is_among (known_by self.now).objects (text_of name.entry) }
+    {
+        self.objects.contains(&name)
+    }
+
+    /// The number of a constant or an object; of one that is not declared, the number behind the last.
+    pub(crate) fn object_number(&self, name: Name<'s>) -> usize
+        ensures { result ≡ number_in (known_by self.now).objects (text_of name.entry) }
+    {
+        match self.objects.get_index_of(&name) {
+            Some(number) => number,
+            None => self.objects.len(),
+        }
+    }
+
+    /// A predicate, as it is declared first.
+    pub(crate) fn predicate(&self, name: Name<'s>) -> Option<Signature>
+        ensures { option_map signature_view result ≡ (known_by self.now).predicate (text_of name.entry) }
+    {
+        let place = self.predicates.place(name)?;
+        let arity = self.arities.get(place)?;
+        Some(Signature {
+            predicate: PredicateId(place),
+            arity: *arity,
+        })
+    }
+
+    /// A task or an action, as it is declared first.
+    pub(crate) fn task(&self, name: Name<'s>) -> Option<Declared<'s>>
+        ensures { option_map declaration_view result ≡ (known_by self.now).task (text_of name.entry) }
+    {
+        let place = self.tasks.place(name)?;
+        let declared = self.declared.get(place)?;
+        Some(*declared)
+    }
+}
