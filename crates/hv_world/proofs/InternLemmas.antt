@@ -1,14 +1,11 @@
 -- Lists that are changed member by member.
 use Rattle.std.proofs.Common.{◌≡◌, ℕ, ◌+◌, ◌<◌, ◌≤◌, List, [], ◌∷◌, ◌++◌, length, map, drop, get_or, Option, All, refl, ap, sym, subst, ◌∙◌, arith}
-use Rattle.std.proofs.lemmas.List.{length-map, map-append, append-nil, append_assoc, drop_more, drop_all}
+use Rattle.std.proofs.lemmas.List.{map-append, append-nil, append_assoc, drop_more, drop_all}
 use Rattle.std.proofs.lemmas.List.Elements.{All-get_or}
 use Rattle.hv_syntax.specs.Values as text
-use Rattle.hv_syntax.specs.Views.{typed_view}
-use Rattle.hv_syntax.specs.declared.typed.TypedText.{TypedText}
 use Rattle.hv_world.specs.Values.{Subtask, Formula, formulas_of, more_formulas}
-use Rattle.hv_world.specs.Names.{place_in}
-use Rattle.hv_world.specs.Scopes.{Scope, outer, parameters}
-use Rattle.hv_world.specs.Known.{Known, variables}
+use Rattle.hv_world.specs.Scopes.{Scope}
+use Rattle.hv_world.specs.Known.{Known}
 use Rattle.hv_world.specs.Worlds.{Network, Method, method, formula_in, formulas_in}
 
 -- one more member of a list, seen and changed
@@ -34,12 +31,6 @@ each_formula_in k s (f ∷ fs) = ap (more_formulas (formula_in k s f)) (each_for
 -- methods of the same parts
 pub method_is : {n m : Option (List ℕ)} {ts us : List ℕ} {x y : Option Subtask} {f g : Formula} {w v : Network} → n ≡ m → ts ≡ us → x ≡ y → f ≡ g → w ≡ v → method n ts x f w ≡ method m us y g v
 method_is a b c d e = rw (a, b, c, d, e) refl
-
--- the scope of parameters
-pub scope_of : (list : List TypedText) (number : List ℕ → Option ℕ) → number ≡ place_in (variables (map typed_view list)) → outer (length list) number ≡ parameters (variables (map typed_view list))
-scope_of list number e =
-    let counted : length (variables (map typed_view list)) ≡ length list = length-map (map typed_view list) (λ v. v.name.text) ∙ length-map list typed_view in
-    rw (e, counted) refl
 
 -- two arguments, each the same
 pub of_both : {A B C : Type 0} (f : A → B → C) {a b : A} {x y : B} → a ≡ b → x ≡ y → f a x ≡ f b y

@@ -18,3 +18,5 @@ pub mod StaticLemmas
 pub mod BuildLemmas
 pub mod TableLemmas
 pub mod FirstFaults
+pub mod BoundLemmas
+pub mod BoundWorlds

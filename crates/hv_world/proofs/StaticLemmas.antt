@@ -167,7 +167,7 @@ module _ (d : Domain) where
   type_is_known : (n : List ℕ) → is_among (flat_map both_types d.types) n ≡ true → is_among (type_names d) n ≡ true
   type_is_known n e = by_sight_has sights n (or_right (bytes_eq n (codes "object")) _ e)
 
-  declared_type : (k : Known) (s : Side) (t : TypeOf) → k.types ≡ type_names d → type_faults k s t ≡ [] → is_among k.types (type_name t) ≡ true
+  pub declared_type : (k : Known) (s : Side) (t : TypeOf) → k.types ≡ type_names d → type_faults k s t ≡ [] → is_among k.types (type_name t) ≡ true
   declared_type k s no_type e none = subst (λ ns. is_among ns (codes "object") ≡ true) (sym e) object_is_type
   declared_type k s (of_type w) e none = no_fault (is_among k.types w.text) kinds.UnknownType s w none
 

@@ -21,5 +21,6 @@ pub mod TypeLists
 pub mod LabelViews
 pub mod NetworkViews
 pub mod MethodViews
+pub mod SectionViews
 pub mod WorldViews
-pub mod WholeViews
+pub mod Bounds

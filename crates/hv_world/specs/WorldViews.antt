@@ -1,13 +1,23 @@
--- What the worlds of the code say.
-use Rattle.std.specs.Prelude.{map}
+-- What the world of the code says.
+use Rattle.std.specs.Prelude.{map, option_map}
 use Rattle.hv_text.specs.Names.{text_of}
-use Rattle.hv_world.specs.declared.task.Task as code_task
-use Rattle.hv_world.specs.declared.action.Action as code_action
-use Rattle.hv_world.specs.Views.{type_number, atom_view, formula_view}
-use Rattle.hv_world.specs.Worlds.{Task, task, Action, action}
+use Rattle.hv_world.specs.declared.world.World as code
+use Rattle.hv_world.specs.Views.{atom_view, formula_view}
+use Rattle.hv_world.specs.MethodViews.{method_view}
+use Rattle.hv_world.specs.SectionViews.{task_view, action_view}
+use Rattle.hv_world.specs.Worlds.{World}
 
-abbrev pub task_view : code_task.Task → Task
-task_view t = task (text_of t.name) (map type_number t.parameters.items)
-
-abbrev pub action_view : code_action.Action → Action
-action_view a = action (text_of a.name) (map type_number a.parameters.items) (formula_view a.precondition) (map atom_view a.deletes.items) (map atom_view a.adds.items)
+abbrev pub world_view : code.World → World
+world_view w =
+    record {
+      types = map text_of w.types.keys;
+      objects = map text_of w.objects.keys;
+      typing = w.typing;
+      predicates = map text_of w.predicates.items;
+      tasks = map task_view w.tasks.items;
+      methods = map method_view w.methods.items;
+      actions = map action_view w.actions.items;
+      init = map atom_view w.init.items;
+      goal = option_map formula_view w.goal;
+      top = method_view w.top;
+    }

@@ -3,7 +3,7 @@
 ghost use Rattle.std.specs.Prelude.{◌≡◌, map};
 ghost use Rattle.hv_text.specs.Names.{text_of};
 ghost use Rattle.hv_world.specs.Views.{type_number, atom_view, formula_view};
-ghost use Rattle.hv_world.specs.WorldViews.{action_view};
+ghost use Rattle.hv_world.specs.SectionViews.{action_view};
 
 use crate::formula::{Atom, Formula};
 use crate::id::TypeId;

@@ -11,7 +11,8 @@ ghost use Rattle.hv_world.specs.Tables.{known_by, places_by};
 ghost use Rattle.hv_world.specs.Types.{IsInRange};
 ghost use Rattle.hv_world.specs.Faults.{memory_fault};
 ghost use Rattle.hv_world.specs.StaticRules.{IsStatic, IsFirstFault};
-ghost use Rattle.hv_world.specs.WholeViews.{world_view};
+ghost use Rattle.hv_world.specs.Bounds.{IsBound};
+ghost use Rattle.hv_world.specs.WorldViews.{world_view};
 ghost use Rattle.hv_world.specs.Worlds.{typing_by, world_of, said_task_names, said_action_names, said_method_names};
 
 use crate::check::first_fault;
@@ -99,6 +100,7 @@ impl<'s> World<'s> {
     ) -> Result<World<'s>, StaticFault>
         ensures world { IfOk result (λ w. world_view w ≡ world_of (domain_view domain.now) (problem_view problem.now)) }
         ensures sound { IfOk result (λ _. IsStatic (domain_view domain.now) (problem_view problem.now)) }
+        ensures bound { IfOk result (λ w. IsBound (world_view w)) }
         ensures err { IfErr result (λ f. (f ≡ memory_fault) ⊎ IsFirstFault (domain_view domain.now) (problem_view problem.now) f) }
     {
         let tables = Tables::of(alloc, domain, problem)?;

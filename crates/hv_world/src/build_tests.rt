@@ -395,6 +395,25 @@ fn types_of_transport(rt: HostRuntime) -> Result<(), Fail> {
 }
 
 #[test]
+fn an_object_has_all_its_types(rt: HostRuntime) -> Result<(), Fail> {
+    let domain = read_domain(rt.alloc(), b"(define (domain d) (:types a b - b a - c))")?;
+    let problem = read_problem(
+        rt.alloc(),
+        b"(define (problem q) (:domain d) (:objects x - a x - c) (:htn) (:init))",
+    )?;
+    let Ok(world) = World::build(rt.alloc(), &domain, &problem) else {
+        assert!(rt; false);
+        return Ok(());
+    };
+    assert_eq!(rt; is_of(&world, b"x", b"a"), Some(true));
+    assert_eq!(rt; is_of(&world, b"x", b"b"), Some(true));
+    assert_eq!(rt; is_of(&world, b"x", b"c"), Some(true));
+    assert_eq!(rt; is_of(&world, b"x", b"object"), Some(true));
+    assert_eq!(rt; objects_of(&world, b"object"), Some(1));
+    Ok(())
+}
+
+#[test]
 fn says_what_transport_says(rt: HostRuntime) -> Result<(), Fail> {
     let domain = read_domain(rt.alloc(), TRANSPORT)?;
     let problem = read_problem(rt.alloc(), ONE)?;

@@ -3,7 +3,7 @@
 ghost use Rattle.std.specs.Prelude.{◌≡◌, map};
 ghost use Rattle.hv_text.specs.Names.{text_of};
 ghost use Rattle.hv_world.specs.Views.{type_number};
-ghost use Rattle.hv_world.specs.WorldViews.{task_view};
+ghost use Rattle.hv_world.specs.SectionViews.{task_view};
 
 use crate::id::TypeId;
 use hv_text::Name;

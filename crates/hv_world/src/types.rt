@@ -34,7 +34,7 @@ impl Types {
     /// From what is declared of so many types and objects: types with their parents, and objects
     /// with their types. For each object and each type that it is of, it takes a step, and one
     /// for each declared parent of that type.
-    pub(crate) fn new(
+    pub fn new(
         alloc: Global,
         types: usize,
         objects: usize,

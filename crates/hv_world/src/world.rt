@@ -7,7 +7,7 @@ ghost use Rattle.hv_world.specs.Tables.{places_by};
 ghost use Rattle.hv_world.specs.Views.{name_view, atom_view, formula_view};
 ghost use Rattle.hv_world.specs.MethodViews.{method_view};
 ghost use Rattle.hv_world.specs.Worlds as worlds;
-ghost use Rattle.hv_world.specs.WorldViews.{task_view, action_view};
+ghost use Rattle.hv_world.specs.SectionViews.{task_view, action_view};
 
 use crate::action::Action;
 use crate::formula::{Atom, Formula};
@@ -47,7 +47,7 @@ impl<'s> World<'s> {
     ghost use Rattle.std.specs.List.{Contains};
     ghost use Rattle.std.specs.List.Sorted.{IsStrictlyIncreasing};
     ghost use Rattle.hv_world.specs.Worlds.{task_named, method_named};
-    ghost use Rattle.hv_world.specs.WholeViews.{world_view};
+    ghost use Rattle.hv_world.specs.WorldViews.{world_view};
 
     /// Whether an object is of a type. A number that there is no object or type for is of none.
     pub fn is_of(&self, object: ObjectId, of: TypeId) -> bool

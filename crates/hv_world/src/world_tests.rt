@@ -16,6 +16,13 @@ const DOMAIN: &[u8] = b"(define (domain d) (:types truck - vehicle city)\n\
 const PROBLEM: &[u8] = b"(define (problem p) (:domain d) (:objects t - truck ulm - city)\n\
     (:htn :parameters (?c - city) :subtasks (send ?c)) (:init (at t home)) (:goal (at t ulm)))";
 
+// The world of the domain and a problem; no fault where a text is none.
+fn built(rt: &HostRuntime, problem: &'static [u8]) -> Result<World<'static>, Option<StaticFault>> {
+    let domain = read_domain(rt.alloc(), DOMAIN).map_err(|_| None)?;
+    let problem = read_problem(rt.alloc(), problem).map_err(|_| None)?;
+    World::build(rt.alloc(), &domain, &problem).map_err(Some)
+}
+
 fn object<'s>(world: &World<'s>, name: &'s [u8]) -> Option<ObjectId> {
     world.object_named(Name::new(name)?)
 }
@@ -30,14 +37,7 @@ fn method<'s>(world: &World<'s>, name: &'s [u8]) -> Option<MethodId> {
 
 #[test]
 fn names_have_numbers(rt: HostRuntime) {
-    let (Ok(domain), Ok(problem)) = (
-        read_domain(rt.alloc(), DOMAIN),
-        read_problem(rt.alloc(), PROBLEM),
-    ) else {
-        assert!(rt; false);
-        return;
-    };
-    let Ok(world) = World::build(rt.alloc(), &domain, &problem) else {
+    let Some(world) = built(&rt, PROBLEM).ok() else {
         assert!(rt; false);
         return;
     };
@@ -72,14 +72,7 @@ fn names_have_numbers(rt: HostRuntime) {
 
 #[test]
 fn sections_have_numbers(rt: HostRuntime) {
-    let (Ok(domain), Ok(problem)) = (
-        read_domain(rt.alloc(), DOMAIN),
-        read_problem(rt.alloc(), PROBLEM),
-    ) else {
-        assert!(rt; false);
-        return;
-    };
-    let Ok(world) = World::build(rt.alloc(), &domain, &problem) else {
+    let Some(world) = built(&rt, PROBLEM).ok() else {
         assert!(rt; false);
         return;
     };
@@ -129,14 +122,7 @@ fn equation(formula: &Formula) -> Option<(Term, Term)> {
 
 #[test]
 fn variables_have_numbers(rt: HostRuntime) {
-    let (Ok(domain), Ok(problem)) = (
-        read_domain(rt.alloc(), DOMAIN),
-        read_problem(rt.alloc(), PROBLEM),
-    ) else {
-        assert!(rt; false);
-        return;
-    };
-    let Ok(world) = World::build(rt.alloc(), &domain, &problem) else {
+    let Some(world) = built(&rt, PROBLEM).ok() else {
         assert!(rt; false);
         return;
     };
@@ -150,16 +136,8 @@ fn variables_have_numbers(rt: HostRuntime) {
 
 #[test]
 fn a_fault_is_answered(rt: HostRuntime) {
-    let other: &[u8] =
-        b"(define (problem p) (:domain d) (:htn :subtasks (fly)) (:init (at t home)))";
-    let (Ok(domain), Ok(problem)) = (
-        read_domain(rt.alloc(), DOMAIN),
-        read_problem(rt.alloc(), other),
-    ) else {
-        assert!(rt; false);
-        return;
-    };
-    let Err(fault) = World::build(rt.alloc(), &domain, &problem) else {
+    let other = b"(define (problem p) (:domain d) (:htn :subtasks (fly)) (:init (at t home)))";
+    let Err(Some(fault)) = built(&rt, other) else {
         assert!(rt; false);
         return;
     };

@@ -9,7 +9,7 @@ ghost use Rattle.hv_world.specs.Faults.{least};
 ghost use Rattle.hv_world.specs.StaticRules.{variable_faults, formula_faults, all_formula_faults};
 ghost use Rattle.hv_world.specs.Tables.{known_by, scope_view};
 
-use crate::check::terms::{atom_fault, pair_fault};
+use crate::check::terms::{atom_fault, equality_fault};
 use crate::check::types::variable_fault;
 use crate::fault::{Side, StaticFault, earlier};
 use crate::scope::Scope;
@@ -42,7 +42,7 @@ pub(crate) fn formula_fault<'s>(
         FormulaText::Exists(variables, part) => {
             quantified_fault(tables, scope, side, variables, part)
         }
-        FormulaText::Equal(left, right) => pair_fault(tables, scope, side, *left, *right),
+        FormulaText::Equal(left, right) => equality_fault(tables, scope, side, *left, *right),
     }
 }
 

@@ -14,7 +14,7 @@ ghost use Rattle.hv_world.specs.declared.fault.StaticKind.TheVariants as kinds;
 ghost use Rattle.hv_world.specs.StaticRules.{subtask_faults, subtasks_faults, constraints_faults, pair_faults, label_faults, order_faults, network_faults};
 ghost use Rattle.hv_world.specs.Tables.{known_by, places_by, scope_view};
 
-use crate::check::terms::{application_fault, declared_arity, pair_fault};
+use crate::check::terms::{application_fault, declared_arity, equality_fault};
 use crate::fault::{Side, StaticFault, StaticKind, earlier, fault_if};
 use crate::labels::{label_words, numbered_pairs};
 use crate::names::{Names, repeated_word};
@@ -67,7 +67,7 @@ fn constraints_fault<'s>(
 {
     let mut found = None;
     for constraint in constraints {
-        let fault = pair_fault(tables, scope, side, constraint.left, constraint.right);
+        let fault = equality_fault(tables, scope, side, constraint.left, constraint.right);
         found = earlier(found, fault);
     }
     found

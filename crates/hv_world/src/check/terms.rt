@@ -52,8 +52,8 @@ fn terms_fault<'s>(
     found
 }
 
-/// The first fault of two terms.
-pub(crate) fn pair_fault<'s>(
+/// The first fault of the two terms of an equality.
+pub(crate) fn equality_fault<'s>(
     tables: &Tables<'s>,
     scope: &Scope<'_, 's>,
     side: Side,

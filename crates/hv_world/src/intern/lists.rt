@@ -9,7 +9,7 @@ ghost use Rattle.hv_world.specs.Scopes.{parameters};
 ghost use Rattle.hv_world.specs.Tables.{known_by};
 ghost use Rattle.hv_world.specs.Views.{atom_view, formula_view};
 ghost use Rattle.hv_world.specs.MethodViews.{method_view};
-ghost use Rattle.hv_world.specs.WorldViews.{task_view, action_view};
+ghost use Rattle.hv_world.specs.SectionViews.{task_view, action_view};
 ghost use Rattle.hv_world.specs.Worlds.{type_pair, object_pair, added, formula_in, method_in, task_by, action_in};
 
 use crate::action::Action;

@@ -12,7 +12,7 @@ ghost use Rattle.hv_world.specs.Values.{and, no_formulas};
 ghost use Rattle.hv_world.specs.Views.{formula_view};
 ghost use Rattle.hv_world.specs.NetworkViews.{network_view};
 ghost use Rattle.hv_world.specs.MethodViews.{method_view};
-ghost use Rattle.hv_world.specs.WorldViews.{task_view, action_view};
+ghost use Rattle.hv_world.specs.SectionViews.{task_view, action_view};
 ghost use Rattle.hv_world.specs.Worlds.{network_in, method_in, top_in, task_by, action_in};
 
 use crate::action::Action;

@@ -10,5 +10,5 @@ loop-constraint-preserved c =
     let l = c.loop-constraint in
     let a = c.args in
     let faults = term_faults (known_by a.tables.now) a.side (scope_view a.scope.now) in
-    faults_next constraint_view (λ x. faults x.left ++ faults x.right) a.constraints.now l.constraint-index c.constraint-item.result l.found c.pair_fault-fault.result
-    c.earlier-found.result _ (omega arith) c.constraint-item.is c.pair_fault-fault.ensures c.earlier-found.ensures l.invariant
+    faults_next constraint_view (λ x. faults x.left ++ faults x.right) a.constraints.now l.constraint-index c.constraint-item.result l.found c.equality_fault-fault.result
+    c.earlier-found.result _ (omega arith) c.constraint-item.is c.equality_fault-fault.ensures c.earlier-found.ensures l.invariant

@@ -1,5 +1,11 @@
-use Rattle.std.proofs.Common.{inl}
+use Rattle.std.proofs.Common.{inl, sym, subst}
+use Rattle.std.specs.Prelude.{MatchOption}
 use Rattle.std.proofs.lemmas.Result.{err_from_is_err_and}
+use Rattle.hv_syntax.specs.DomainViews.{domain_view}
+use Rattle.hv_syntax.specs.ProblemViews.{problem_view}
+use Rattle.hv_world.specs.Bounds.{IsBound}
+use Rattle.hv_world.specs.StaticRules.{IsStatic, IsFirstFault}
+use Rattle.hv_world.proofs.BoundWorlds.{world_bound}
 use Rattle.hv_world.proofs.world.World.build.Goals as goal
 
 pub returns-in_err-fault-clause-err : goal.returns-in_err-fault-clause-err
@@ -7,3 +13,10 @@ returns-in_err-fault-clause-err c =
     let r = c.from_residual-in_err-fault in
     let p = err_from_is_err_and r.result r.ensures.1 in
     rw p.1 (inl p.2)
+
+pub returns-clause-bound : goal.returns-clause-bound
+returns-clause-bound c =
+    let d = domain_view c.args.domain.now in
+    let p = problem_view c.args.problem.now in
+    let sound : IsStatic d p = subst (λ o. MatchOption o (IsStatic d p) (IsFirstFault d p)) c.in-None.is c.in_ok-fault.ensures in
+    subst IsBound (sym c.in_ok-of_tables-in-None.ensures) (world_bound d p sound)

@@ -1,0 +1,9 @@
+pub mod Values
+pub mod Lines
+pub mod Forms
+pub mod Spellings
+pub mod Plans
+pub mod LineViews
+pub mod Views
+pub mod Canonical
+pub mod Bare

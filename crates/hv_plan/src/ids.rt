@@ -1,0 +1,42 @@
+//! Lists of ids.
+
+ghost use Rattle.std.specs.Prelude.{◌≡◌, map, IfOk};
+ghost use Rattle.hv_text.specs.Words.{piece_of};
+ghost use Rattle.hv_plan.specs.Forms.{every, id_at};
+ghost use Rattle.hv_plan.specs.Views.{as_ids, ids_view};
+
+use crate::id::{Id, id_at};
+use hv_text::Word;
+use std::alloc::{AllocFailed, Global};
+
+/// What words are as ids: ids of 64 bits, ids of which some is larger, or not all of them ids.
+#[derive(Drop)]
+pub(crate) enum Ids {
+    Fit(Vec<u64>),
+    TooLarge,
+    NoIds,
+}
+
+/// What the words are as ids.
+///
+/// # Errors
+///
+/// Where a growth of memory was refused.
+pub(crate) fn read_ids(alloc: Global, words: &[Word<'_>]) -> Result<Ids, AllocFailed<u64>>
+    ensures { IfOk result (λ is. ids_view is ≡ as_ids (every id_at (map piece_of words.now))) }
+{
+    let mut ids = Vec::new(alloc);
+    let mut fits = true;
+    for word in words {
+        match id_at(*word) {
+            Id::Fits(id) => ids.push(id)?,
+            Id::TooLarge => fits = false,
+            Id::NoId => return Ok(Ids::NoIds),
+        }
+    }
+    if fits {
+        Ok(Ids::Fit(ids))
+    } else {
+        Ok(Ids::TooLarge)
+    }
+}

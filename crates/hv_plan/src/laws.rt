@@ -1,0 +1,40 @@
+//! What is read of a plan is what the table of its lines spells.
+
+ghost use Rattle.std.specs.Prelude.{◌≡◌, ◌↔◌, ◌⊎◌, ◌≤◌, ℕ, List, Some, false, length};
+ghost use Rattle.hv_text.specs.Words.{Piece};
+ghost use Rattle.hv_plan.specs.Values.{Plan};
+ghost use Rattle.hv_plan.specs.Lines.{NumberedLine};
+ghost use Rattle.hv_plan.specs.Forms.{Form, form_of};
+ghost use Rattle.hv_plan.specs.Plans.{IsBody, fault_from};
+ghost use Rattle.hv_plan.specs.Spellings.{SpellsForm, SayPlan, IsFirstFault, IsPlan, IsPlanFault};
+ghost use Rattle.hv_plan.specs.Canonical.{plan_text};
+ghost use Rattle.hv_plan.specs.Bare.{bare_plan};
+ghost use Rattle.hv_plan.specs.declared.fault.PlanFault.{PlanFault};
+ghost use Rattle.hv_plan.specs.declared.fault.PlanFault.TheVariants as faults;
+
+/// A line is read where the table spells it.
+pub fn forms_are_spelled()
+    ensures { (n : ℕ) (ps : List Piece) (f : Form) → SpellsForm n ps f ↔ (form_of n ps ≡ Some f) }
+{}
+
+/// Lines hold a plan where each says a form and one of them is the root; else the first that says none, or is a
+/// second root, is the fault.
+pub fn plans_are_spelled()
+    ensures plan { (ls : List NumberedLine) (p : Plan) → SayPlan ls p ↔ IsBody ls p }
+    ensures fault { (ls : List NumberedLine) (e : PlanFault) → IsFirstFault ls e ↔ (fault_from false ls ≡ Some e) }
+{}
+
+/// A text holds a plan or has a fault, one alone and never both, want of memory aside.
+pub fn a_plan_or_a_fault()
+    ensures some { (text : List ℕ) → ((p : Plan) × IsPlan text p) ⊎ ((f : PlanFault) × (f ≡ faults.Memory → ⊥) × IsPlanFault text f) }
+    ensures one_fault { (text : List ℕ) (f g : PlanFault) → IsPlanFault text f → IsPlanFault text g → (f ≡ faults.Memory → ⊥) → (g ≡ faults.Memory → ⊥) → f ≡ g }
+    ensures one_plan { (text : List ℕ) (p q : Plan) → IsPlan text p → IsPlan text q → p ≡ q }
+    ensures faultless { (text : List ℕ) (p : Plan) (f : PlanFault) → IsPlan text p → IsPlanFault text f → f ≡ faults.Memory }
+{}
+
+/// The canonical text of a plan that a text holds, where it is within the size limit, holds that plan, the numbers of its
+/// lines aside; and what it holds is printed alike.
+pub fn plans_are_read_back()
+    ensures back { (text : List ℕ) (p : Plan) → IsPlan text p → length (plan_text p) ≤ 268435456 → (q : Plan) × IsPlan (plan_text p) q × (bare_plan q ≡ bare_plan p) }
+    ensures again { (text : List ℕ) (p q : Plan) → IsPlan text p → IsPlan (plan_text p) q → plan_text q ≡ plan_text p }
+{}

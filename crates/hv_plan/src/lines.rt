@@ -1,0 +1,88 @@
+//! The lines of a text, and the markers among them.
+
+ghost use Rattle.std.specs.Prelude.{◌≡◌, ◌==◌, ◌<◌, ◌≤◌, ◌+◌, ℕ, ◌∷◌, [], not, drop, length, MatchOption};
+ghost use Rattle.std.specs.List.{prefix_len};
+ghost use Rattle.hv_text.specs.Bytes.{lower};
+ghost use Rattle.hv_plan.specs.Lines.{is_marker};
+ghost use Rattle.hv_plan.specs.Views.{line_view, lines_left, IsWithin};
+
+use hv_text::{Word, next_word};
+
+/// A line without the byte 10 at its end, and its number.
+#[derive(Clone, Copy)]
+pub(crate) struct Line<'s> {
+    pub(crate) bytes: &'s [u8],
+    pub(crate) number: u32,
+}
+
+/// The lines of a text that are still to come, and the number of the first of them.
+#[derive(Clone, Copy)]
+pub(crate) struct Lines<'s> {
+    pub(crate) left: &'s [u8],
+    pub(crate) number: u32,
+}
+
+impl<'s> Lines<'s> {
+    /// The next line.
+    pub(crate) fn next(&mut self) -> Option<Line<'s>>
+        requires { IsWithin self.old }
+        ensures line { MatchOption result (lines_left self.old ≡ []) (λ l. lines_left self.old ≡ line_view l ∷ lines_left self.new) }
+        ensures within { MatchOption result (Unit {0}) (λ l. IsWithin self.new) }
+        ensures size { MatchOption result (Unit {0}) (λ l. length l.bytes.now ≤ 268435456) }
+        ensures shorter { MatchOption result (Unit {0}) (λ l. length self.new.left.now < length self.old.left.now) }
+    {
+        if self.left.is_empty() {
+            return None;
+        }
+        let end = line_end(self.left);
+        let line = Line {
+            bytes: &self.left[..end],
+            number: self.number,
+        };
+        self.left = behind(self.left, end);
+        self.number += 1;
+        Some(line)
+    }
+}
+
+// Where the first line ends.
+fn line_end(text: &[u8]) -> usize
+    ensures end { result ≡ prefix_len (λ b. not (b == 10)) text.now }
+    ensures within { result ≤ length text.now }
+{
+    for i in 0..text.len() {
+        if text[i] == b'\n' {
+            return i;
+        }
+    }
+    text.len()
+}
+
+// What stands behind the byte at the end of the first line.
+fn behind<'s>(text: &'s [u8], end: usize) -> &'s [u8]
+    requires { end ≤ length text.now }
+    ensures { result.now ≡ drop (end + 1) text.now }
+{
+    if end == text.len() {
+        &text[end..]
+    } else {
+        &text[end + 1..]
+    }
+}
+
+/// Whether the line is this marker: cut at its first semicolon and stripped of white space, nothing else.
+pub(crate) fn is_marker(line: Line<'_>, marker: &[u8]) -> bool
+    requires { length line.bytes.now ≤ 268435456 }
+    ensures { result ≡ is_marker (lower marker.now) (line_view line.entry) }
+{
+    let Ok(Some(first)) = next_word(line.bytes, 0) else {
+        return false;
+    };
+    let Word::Name(name, _) = first.word else {
+        return false;
+    };
+    let Ok(None) = next_word(line.bytes, first.past) else {
+        return false;
+    };
+    name.is(marker)
+}

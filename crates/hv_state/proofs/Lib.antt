@@ -1,0 +1,7 @@
+pub mod Levels
+pub mod FormulaLemmas
+pub mod Chosen
+pub mod TermLemmas
+pub mod RowLemmas
+pub mod StateLemmas
+pub mod PlanLemmas

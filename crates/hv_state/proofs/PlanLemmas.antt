@@ -1,0 +1,162 @@
+-- The states that a plan passes, as the code finds them.
+use Rattle.std.proofs.Common.{◌≡◌, ◌<◌, ◌≤◌, ◌+◌, ◌-◌, ◌++◌, ◌↔◌, ◌⊎◌, inl, inr, ℕ, zero, suc, List, [], ◌∷◌, length, map, take, get_or, slice_get, Some, IsSomeAnd, sym, ap, ◌∙◌, subst, arith}
+use Rattle.std.specs.List.{Contains}
+use Rattle.std.proofs.lemmas.Bool.{cases_lt}
+use Rattle.std.proofs.lemmas.List.{take_more, length-append}
+use Rattle.hv_world.specs.Values.{Formula, Formulas, holds, and, or, not, imply, forall, exists, equal, no_formulas, more_formulas}
+use Rattle.hv_world.specs.Types.{Typing}
+use Rattle.hv_state.specs.declared.step.Step as code
+use Rattle.hv_state.specs.Atoms.{GroundAtom, Atoms, Same, After, atoms_under, atom_under}
+use Rattle.hv_state.specs.Truth.{ForEach, ForSome, True, AllTrue, SomeTrue}
+use Rattle.hv_state.specs.Plans.{Step, Plan, AfterStep, AfterSteps, StateAt, IsApplicable, CanRun, StopsAt, ArePassed, step_view}
+
+-- sets with the same atoms
+pub same_itself : (S : Atoms) → Same S S
+same_itself S g = (λ m. m, λ m. m)
+
+pub same_back : (S T : Atoms) → Same S T → Same T S
+same_back S T e g = ((e g).1, (e g).0)
+
+pub same_through : (S T U : Atoms) → Same S T → Same T U → Same S U
+same_through S T U e f g = (λ m. (f g).0 ((e g).0 m), λ m. (e g).1 ((f g).1 m))
+
+after_half : (S T : Atoms) (deletes adds : List GroundAtom) → Same S T → (g : GroundAtom) → After S deletes adds g → After T deletes adds g
+after_half S T deletes adds e g (inl (m, out)) = inl ((e g).0 m, out)
+after_half S T deletes adds e g (inr m) = inr m
+
+pub after_same : (S T : Atoms) (a : Step) → Same S T → Same (AfterStep S a) (AfterStep T a)
+after_same S T a e g =
+    (after_half S T (atoms_under a.objects a.deletes) (atoms_under a.objects a.adds) e g, after_half T S (atoms_under a.objects a.deletes) (atoms_under a.objects a.adds) (same_back S T e) g)
+
+-- truth is a matter of which atoms are in the state
+each_half : (w : Typing) (P Q : List ℕ → Type 0) → ((env : List ℕ) → P env → Q env) → (ts : List ℕ) (env : List ℕ) → ForEach w P ts env → ForEach w Q ts env
+each_half w P Q h [] env m = h env m
+each_half w P Q h (t ∷ ts) env m = λ o of. each_half w P Q h ts (env ++ o ∷ []) (m o of)
+
+some_half : (w : Typing) (P Q : List ℕ → Type 0) → ((env : List ℕ) → P env → Q env) → (ts : List ℕ) (env : List ℕ) → ForSome w P ts env → ForSome w Q ts env
+some_half w P Q h [] env m = h env m
+some_half w P Q h (t ∷ ts) env (o, of, m) = (o, of, some_half w P Q h ts (env ++ o ∷ []) m)
+
+module _ (w : Typing) (S T : Atoms) (same : Same S T) where
+  mutual
+    pub true_same : (f : Formula) (env : List ℕ) → True w S f env ↔ True w T f env
+    true_same (holds a) env = same (atom_under env a)
+    true_same (and fs) env = all_same fs env
+    true_same (or fs) env = some_same fs env
+    true_same (not f) env = (λ m n. m ((true_same f env).1 n), λ m n. m ((true_same f env).0 n))
+    true_same (imply f g) env = (λ m n. (true_same g env).0 (m ((true_same f env).1 n)), λ m n. (true_same g env).1 (m ((true_same f env).0 n)))
+    true_same (forall ts f) env =
+        (each_half w (True w S f) (True w T f) (λ e. (true_same f e).0) ts env, each_half w (True w T f) (True w S f) (λ e. (true_same f e).1) ts env)
+    true_same (exists ts f) env =
+        (some_half w (True w S f) (True w T f) (λ e. (true_same f e).0) ts env, some_half w (True w T f) (True w S f) (λ e. (true_same f e).1) ts env)
+    true_same (equal s t) env = (λ m. m, λ m. m)
+
+    all_same : (fs : Formulas) (env : List ℕ) → AllTrue w S fs env ↔ AllTrue w T fs env
+    all_same no_formulas env = (λ m. m, λ m. m)
+    all_same (more_formulas f fs) env = (λ m. ((true_same f env).0 m.0, (all_same fs env).0 m.1), λ m. ((true_same f env).1 m.0, (all_same fs env).1 m.1))
+
+    some_same : (fs : Formulas) (env : List ℕ) → SomeTrue w S fs env ↔ SomeTrue w T fs env
+    some_same no_formulas env = (λ m. m, λ m. m)
+    some_same (more_formulas f fs) env =
+        (λ m. elim m [ inl p ↦ inl ((true_same f env).0 p) | inr q ↦ inr ((some_same fs env).0 q) ], λ m. elim m [ inl p ↦ inl ((true_same f env).1 p) | inr q ↦ inr ((some_same fs env).1 q) ])
+
+-- one step more
+after_steps_push : (xs : List Step) (a : Step) (S : Atoms) → Same (AfterSteps S (xs ++ a ∷ [])) (AfterStep (AfterSteps S xs) a)
+after_steps_push [] a S = same_itself (AfterStep S a)
+after_steps_push (x ∷ xs) a S = after_steps_push xs a (AfterStep S x)
+
+read_there : {X : Type 0} (xs : List X) (k : ℕ) (x : X) → slice_get xs k ≡ Some x → (k < length xs) × (get_or xs k x ≡ x)
+read_there [] k x e = absurd cc
+read_there (y ∷ ys) zero x e = (omega arith, cc)
+read_there (y ∷ ys) (suc k) x e = let rest = read_there ys k x e in (omega (arith, rest.0), rest.1)
+
+pub step_there : (steps : List code.Step) (k : ℕ) (s : code.Step) → k < length steps → s ≡ get_or steps k s → slice_get (map step_view steps) k ≡ Some (step_view s)
+step_there [] k s lt e = absurd (omega arith)
+step_there (x ∷ xs) zero s lt e = ap (λ y. Some (step_view y)) (sym e)
+step_there (x ∷ xs) (suc k) s lt e = step_there xs k s (omega arith) e
+
+module _ (p : Plan) (k : ℕ) (a : Step) (there : slice_get p.steps k ≡ Some a) where
+  pub applicable_if : True p.typing (StateAt p k) a.precondition a.objects → IsApplicable p k
+  applicable_if h = subst (λ o. IsSomeAnd o (λ b. True p.typing (StateAt p k) b.precondition b.objects)) (sym there) h
+
+  pub only_if : IsApplicable p k → True p.typing (StateAt p k) a.precondition a.objects
+  only_if h = subst (λ o. IsSomeAnd o (λ b. True p.typing (StateAt p k) b.precondition b.objects)) there h
+
+  next_taken : take (k + 1) p.steps ≡ take k p.steps ++ a ∷ []
+  next_taken = let read = read_there p.steps k a there in take_more p.steps k a read.0 ∙ ap (λ b. take k p.steps ++ b ∷ []) read.1
+
+  next_state : Same (StateAt p (k + 1)) (AfterStep (StateAt p k) a)
+  next_state = subst (λ xs. Same (AfterSteps (Contains (atoms_under [] p.init)) xs) (AfterStep (StateAt p k) a)) (sym next_taken) (after_steps_push (take k p.steps) a (Contains (atoms_under [] p.init)))
+
+-- what holds of each element and its place, after one more
+push_at : {X : Type 0} (P : ℕ → X → Type 0) (xs : List X) (y : X) → ((j : ℕ) (d : X) → j < length xs → P j (get_or xs j d)) → P (length xs) y → (j : ℕ) (d : X) → j < length (xs ++ y ∷ []) → P j (get_or (xs ++ y ∷ []) j d)
+push_at P [] y h q zero d lt = q
+push_at P [] y h q (suc j) d lt = absurd (omega arith)
+push_at P (x ∷ xs) y h q zero d lt = h 0 d (omega arith)
+push_at P (x ∷ xs) y h q (suc j) d lt = push_at (λ n. P (suc n)) xs y (λ n e l. h (suc n) e (omega arith)) q j d (omega arith)
+
+module _ {S : Type 0} (atoms : S → Atoms) (p : Plan) where
+  -- the first state
+  pub passed_first : (s : S) → Same (atoms s) (Contains (atoms_under [] p.init)) → ArePassed atoms p (s ∷ [])
+  passed_first s e = record { begun = omega arith; same = first; applicable = λ k lt. absurd (omega arith) }
+    where
+      first : (k : ℕ) (d : S) → k < 1 → Same (atoms (get_or (s ∷ []) k d)) (StateAt p k)
+      first zero d lt = e
+      first (suc k) d lt = absurd (omega arith)
+
+  module _ (states : List S) (passed : ArePassed atoms p states) (k : ℕ) (long : length states ≡ k + 1) (s : S) (is : s ≡ get_or states k s) (a : Step) (there : slice_get p.steps k ≡ Some a) where
+    same_there : Same (atoms s) (StateAt p k)
+    same_there = subst (λ t. Same (atoms t) (StateAt p k)) (sym is) (passed.same k s (omega arith))
+
+    pub not_applicable : (True p.typing (atoms s) a.precondition a.objects → ⊥) → IsApplicable p k → ⊥
+    not_applicable h m = h ((true_same p.typing (atoms s) (StateAt p k) same_there a.precondition a.objects).1 (only_if p k a there m))
+
+    pub passed_more : (next : S) → True p.typing (atoms s) a.precondition a.objects → Same (atoms next) (AfterStep (atoms s) a) → ArePassed atoms p (states ++ next ∷ [])
+    passed_more next h e = record {
+      begun = omega (arith, length-append states (next ∷ []));
+      same = push_at (λ j t. Same (atoms t) (StateAt p j)) states next passed.same (subst (λ n. Same (atoms next) (StateAt p n)) (sym long) reached);
+      applicable = λ j lt. by j (cases_lt j k) (omega (arith, lt, long, length-append states (next ∷ [])));
+    }
+      where
+        reached : Same (atoms next) (StateAt p (k + 1))
+        reached =
+            same_through (atoms next) (AfterStep (atoms s) a) (StateAt p (k + 1)) e
+            (same_through (AfterStep (atoms s) a) (AfterStep (StateAt p k) a) (StateAt p (k + 1)) (after_same (atoms s) (StateAt p k) a same_there) (same_back (StateAt p (k + 1)) (AfterStep (StateAt p k) a) (next_state p k a there)))
+
+        now : IsApplicable p k
+        now = applicable_if p k a there ((true_same p.typing (atoms s) (StateAt p k) same_there a.precondition a.objects).0 h)
+
+        by : (j : ℕ) → (j < k) ⊎ (k ≤ j) → j < k + 1 → IsApplicable p j
+        by j (inl before) lt = passed.applicable j (omega (arith, before, long))
+        by j (inr behind) lt = let here_is : k ≡ j = omega (arith, behind, lt) in subst (IsApplicable p) here_is now
+
+  -- truth in a state that was found
+  pub true_found : (states : List S) → ArePassed atoms p states → (k : ℕ) (s : S) → k < length states → s ≡ get_or states k s → (Y : Type 0) (f : Formula) (env : List ℕ) → Y ↔ True p.typing (atoms s) f env → Y ↔ True p.typing (StateAt p k) f env
+  true_found states passed k s lt is Y f env h =
+      let there = subst (λ t. Same (atoms t) (StateAt p k)) (sym is) (passed.same k s lt) in
+      let alike = true_same p.typing (atoms s) (StateAt p k) there f env in
+      (λ y. alike.0 (h.0 y), λ m. h.1 (alike.1 m))
+
+  -- all steps were taken
+  pub all_ran : (states : List S) → ArePassed atoms p states → length p.steps < length states → CanRun p
+  all_ran states passed long k lt = passed.applicable k (omega (arith, long, lt))
+
+  -- the one behind the last state is the first that was not
+  pub stops : (states : List S) → ArePassed atoms p states → length states ≤ length p.steps → (IsApplicable p (length states - 1) → ⊥) → StopsAt p (length states - 1)
+  stops states passed short out = (omega (arith, short, passed.begun), out, λ j lt. passed.applicable j (omega (arith, lt)))
+
+-- what is true after deletes and adds
+module _ (old deletes adds : List GroundAtom) (g : GroundAtom) where
+  pub added_is : Contains adds g → After (Contains old) deletes adds g
+  added_is m = inr m
+
+  pub deleted_is_not : Contains deletes g → (Contains adds g → ⊥) → After (Contains old) deletes adds g → ⊥
+  deleted_is_not gone out (inl m) = m.1 gone
+  deleted_is_not gone out (inr m) = out m
+
+  still : (Contains adds g → ⊥) → After (Contains old) deletes adds g → Contains old g
+  still out (inl m) = m.0
+  still out (inr m) = absurd (out m)
+
+  pub other_stays : (Contains deletes g → ⊥) → (Contains adds g → ⊥) → After (Contains old) deletes adds g ↔ Contains old g
+  other_stays kept out = (still out, λ m. inl (m, kept))

@@ -1,0 +1,47 @@
+-- States by rows, as sets of atoms.
+use Rattle.std.proofs.Common.{◌≡◌, ◌<◌, ◌⊎◌, inl, inr, ℕ, List, [], ◌∷◌, length, map, Result, Ok, Err, OnErr, sym, ap, ◌∙◌, subst, arith}
+use Rattle.std.specs.List.{Contains}
+use Rattle.std.proofs.lemmas.List.{get_or-map, length-map}
+use Rattle.hv_state.specs.Atoms.{GroundAtom, ground_atom, Same, After}
+use Rattle.hv_state.specs.Rows.{row_of, Listed, IsWithoutAll, IsWithAll}
+
+-- a row is of one atom
+abbrev atom_of : List ℕ → GroundAtom
+atom_of [] = ground_atom 0 []
+atom_of (p ∷ os) = ground_atom p os
+
+same_atom : (g h : GroundAtom) → row_of g ≡ row_of h → g ≡ h
+same_atom g h e = ap atom_of e
+
+pub atom_listed : (gs : List GroundAtom) (g : GroundAtom) → Contains (map row_of gs) (row_of g) → Contains gs g
+atom_listed gs g (k, lt, e) =
+    let within : k < length gs = omega (arith, lt, length-map gs row_of) in
+    (k, within, same_atom _ g (sym (get_or-map row_of gs k g (row_of g) within) ∙ e))
+
+pub row_listed : (gs : List GroundAtom) (g : GroundAtom) → Contains gs g → Contains (map row_of gs) (row_of g)
+row_listed gs g (k, lt, e) = (k, omega (arith, lt, length-map gs row_of), get_or-map row_of gs k g (row_of g) lt ∙ ap row_of e)
+
+pub same_if : (xs ys : List (List ℕ)) → xs ≡ ys → Same (Listed xs) (Listed ys)
+same_if xs ys e g = (λ m. subst (λ rows. Listed rows g) e m, λ m. subst (λ rows. Listed rows g) (sym e) m)
+
+pub on_err : {T E : Type 0} (r : Result T E) (P : Type 0) → P → OnErr r P
+on_err (Ok x) P p = tt
+on_err (Err e) P p = p
+
+pub begun : (old rows new : List (List ℕ)) (gs : List GroundAtom) → old ≡ [] → rows ≡ map row_of gs → IsWithAll old rows new → Same (Listed new) (Contains gs)
+begun old rows new gs none is all g = (λ m. from ((all (row_of g)).0 m), λ m. (all (row_of g)).1 (inr (subst (λ xs. Contains xs (row_of g)) (sym is) (row_listed gs g m))))
+  where
+    from : Contains old (row_of g) ⊎ Contains rows (row_of g) → Contains gs g
+    from (inl m) = let nowhere = subst (λ xs. Contains xs (row_of g)) none m in absurd (omega (arith, nowhere.1))
+    from (inr m) = atom_listed gs g (subst (λ xs. Contains xs (row_of g)) is m)
+
+pub applied : (old mid rows new : List (List ℕ)) (deletes adds : List GroundAtom) → IsWithoutAll old (map row_of deletes) mid → rows ≡ map row_of adds → IsWithAll mid rows new → Same (Listed new) (After (Listed old) deletes adds)
+applied old mid rows new deletes adds without is all g = (λ m. from ((all (row_of g)).0 m), to)
+  where
+    from : Contains mid (row_of g) ⊎ Contains rows (row_of g) → After (Listed old) deletes adds g
+    from (inl m) = let kept = (without (row_of g)).0 m in inl (kept.0, λ gone. kept.1 (row_listed deletes g gone))
+    from (inr m) = inr (atom_listed adds g (subst (λ xs. Contains xs (row_of g)) is m))
+
+    to : After (Listed old) deletes adds g → Listed new g
+    to (inl (m, kept)) = (all (row_of g)).1 (inl ((without (row_of g)).1 (m, λ gone. kept (atom_listed deletes g gone))))
+    to (inr m) = (all (row_of g)).1 (inr (subst (λ xs. Contains xs (row_of g)) (sym is) (row_listed adds g m)))

@@ -1,0 +1,16 @@
+use Rattle.std.proofs.Common.{rules, ◌≡◌}
+use Rattle.std.specs.Ordering.{nat_cmp}
+use Rattle.std.specs.Cmp.Lexicographic.{slice_cmp}
+use Rattle.std.proofs.lemmas.Fn.{answers_by}
+use Rattle.hv_state.specs.Atoms.{atom_read}
+use Rattle.hv_state.specs.Rows.{row_of}
+use Rattle.hv_state.proofs.RowLemmas.{searched}
+use Rattle.hv_state.proofs.rows.find.Goals as goal
+
+-- the closure compares with the atom's row
+pub returns : goal.returns
+returns c =
+    let facts = c.binary_search_by.ensures in
+    let row = row_of (atom_read c.args.atom.now) in
+    let compared = facts.position (λ v. slice_cmp nat_cmp v.items row) (answers_by _ _ (λ f. f.0.now ≡ c.args.atom.now) (λ f a r g called i. search rules) _ (search rules)) in
+    searched c.args.rows.now row c.requires _ facts.bound compared

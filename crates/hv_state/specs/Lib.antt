@@ -1,0 +1,4 @@
+pub mod Atoms
+pub mod Truth
+pub mod Rows
+pub mod Plans

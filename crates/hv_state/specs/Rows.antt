@@ -1,0 +1,52 @@
+-- Atoms as rows of numbers, in order.
+use Rattle.std.specs.Prelude.{◌≡◌, ℕ, ◌<◌, ◌≤◌, ◌↔◌, ◌⊎◌, List, [], ◌∷◌, map, length, Result, Ok, Err, slice_index_or}
+use Rattle.std.specs.Global.{Vec}
+use Rattle.std.specs.List.{AllPairs, Contains}
+use Rattle.std.specs.Ordering.{nat_cmp}
+use Rattle.std.specs.Cmp.Lexicographic.{slice_cmp}
+use Rattle.std.specs.declared.cmp.Ordering.TheVariants.{Less}
+use Rattle.hv_world.specs.Values.{Atom}
+use Rattle.hv_state.specs.Atoms.{GroundAtom, Atoms, atoms_under}
+
+-- an atom as a row: its predicate, and then its objects
+abbrev pub row_of : GroundAtom → List ℕ
+row_of g = g.predicate ∷ g.objects
+
+abbrev pub rows_under : List ℕ → List Atom → List (List ℕ)
+rows_under env xs = map row_of (atoms_under env xs)
+
+abbrev pub rows_in : List (Vec ℕ) → List (List ℕ)
+rows_in vs = map (λ v. v.items) vs
+
+-- the atoms whose rows are listed
+abbrev pub Listed : List (List ℕ) → Atoms
+Listed rows g = Contains rows (row_of g)
+
+-- the one row is below the other: so is its number where they first differ, or it is a part of it
+abbrev pub IsBelow : List ℕ → List ℕ → Type 0
+IsBelow x y = slice_cmp nat_cmp x y ≡ Less
+
+abbrev pub Ascend : List (List ℕ) → Type 0
+Ascend rows = AllPairs IsBelow rows
+
+-- all rows before the place are below the row, and it is below all others
+abbrev pub IsGap : List (List ℕ) → List ℕ → ℕ → Type 0
+IsGap rows row i = (i ≤ length rows) × ((k : ℕ) → k < i → IsBelow (slice_index_or rows k []) row) × ((k : ℕ) → i ≤ k → k < length rows → IsBelow row (slice_index_or rows k []))
+
+-- where a row stands, or else would stand
+abbrev pub IsPlace : List (List ℕ) → List ℕ → Result ℕ ℕ → Type 0
+IsPlace rows row (Ok i) = (i < length rows) × (slice_index_or rows i [] ≡ row)
+IsPlace rows row (Err i) = IsGap rows row i
+
+-- the same rows without one, with one, without several, with several
+abbrev pub IsWithout : List (List ℕ) → List ℕ → List (List ℕ) → Type 0
+IsWithout old row new = (r : List ℕ) → Contains new r ↔ (Contains old r × (r ≡ row → ⊥))
+
+abbrev pub IsWith : List (List ℕ) → List ℕ → List (List ℕ) → Type 0
+IsWith old row new = (r : List ℕ) → Contains new r ↔ (Contains old r ⊎ (r ≡ row))
+
+abbrev pub IsWithoutAll : List (List ℕ) → List (List ℕ) → List (List ℕ) → Type 0
+IsWithoutAll old rows new = (r : List ℕ) → Contains new r ↔ (Contains old r × (Contains rows r → ⊥))
+
+abbrev pub IsWithAll : List (List ℕ) → List (List ℕ) → List (List ℕ) → Type 0
+IsWithAll old rows new = (r : List ℕ) → Contains new r ↔ (Contains old r ⊎ Contains rows r)

@@ -1,0 +1,42 @@
+//! Atoms as they are read, with the objects of their variables.
+
+ghost use Rattle.std.specs.Prelude.{◌≡◌};
+ghost use Rattle.hv_world.specs.Views.{term_view, atom_view};
+ghost use Rattle.hv_world.specs.Bindings.{objects_in};
+ghost use Rattle.hv_state.specs.Atoms.{object_of, atom_under, atom_read};
+
+use hv_world::{Atom, Binding, ObjectId, PredicateId, Term};
+
+/// A predicate and its terms, read with the objects of a binding. Making one takes no memory.
+#[derive(Clone, Copy)]
+pub struct AtomView<'a> {
+    pub predicate: PredicateId,
+    pub terms: &'a [Term],
+    pub binding: &'a Binding<'a>,
+}
+
+impl<'a> AtomView<'a> {
+    /// An atom with the objects of a binding.
+    pub fn new(atom: &'a Atom, binding: &'a Binding<'a>) -> AtomView<'a>
+        ensures { atom_read result ≡ atom_under (objects_in binding.now) (atom_view atom.now) }
+    {
+        AtomView {
+            predicate: atom.predicate,
+            terms: &atom.terms,
+            binding,
+        }
+    }
+}
+
+/// The object of a term; a variable that the binding does not have reads as object 0.
+pub(crate) fn object_of(binding: &Binding<'_>, term: Term) -> ObjectId
+    ensures { result.0 ≡ object_of (objects_in binding.now) (term_view term) }
+{
+    match term {
+        Term::Object(object) => object,
+        Term::Variable(number) => match binding.object(number) {
+            Some(object) => object,
+            None => ObjectId(0),
+        },
+    }
+}

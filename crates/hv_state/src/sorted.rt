@@ -1,0 +1,59 @@
+//! A state as a sorted list of its atoms.
+
+ghost use Rattle.std.specs.Prelude.{ℕ, List};
+ghost use Rattle.hv_state.specs.Rows.{rows_in, Ascend, Listed};
+
+use crate::atom::AtomView;
+use crate::rows::{copy_of, find, put_all, remove_all, rows_of};
+use crate::state::State;
+use hv_text::Memory;
+use hv_world::{Atom, Binding};
+use std::alloc::Global;
+use std::marker::Model;
+
+/// A state as a sorted list of its atoms. An atom is found by halving.
+#[derive(Drop)]
+pub struct SortedState {
+    rows: Vec<Vec<usize>>,
+}
+
+impl Model for SortedState {
+    ghost Value = { List (List ℕ) };
+
+    ghost view = { λ s. rows_in s.rows.items };
+
+    ghost invariant = { λ s. Ascend (rows_in s.rows.items) };
+}
+
+impl State for SortedState {
+    ghost atoms = { λ s. Listed s };
+
+    fn initial(alloc: Global, init: &[Atom]) -> Result<SortedState, Memory> {
+        let new = rows_of(alloc, init, &Binding::Given(&[]))?;
+        let mut rows = Vec::with_capacity(alloc, new.len())?;
+        put_all(&mut rows, new);
+        Ok(SortedState { rows })
+    }
+
+    fn copy(&self, alloc: Global) -> Result<SortedState, Memory> {
+        let rows = copy_of(alloc, &self.rows)?;
+        Ok(SortedState { rows })
+    }
+
+    fn holds(&self, atom: &AtomView<'_>) -> bool {
+        find(&self.rows, atom).is_ok()
+    }
+
+    fn apply(
+        &mut self,
+        deletes: &[Atom],
+        adds: &[Atom],
+        binding: &Binding<'_>,
+    ) -> Result<(), Memory> {
+        let new = rows_of(*self.rows.allocator(), adds, binding)?;
+        self.rows.reserve(new.len())?;
+        remove_all(&mut self.rows, deletes, binding);
+        put_all(&mut self.rows, new);
+        Ok(())
+    }
+}

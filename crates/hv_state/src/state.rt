@@ -1,0 +1,51 @@
+//! States: sets of atoms without variables.
+
+ghost use Rattle.std.specs.Prelude.{◌≡◌, ◌↔◌, [], IsTrue, IfOk, OnOk, OnErr, map};
+ghost use Rattle.std.specs.List.{Contains};
+ghost use Rattle.hv_world.specs.Views.{atom_view};
+ghost use Rattle.hv_world.specs.Bindings.{objects_in};
+ghost use Rattle.hv_state.specs.Atoms.{GroundAtom, Same, After, atoms_under, atom_read};
+
+use crate::atom::AtomView;
+use hv_text::Memory;
+use hv_world::{Atom, Binding};
+use std::alloc::Global;
+
+/// A set of atoms without variables: those that are true.
+pub trait State: Sized + Drop {
+    ghost atoms: { Self → GroundAtom → Type 0 };
+
+    /// The state of these atoms.
+    ///
+    /// # Errors
+    ///
+    /// `Memory` where a growth was refused.
+    fn initial(alloc: Global, init: &[Atom]) -> Result<Self, Memory>
+        ensures { IfOk result (λ s. Same (atoms s) (Contains (atoms_under [] (map atom_view init.now)))) };
+
+    /// Another state with the same atoms.
+    ///
+    /// # Errors
+    ///
+    /// `Memory` where a growth was refused.
+    fn copy(&self, alloc: Global) -> Result<Self, Memory>
+        ensures { IfOk result (λ s. Same (atoms s) (atoms self.now)) };
+
+    /// Whether an atom is true.
+    fn holds(&self, atom: &AtomView<'_>) -> bool
+        ensures { IsTrue result ↔ atoms self.now (atom_read atom.now) };
+
+    /// Makes atoms false, and then others true, both with the objects of a binding.
+    ///
+    /// # Errors
+    ///
+    /// `Memory` where a growth was refused; the same atoms are true then as before.
+    fn apply(
+        &mut self,
+        deletes: &[Atom],
+        adds: &[Atom],
+        binding: &Binding<'_>,
+    ) -> Result<(), Memory>
+        ensures ok { OnOk result (Same (atoms self.new) (After (atoms self.old) (atoms_under (objects_in binding.now) (map atom_view deletes.now)) (atoms_under (objects_in binding.now) (map atom_view adds.now)))) }
+        ensures err { OnErr result (Same (atoms self.new) (atoms self.old)) };
+}
