@@ -1,4 +1,5 @@
 -- A text holds a plan or has one fault.
+use Rattle.hv_text.specs.declared.fault.TheConstants.{MOST_BYTES}
 use Rattle.std.proofs.Common.{◌≡◌, ◌≤◌, ◌<◌, ◌||◌, ℕ, Bool, true, false, List, [], ◌∷◌, ◌++◌, length, inl, inr, ◌⊎◌, Option, Some, None, Result, Ok, Err, refl, sym, ◌∙◌, subst, arith, if◌then◌else◌}
 use Rattle.std.specs.Prelude.{nat_le}
 use Rattle.std.proofs.lemmas.Grind.{common_steps}
@@ -26,7 +27,7 @@ marked_fault true false f = Some faults.NoEnd
 marked_fault true true f = f
 
 abbrev text_fault : List ℕ → Option PlanFault
-text_fault text = if nat_le (length text) 268435456 then marked_fault (has_start text) (has_end text) (body_fault (between text)) else Some faults.TooLong
+text_fault text = if nat_le (length text) MOST_BYTES then marked_fault (has_start text) (has_end text) (body_fault (between text)) else Some faults.TooLong
 
 small_tells : (a b : ℕ) → a ≤ b → nat_le a b ≡ true
 small_tells a b h = grind (arith, common_steps, leb_tells)
@@ -34,10 +35,10 @@ small_tells a b h = grind (arith, common_steps, leb_tells)
 large_tells : (a b : ℕ) → b < a → nat_le a b ≡ false
 large_tells a b h = grind (arith, common_steps, leb_tells)
 
-within : (text : List ℕ) (f : PlanFault) → length text ≤ 268435456 → has_start text ≡ true → has_end text ≡ true → body_fault (between text) ≡ Some f → text_fault text ≡ Some f
-within text f size starts ends body = let n = small_tells (length text) 268435456 size in rw (n, starts, ends) body
+within : (text : List ℕ) (f : PlanFault) → length text ≤ MOST_BYTES → has_start text ≡ true → has_end text ≡ true → body_fault (between text) ≡ Some f → text_fault text ≡ Some f
+within text f size starts ends body = let n = small_tells (length text) MOST_BYTES size in rw (n, starts, ends) body
 
-first_found : (text : List ℕ) (f : PlanFault) → length text ≤ 268435456 → has_start text ≡ true → has_end text ≡ true → IsFirstFault (between text) f → text_fault text ≡ Some f
+first_found : (text : List ℕ) (f : PlanFault) → length text ≤ MOST_BYTES → has_start text ≡ true → has_end text ≡ true → IsFirstFault (between text) f → text_fault text ≡ Some f
 first_found text f size starts ends body =
     let first = (fault_table (between text) f).0 body in
     within text f size starts ends (rw first refl)
@@ -54,9 +55,9 @@ fault_found text (faults.BadLine n) m h = first_found text (faults.BadLine n) h.
 fault_found text (faults.IdTooLarge n) m h = first_found text (faults.IdTooLarge n) h.size h.starts h.ends h.body
 fault_found text (faults.RepeatedRoot n) m h = first_found text (faults.RepeatedRoot n) h.size h.starts h.ends h.body
 fault_found text faults.NoRoot m h = within text faults.NoRoot h.size h.starts h.ends (rootless_found (between text) h.body)
-fault_found text faults.TooLong m h = let n = large_tells (length text) 268435456 h in rw n refl
-fault_found text faults.NoStart m (size, starts) = let n = small_tells (length text) 268435456 size in rw (n, starts) refl
-fault_found text faults.NoEnd m (size, starts, ends) = let n = small_tells (length text) 268435456 size in rw (n, starts, ends) refl
+fault_found text faults.TooLong m h = let n = large_tells (length text) MOST_BYTES h in rw n refl
+fault_found text faults.NoStart m (size, starts) = let n = small_tells (length text) MOST_BYTES size in rw (n, starts) refl
+fault_found text faults.NoEnd m (size, starts, ends) = let n = small_tells (length text) MOST_BYTES size in rw (n, starts, ends) refl
 fault_found text faults.Memory m h = absurd (m refl)
 
 -- a text has one fault, want of memory aside
@@ -70,7 +71,7 @@ HasFault text = (f : PlanFault) × (f ≡ faults.Memory → ⊥) × IsPlanFault 
 abbrev pub HasPlan : List ℕ → Type 0
 HasPlan text = (p : Plan) × IsPlan text p
 
-first_held : (text : List ℕ) (f : PlanFault) → length text ≤ 268435456 → has_start text ≡ true → has_end text ≡ true → IsFirstFault (between text) f → HasFault text
+first_held : (text : List ℕ) (f : PlanFault) → length text ≤ MOST_BYTES → has_start text ≡ true → has_end text ≡ true → IsFirstFault (between text) f → HasFault text
 first_held text f size starts ends first = go (between text) f refl first
   where
     go : (ls : List NumberedLine) (f : PlanFault) → between text ≡ ls → IsFirstFault ls f → HasFault text
@@ -116,7 +117,7 @@ few_roots rooted (l ∷ ls) e = go (said l) e (λ b. few_roots b ls)
 two_are_many : (r s : Root) (rs : List Root) → length (r ∷ s ∷ rs) ≤ 1 → ⊥
 two_are_many r s rs h = omega arith
 
-body_held : (text : List ℕ) → length text ≤ 268435456 → has_start text ≡ true → has_end text ≡ true → (rs : List Root) → roots_of (between text) ≡ rs
+body_held : (text : List ℕ) → length text ≤ MOST_BYTES → has_start text ≡ true → has_end text ≡ true → (rs : List Root) → roots_of (between text) ≡ rs
     → fault_from false (between text) ≡ None → HasPlan text ⊎ HasFault text
 body_held text size starts ends [] roots none =
     inr (faults.NoRoot, λ m. cc, record { size = size; starts = starts; ends = ends; body = rootless_forms (between text) roots (sound_forms false (between text) none) })
@@ -128,20 +129,20 @@ body_held text size starts ends (r ∷ s ∷ rs) roots none = absurd (two_are_ma
 
 -- a text holds a plan or has a fault
 pub plan_or_some_fault : (text : List ℕ) → HasPlan text ⊎ HasFault text
-plan_or_some_fault text = at_size (leb_tells (length text) 268435456)
+plan_or_some_fault text = at_size (leb_tells (length text) MOST_BYTES)
   where
-    at_fault : length text ≤ 268435456 → has_start text ≡ true → has_end text ≡ true → (o : Option PlanFault) → fault_from false (between text) ≡ o → HasPlan text ⊎ HasFault text
+    at_fault : length text ≤ MOST_BYTES → has_start text ≡ true → has_end text ≡ true → (o : Option PlanFault) → fault_from false (between text) ≡ o → HasPlan text ⊎ HasFault text
     at_fault size starts ends None e = body_held text size starts ends (roots_of (between text)) refl e
     at_fault size starts ends (Some f) e = inr (first_held text f size starts ends ((fault_table (between text) f).1 e))
 
-    at_end : length text ≤ 268435456 → has_start text ≡ true → (b : Bool) → has_end text ≡ b → HasPlan text ⊎ HasFault text
+    at_end : length text ≤ MOST_BYTES → has_start text ≡ true → (b : Bool) → has_end text ≡ b → HasPlan text ⊎ HasFault text
     at_end size starts true e = at_fault size starts e (fault_from false (between text)) refl
     at_end size starts false e = inr (faults.NoEnd, λ m. cc, (size, starts, e))
 
-    at_start : length text ≤ 268435456 → (b : Bool) → has_start text ≡ b → HasPlan text ⊎ HasFault text
+    at_start : length text ≤ MOST_BYTES → (b : Bool) → has_start text ≡ b → HasPlan text ⊎ HasFault text
     at_start size true e = at_end size e (has_end text) refl
     at_start size false e = inr (faults.NoStart, λ m. cc, (size, e))
 
-    at_size : ((nat_le (length text) 268435456 ≡ true) × (length text ≤ 268435456)) ⊎ ((nat_le (length text) 268435456 ≡ false) × (268435456 < length text)) → HasPlan text ⊎ HasFault text
+    at_size : ((nat_le (length text) MOST_BYTES ≡ true) × (length text ≤ MOST_BYTES)) ⊎ ((nat_le (length text) MOST_BYTES ≡ false) × (MOST_BYTES < length text)) → HasPlan text ⊎ HasFault text
     at_size (inl (n, size)) = at_start size (has_start text) refl
     at_size (inr (n, large)) = inr (faults.TooLong, λ m. cc, large)

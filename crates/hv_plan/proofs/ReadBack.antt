@@ -1,4 +1,5 @@
 -- The canonical text of a plan holds that plan, the numbers of its lines aside.
+use Rattle.hv_text.specs.declared.fault.TheConstants.{MOST_BYTES}
 use Rattle.std.proofs.Common.{◌≡◌, ◌||◌, ◌+◌, ◌≤◌, ℕ, Bool, true, false, List, [], ◌∷◌, ◌++◌, map, length, refl, sym, ap, subst, ◌∙◌, codes}
 use Rattle.std.specs.Prelude.{decimal}
 use Rattle.std.specs.List.{flat_map, list_any}
@@ -171,7 +172,7 @@ whole p h = ap (numbered 1) (all_lines p h)
 inner : (p : Plan) → AreSound (forms_of p) → between (plan_text p) ≡ numbered 2 (map line_of (forms_of p))
 inner p h = ap (λ ls. before_end (behind_start ls)) (whole p h) ∙ body_before 2 (forms_of p) h
 
-is_plan : (p : Plan) → AreSound (forms_of p) → length (plan_text p) ≤ 268435456 → (n : ℕ)
+is_plan : (p : Plan) → AreSound (forms_of p) → length (plan_text p) ≤ MOST_BYTES → (n : ℕ)
     → roots_among (placed_from 2 (forms_of p)) ≡ record { ids = p.root.ids; line = n } ∷ [] → IsPlan (plan_text p) (the_plan n p)
 is_plan p h size n found = record {
   size = size;
@@ -194,12 +195,12 @@ is_same n p =
     same_decompositions 2 (forms_of p) ∙ ap (map bare_decomposition) (its_decompositions p.actions p.root p.decompositions) in
     λ i. record { actions = actions i; root = bare_root p.root; decompositions = decompositions i }
 
-plan_back : (p : Plan) → AreSound (forms_of p) → length (plan_text p) ≤ 268435456 → (q : Plan) × IsPlan (plan_text p) q × (bare_plan q ≡ bare_plan p)
+plan_back : (p : Plan) → AreSound (forms_of p) → length (plan_text p) ≤ MOST_BYTES → (q : Plan) × IsPlan (plan_text p) q × (bare_plan q ≡ bare_plan p)
 plan_back p h size =
     let found = its_root 2 p.actions p.root p.decompositions in
     (the_plan found.place p, is_plan p h size found.place found.is, is_same found.place p)
 
-pub read_back : (text : List ℕ) (p : Plan) → IsPlan text p → length (plan_text p) ≤ 268435456 → (q : Plan) × IsPlan (plan_text p) q × (bare_plan q ≡ bare_plan p)
+pub read_back : (text : List ℕ) (p : Plan) → IsPlan text p → length (plan_text p) ≤ MOST_BYTES → (q : Plan) × IsPlan (plan_text p) q × (bare_plan q ≡ bare_plan p)
 read_back text p h size = plan_back p (plan_sound (between text) p h.body) size
 
 -- places do not change the text

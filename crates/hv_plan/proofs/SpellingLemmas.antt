@@ -1,4 +1,5 @@
 -- What the table of a plan's lines spells is what is read.
+use Rattle.hv_text.specs.declared.fault.TheConstants.{MOST_BYTES}
 use Rattle.std.proofs.Common.{◌≡◌, ◌≤◌, ◌||◌, ℕ, Bool, true, false, List, [], ◌∷◌, ◌++◌, length, Option, Some, None, Result, Ok, Err, ◌↔◌, refl, sym, ap, ◌∙◌, subst, arith, codes, if◌then◌else◌}
 use Rattle.std.specs.Prelude.{IfSome, IfOk, IfErr}
 use Rattle.std.specs.Option.{option_map, option_and_then}
@@ -502,7 +503,7 @@ plan_of_read text view (Err e) h = tt
 pub rootless_forms : (ls : List NumberedLine) → roots_of ls ≡ [] → SayForms ls → SayNoRoot ls
 rootless_forms ls none s = record { forms = s.forms; each = s.each; rootless = sym (roots_said ls s.forms s.each) ∙ none }
 
-first_between : (text : List ℕ) (f : PlanFault) → length text ≤ 268435456 → has_start text ≡ true → has_end text ≡ true
+first_between : (text : List ℕ) (f : PlanFault) → length text ≤ MOST_BYTES → has_start text ≡ true → has_end text ≡ true
     → fault_from false (between text) ≡ Some f → (IsFirstFault (between text) f → IsFaultOfLines (between text) f) → IsFaultBetween text f
 first_between text f size starts ends is to = record { size = size; starts = starts; ends = ends; body = to ((fault_table (between text) f).1 is) }
 

@@ -1,4 +1,5 @@
 -- What lines say together, and their first fault, by functions that go along them.
+use Rattle.hv_text.specs.declared.fault.TheConstants.{MOST_BYTES}
 use Rattle.std.specs.Prelude.{◌≡◌, ◌<◌, ◌≤◌, ◌||◌, ℕ, Bool, true, false, List, [], ◌∷◌, Option, None, Some, Result, Ok, Err, length, if◌then◌else◌}
 use Rattle.std.specs.List.{flat_map}
 use Rattle.hv_plan.specs.Values.{Action, Decomposition, Root, Plan}
@@ -83,20 +84,20 @@ IsBodyFault ls faults.Memory = Unit {0}
 
 -- a text from which a plan is read
 pub record IsPlanRead (text : List ℕ) (p : Plan) : Type 0 where
-  pub size : length text ≤ 268435456
+  pub size : length text ≤ MOST_BYTES
   pub starts : has_start text ≡ true
   pub ends : has_end text ≡ true
   pub body : IsBody (between text) p
 
 -- the fault of a text within the limit that has both markers
 abbrev pub IsFaultWithin : List ℕ → PlanFault → Type 0
-IsFaultWithin text f = (length text ≤ 268435456) × (has_start text ≡ true) × (has_end text ≡ true) × IsBodyFault (between text) f
+IsFaultWithin text f = (length text ≤ MOST_BYTES) × (has_start text ≡ true) × (has_end text ≡ true) × IsBodyFault (between text) f
 
 -- the fault of a text from which no plan is read
 abbrev pub IsFaultRead : List ℕ → PlanFault → Type 0
-IsFaultRead text faults.TooLong = 268435456 < length text
-IsFaultRead text faults.NoStart = (length text ≤ 268435456) × (has_start text ≡ false)
-IsFaultRead text faults.NoEnd = (length text ≤ 268435456) × (has_start text ≡ true) × (has_end text ≡ false)
+IsFaultRead text faults.TooLong = MOST_BYTES < length text
+IsFaultRead text faults.NoStart = (length text ≤ MOST_BYTES) × (has_start text ≡ false)
+IsFaultRead text faults.NoEnd = (length text ≤ MOST_BYTES) × (has_start text ≡ true) × (has_end text ≡ false)
 IsFaultRead text faults.Memory = Unit {0}
 IsFaultRead text (faults.BadByte n) = IsFaultWithin text (faults.BadByte n)
 IsFaultRead text (faults.BadLine n) = IsFaultWithin text (faults.BadLine n)

@@ -1,5 +1,6 @@
 -- The forms of a plan's lines, row by row, as a relation between the words of a line and what it says; the plan that a text
 -- holds, and the fault of a text that holds none.
+use Rattle.hv_text.specs.declared.fault.TheConstants.{MOST_BYTES}
 use Rattle.std.specs.Prelude.{◌≡◌, ◌<◌, ◌≤◌, ℕ, true, false, List, [], ◌∷◌, ◌++◌, codes, None, Some, length}
 use Rattle.std.specs.List.{flat_map}
 use Rattle.std.specs.Str.{bytes_eq}
@@ -94,7 +95,7 @@ pub record SayNoRoot (ls : List NumberedLine) : Type 0 where
 
 -- a text holds a plan: it is within the limit, has both markers, and the lines between them say the plan
 pub record IsPlan (text : List ℕ) (p : Plan) : Type 0 where
-  pub size : length text ≤ 268435456
+  pub size : length text ≤ MOST_BYTES
   pub starts : has_start text ≡ true
   pub ends : has_end text ≡ true
   pub body : SayPlan (between text) p
@@ -127,16 +128,16 @@ IsFaultOfLines ls faults.Memory = ⊥
 
 -- a text within the limit that has both markers, with this fault between them
 pub record IsFaultBetween (text : List ℕ) (f : PlanFault) : Type 0 where
-  pub size : length text ≤ 268435456
+  pub size : length text ≤ MOST_BYTES
   pub starts : has_start text ≡ true
   pub ends : has_end text ≡ true
   pub body : IsFaultOfLines (between text) f
 
 -- the fault of a text that holds no plan; that memory ran out says nothing of the text
 abbrev pub IsPlanFault : List ℕ → PlanFault → Type 0
-IsPlanFault text faults.TooLong = 268435456 < length text
-IsPlanFault text faults.NoStart = (length text ≤ 268435456) × (has_start text ≡ false)
-IsPlanFault text faults.NoEnd = (length text ≤ 268435456) × (has_start text ≡ true) × (has_end text ≡ false)
+IsPlanFault text faults.TooLong = MOST_BYTES < length text
+IsPlanFault text faults.NoStart = (length text ≤ MOST_BYTES) × (has_start text ≡ false)
+IsPlanFault text faults.NoEnd = (length text ≤ MOST_BYTES) × (has_start text ≡ true) × (has_end text ≡ false)
 IsPlanFault text faults.Memory = Unit {0}
 IsPlanFault text (faults.BadByte n) = IsFaultBetween text (faults.BadByte n)
 IsPlanFault text (faults.BadLine n) = IsFaultBetween text (faults.BadLine n)

@@ -1,5 +1,6 @@
 //! What a line of a plan says.
 
+ghost use Rattle.hv_text.specs.declared.fault.TheConstants.{MOST_BYTES};
 ghost use Rattle.std.specs.Prelude.{◌≡◌, ◌≤◌, ℕ, None, Some, length, map, MatchOption};
 ghost use Rattle.std.specs.Option.{option_map};
 ghost use Rattle.hv_text.specs.Words.{piece_of};
@@ -28,7 +29,7 @@ pub(crate) enum LineText<'s> {
 /// What a line says. The fault is `BadByte`, else `BadLine` where the line is of no form, else
 /// `IdTooLarge`; it is `Memory` where a growth was refused.
 pub(crate) fn read_line<'s>(alloc: Global, line: Line<'s>) -> Result<LineText<'s>, PlanFault>
-    requires { length line.bytes.now ≤ 268435456 }
+    requires { length line.bytes.now ≤ MOST_BYTES }
     ensures { Reads form_view result (said (line_view line.entry)) }
 {
     match read_words(alloc, line.bytes) {

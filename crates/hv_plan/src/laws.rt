@@ -1,5 +1,6 @@
 //! What is read of a plan is what the table of its lines spells.
 
+ghost use Rattle.hv_text.specs.declared.fault.TheConstants.{MOST_BYTES};
 ghost use Rattle.std.specs.Prelude.{◌≡◌, ◌↔◌, ◌⊎◌, ◌≤◌, ℕ, List, Some, false, length};
 ghost use Rattle.hv_text.specs.Words.{Piece};
 ghost use Rattle.hv_plan.specs.Values.{Plan};
@@ -35,6 +36,6 @@ pub fn a_plan_or_a_fault()
 /// The canonical text of a plan that a text holds, where it is within the size limit, holds that plan, the numbers of its
 /// lines aside; and what it holds is printed alike.
 pub fn plans_are_read_back()
-    ensures back { (text : List ℕ) (p : Plan) → IsPlan text p → length (plan_text p) ≤ 268435456 → (q : Plan) × IsPlan (plan_text p) q × (bare_plan q ≡ bare_plan p) }
+    ensures back { (text : List ℕ) (p : Plan) → IsPlan text p → length (plan_text p) ≤ MOST_BYTES → (q : Plan) × IsPlan (plan_text p) q × (bare_plan q ≡ bare_plan p) }
     ensures again { (text : List ℕ) (p q : Plan) → IsPlan text p → IsPlan (plan_text p) q → plan_text q ≡ plan_text p }
 {}

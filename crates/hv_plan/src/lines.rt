@@ -1,5 +1,6 @@
 //! The lines of a text, and the markers among them.
 
+ghost use Rattle.hv_text.specs.declared.fault.TheConstants.{MOST_BYTES};
 ghost use Rattle.std.specs.Prelude.{◌≡◌, ◌==◌, ◌<◌, ◌≤◌, ◌+◌, ℕ, ◌∷◌, [], not, drop, length, MatchOption};
 ghost use Rattle.std.specs.List.{prefix_len};
 ghost use Rattle.hv_text.specs.Bytes.{lower};
@@ -28,7 +29,7 @@ impl<'s> Lines<'s> {
         requires { IsWithin self.old }
         ensures line { MatchOption result (lines_left self.old ≡ []) (λ l. lines_left self.old ≡ line_view l ∷ lines_left self.new) }
         ensures within { MatchOption result (Unit {0}) (λ l. IsWithin self.new) }
-        ensures size { MatchOption result (Unit {0}) (λ l. length l.bytes.now ≤ 268435456) }
+        ensures size { MatchOption result (Unit {0}) (λ l. length l.bytes.now ≤ MOST_BYTES) }
         ensures shorter { MatchOption result (Unit {0}) (λ l. length self.new.left.now < length self.old.left.now) }
     {
         if self.left.is_empty() {
@@ -72,7 +73,7 @@ fn behind<'s>(text: &'s [u8], end: usize) -> &'s [u8]
 
 /// Whether the line is this marker: cut at its first semicolon and stripped of white space, nothing else.
 pub(crate) fn is_marker(line: Line<'_>, marker: &[u8]) -> bool
-    requires { length line.bytes.now ≤ 268435456 }
+    requires { length line.bytes.now ≤ MOST_BYTES }
     ensures { result ≡ is_marker (lower marker.now) (line_view line.entry) }
 {
     let Ok(Some(first)) = next_word(line.bytes, 0) else {
