@@ -20,3 +20,4 @@ pub mod TableLemmas
 pub mod FirstFaults
 pub mod BoundLemmas
 pub mod BoundWorlds
+pub mod GroundingLemmas

@@ -23,4 +23,6 @@ pub mod NetworkViews
 pub mod MethodViews
 pub mod SectionViews
 pub mod WorldViews
+pub mod Parts
 pub mod Bounds
+pub mod Groundings

@@ -1,6 +1,6 @@
 //! Worlds are built.
 
-ghost use Rattle.std.specs.Prelude.{◌≡◌, ◌⊎◌, map, IfOk, IfErr};
+ghost use Rattle.std.specs.Prelude.{ℕ, List, ◌≡◌, ◌⊎◌, [], map, option_map, All, IfOk, IfErr};
 ghost use Rattle.hv_syntax.specs.Views.{word_view};
 ghost use Rattle.hv_syntax.specs.DeclarationViews.{task_view as said_task, method_view as said_method, action_view as said_action};
 ghost use Rattle.hv_syntax.specs.DomainViews.{domain_view};
@@ -12,22 +12,32 @@ ghost use Rattle.hv_world.specs.Types.{IsInRange};
 ghost use Rattle.hv_world.specs.Faults.{memory_fault};
 ghost use Rattle.hv_world.specs.StaticRules.{IsStatic, IsFirstFault};
 ghost use Rattle.hv_world.specs.Bounds.{IsBound};
+ghost use Rattle.hv_world.specs.MethodViews.{method_view};
+ghost use Rattle.hv_world.specs.Networks.{written_by, IsArrangeable};
+ghost use Rattle.hv_world.specs.Scopes.{parameters};
+ghost use Rattle.hv_world.specs.SectionViews.{task_view, action_view};
+ghost use Rattle.hv_world.specs.Views.{atom_view, formula_view};
 ghost use Rattle.hv_world.specs.WorldViews.{world_view};
-ghost use Rattle.hv_world.specs.Worlds.{typing_by, world_of, said_task_names, said_action_names, said_method_names};
+ghost use Rattle.hv_world.specs.Parts.{world_of_parts};
+ghost use Rattle.hv_world.specs.Worlds.{task_by, method_in, action_in, formula_in, added, top_in, typing_by, world_of, task_names, action_names, method_names, said_task_names, said_action_names, said_method_names};
 
+use crate::action::Action;
 use crate::check::first_fault;
 use crate::fault::StaticFault;
+use crate::formula::{Atom, Formula};
 use crate::intern::lists::{
     actions_in, add_object_pairs, goal_in, init_in, methods_in, predicate_names, tasks_in,
     type_pairs,
 };
 use crate::intern::sections::top_in;
+use crate::method::Method;
 use crate::names::Names;
 use crate::tables::Tables;
+use crate::task::Task;
 use crate::types::Types;
 use crate::world::World;
 use hv_syntax::{ActionText, DomainText, MethodText, ProblemText, TaskText};
-use hv_text::Memory;
+use hv_text::{Memory, Name};
 use std::alloc::Global;
 
 // Which objects are of which type.
@@ -86,6 +96,81 @@ fn method_names<'s>(alloc: Global, methods: &[MethodText<'s>]) -> Result<Names<'
     Names::of(alloc, &words)
 }
 
+// What the sections of a domain say, by number.
+#[derive(Drop)]
+struct Sections<'s> {
+    tasks: Vec<Task<'s>>,
+    methods: Vec<Method<'s>>,
+    actions: Vec<Action<'s>>,
+}
+
+fn sections_in<'s>(
+    alloc: Global,
+    tables: &Tables<'s>,
+    domain: &DomainText<'s>,
+) -> Result<Sections<'s>, Memory>
+    requires { All (λ m. IsArrangeable (written_by m.network)) (domain_view domain.now).methods }
+    ensures tasks { IfOk result (λ s. map task_view s.tasks.items ≡ map (task_by (known_by tables.now)) (domain_view domain.now).tasks) }
+    ensures methods { IfOk result (λ s. map method_view s.methods.items ≡ map (method_in (known_by tables.now)) (domain_view domain.now).methods) }
+    ensures actions { IfOk result (λ s. map action_view s.actions.items ≡ map (action_in (known_by tables.now)) (domain_view domain.now).actions) }
+{
+    let tasks = tasks_in(alloc, tables, domain.tasks())?;
+    let methods = methods_in(alloc, tables, domain.methods())?;
+    let actions = actions_in(alloc, tables, domain.actions())?;
+    Ok(Sections {
+        tasks,
+        methods,
+        actions,
+    })
+}
+
+// What a problem starts from and what it wants, by number.
+#[derive(Drop)]
+struct Start<'s> {
+    init: Vec<Atom>,
+    goal: Option<Formula>,
+    top: Method<'s>,
+}
+
+fn start_in<'s>(
+    alloc: Global,
+    tables: &Tables<'s>,
+    problem: &ProblemText<'s>,
+) -> Result<Start<'s>, Memory>
+    requires { IsArrangeable (written_by (problem_view problem.now).htn.network) }
+    ensures init { IfOk result (λ s. map atom_view s.init.items ≡ added (known_by tables.now) (parameters []) (problem_view problem.now).init) }
+    ensures goal { IfOk result (λ s. option_map formula_view s.goal ≡ option_map (formula_in (known_by tables.now) (parameters [])) (problem_view problem.now).goal) }
+    ensures top { IfOk result (λ s. method_view s.top ≡ top_in (known_by tables.now) (problem_view problem.now).htn) }
+{
+    let init = init_in(alloc, tables, problem.init())?;
+    let goal = goal_in(alloc, tables, problem.goal())?;
+    let top = top_in(alloc, tables, problem.htn())?;
+    Ok(Start { init, goal, top })
+}
+
+// Where the names of the tasks, actions and methods of a domain stand.
+#[derive(Drop)]
+struct Places<'s> {
+    tasks: Names<'s>,
+    actions: Names<'s>,
+    methods: Names<'s>,
+}
+
+fn places_of<'s>(alloc: Global, domain: &DomainText<'s>) -> Result<Places<'s>, Memory>
+    ensures tasks { IfOk result (λ p. places_by p.tasks ≡ place_in (said_task_names (domain_view domain.now).tasks)) }
+    ensures actions { IfOk result (λ p. places_by p.actions ≡ place_in (said_action_names (domain_view domain.now).actions)) }
+    ensures methods { IfOk result (λ p. places_by p.methods ≡ place_in (said_method_names (domain_view domain.now).methods)) }
+{
+    let tasks = task_names(alloc, domain.tasks())?;
+    let actions = action_names(alloc, domain.actions())?;
+    let methods = method_names(alloc, domain.methods())?;
+    Ok(Places {
+        tasks,
+        actions,
+        methods,
+    })
+}
+
 impl<'s> World<'s> {
     /// The world of a domain and a problem.
     ///
@@ -127,30 +212,40 @@ impl<'s> World<'s> {
     {
         let typing = typing_in(alloc, &tables, domain, problem)?;
         let predicates = predicate_names(alloc, domain.predicates())?;
-        let tasks = tasks_in(alloc, &tables, domain.tasks())?;
-        let methods = methods_in(alloc, &tables, domain.methods())?;
-        let actions = actions_in(alloc, &tables, domain.actions())?;
-        let init = init_in(alloc, &tables, problem.init())?;
-        let goal = goal_in(alloc, &tables, problem.goal())?;
-        let top = top_in(alloc, &tables, problem.htn())?;
-        let task_names = task_names(alloc, domain.tasks())?;
-        let action_names = action_names(alloc, domain.actions())?;
-        let method_names = method_names(alloc, domain.methods())?;
-        let Tables { types, objects, .. } = tables;
-        Ok(World {
-            types,
-            objects,
+        let sections = sections_in(alloc, &tables, domain)?;
+        let start = start_in(alloc, &tables, problem)?;
+        let places = places_of(alloc, domain)?;
+        Ok(World::of_parts(tables, typing, predicates, sections, start, places))
+    }
+
+    // The world of its parts.
+    fn of_parts(
+        tables: Tables<'s>,
+        typing: Types,
+        predicates: Vec<Name<'s>>,
+        sections: Sections<'s>,
+        start: Start<'s>,
+        places: Places<'s>,
+    ) -> World<'s>
+        requires tasks { (n : List ℕ) → places_by places.tasks n ≡ place_in (task_names (map task_view sections.tasks.items)) n }
+        requires actions { (n : List ℕ) → places_by places.actions n ≡ place_in (action_names (map action_view sections.actions.items)) n }
+        requires methods { (n : List ℕ) → places_by places.methods n ≡ place_in (method_names (map method_view sections.methods.items)) n }
+        ensures { world_view result ≡ world_of_parts tables.entry typing predicates.entry.items sections.entry start.entry }
+    {
+        World {
+            types: tables.types,
+            objects: tables.objects,
             typing,
             predicates,
-            tasks,
-            methods,
-            actions,
-            init,
-            goal,
-            top,
-            task_names,
-            action_names,
-            method_names,
-        })
+            tasks: sections.tasks,
+            methods: sections.methods,
+            actions: sections.actions,
+            init: start.init,
+            goal: start.goal,
+            top: start.top,
+            task_names: places.tasks,
+            action_names: places.actions,
+            method_names: places.methods,
+        }
     }
 }

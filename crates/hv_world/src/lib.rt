@@ -38,16 +38,4 @@ pub use method::Method;
 pub use network::Network;
 pub use order::Order;
 pub use task::Task;
-pub use types::Types;
 pub use world::World;
-
-#[cfg(test)]
-mod alike_tests;
-#[cfg(test)]
-mod build_tests;
-#[cfg(test)]
-mod order_tests;
-#[cfg(test)]
-mod types_tests;
-#[cfg(test)]
-mod world_tests;

@@ -1,6 +1,6 @@
 //! The variables in scope.
 
-ghost use Rattle.std.specs.Prelude.{◌≡◌, IfSome, IfOk};
+ghost use Rattle.std.specs.Prelude.{◌≡◌, ◌+◌, Some, IfSome, IfOk};
 ghost use Rattle.hv_text.specs.Names.{text_of};
 ghost use Rattle.hv_world.specs.Scopes.{size, variable_in, is_bound};
 ghost use Rattle.hv_world.specs.Names.{number_or};
@@ -62,12 +62,22 @@ impl<'a, 's> Scope<'a, 's> {
         match self {
             Scope::Parameters(names, _) => Ok(names.place(name)),
             Scope::Inside(outer, variables) => match place_among(variables, name) {
-                Some(place) => {
-                    let size = outer.size().ok_or(Memory)?;
-                    Ok(Some(size.checked_add(place).ok_or(Memory)?))
-                }
+                Some(place) => outer.past(place),
                 None => outer.place(name),
             },
+        }
+    }
+
+    // The number so far past the variables in scope.
+    fn past(&self, place: usize) -> Result<Option<usize>, Memory>
+        ensures { IfOk result (λ o. o ≡ Some (size (scope_view self.now) + place)) }
+    {
+        let Some(size) = self.size() else {
+            return Err(Memory);
+        };
+        match size.checked_add(place) {
+            Some(number) => Ok(Some(number)),
+            None => Err(Memory),
         }
     }
 }

@@ -14,7 +14,7 @@ use std::marker::Model;
 
 /// Which objects are of which type: what is declared, and for each type the objects of it.
 #[derive(Drop)]
-pub struct Types {
+pub(crate) struct Types {
     types: usize,
     objects: usize,
     parents: Vec<(TypeId, TypeId)>,
@@ -34,7 +34,7 @@ impl Types {
     /// From what is declared of so many types and objects: types with their parents, and objects
     /// with their types. For each object and each type that it is of, it takes a step, and one
     /// for each declared parent of that type.
-    pub fn new(
+    pub(crate) fn new(
         alloc: Global,
         types: usize,
         objects: usize,
@@ -58,14 +58,14 @@ impl Types {
 
     /// Whether an object is of a type: a binary search among the objects of the type. A number
     /// that there is no object or type for is of none.
-    pub fn is_of(&self, object: ObjectId, of: TypeId) -> bool
+    pub(crate) fn is_of(&self, object: ObjectId, of: TypeId) -> bool
         ensures { IsTrue result ↔ Of self.now object.0 of.0 }
     {
         is_among(self.objects_of(of), object)
     }
 
     /// The objects of a type, each once, ascending. None for a number that no type has.
-    pub fn objects_of(&self, of: TypeId) -> &[ObjectId]
+    pub(crate) fn objects_of(&self, of: TypeId) -> &[ObjectId]
         ensures exact { (o : ℕ) → Contains (object_numbers result.now) o ↔ Of self.now o of.0 }
         ensures ascending { IsStrictlyIncreasing (object_numbers result.now) }
         ensures once { Once (object_numbers result.now) }

@@ -1,15 +1,18 @@
 //! Worlds.
 
-ghost use Rattle.std.specs.Prelude.{◌≡◌, ℕ, List, ◌↔◌, IsTrue, map, option_map, slice_get};
+ghost use Rattle.std.specs.Prelude.{◌≡◌, ℕ, List, ◌↔◌, IsTrue, map, option_map, slice_get, MatchOption};
 ghost use Rattle.hv_text.specs.Names.{text_of};
 ghost use Rattle.hv_world.specs.Names.{place_in};
 ghost use Rattle.hv_world.specs.Tables.{places_by};
-ghost use Rattle.hv_world.specs.Views.{name_view, atom_view, formula_view};
+ghost use Rattle.hv_world.specs.Views.{type_number, name_view, atom_view, formula_view};
+ghost use Rattle.hv_world.specs.Bindings.{object_number, ground_action, ground_action_view};
+ghost use Rattle.hv_world.specs.Groundings.{AreOf, IsGrounding};
 ghost use Rattle.hv_world.specs.MethodViews.{method_view};
 ghost use Rattle.hv_world.specs.Worlds as worlds;
 ghost use Rattle.hv_world.specs.SectionViews.{task_view, action_view};
 
 use crate::action::Action;
+use crate::binding::GroundAction;
 use crate::formula::{Atom, Formula};
 use crate::id::{ActionId, MethodId, ObjectId, PredicateId, TaskId, TaskName, TypeId};
 use crate::method::Method;
@@ -105,6 +108,39 @@ impl<'s> World<'s> {
         ensures { option_map (λ a. action_view a.now) result ≡ slice_get (world_view self.now).actions action.0 }
     {
         self.actions.get(action.0)
+    }
+
+    // Whether these are as many objects as types, and each is of its type.
+    fn are_of(&self, objects: &[ObjectId], types: &[TypeId]) -> bool
+        ensures { IsTrue result ↔ AreOf (world_view self.now).typing (map object_number objects.now) (map type_number types.now) }
+    {
+        let mut left = types;
+        for object in objects {
+            match left {
+                [] => return false,
+                [first, others @ ..] => {
+                    if !self.is_of(*object, *first) {
+                        return false;
+                    }
+                    left = others;
+                }
+            }
+        }
+        left.is_empty()
+    }
+
+    /// An action of the world with objects for its parameters. None where the world has no action
+    /// of the number, the objects are not as many as its parameters, or one is not of the type of
+    /// its parameter; the objects are given up then.
+    pub fn ground(&self, action: ActionId, objects: Vec<ObjectId>) -> Option<GroundAction>
+        ensures { MatchOption result (IsGrounding (world_view self.now) (ground_action action.0 (map object_number objects.items)) → ⊥) (λ g. (ground_action_view g ≡ ground_action action.0 (map object_number objects.items)) × IsGrounding (world_view self.now) (ground_action_view g)) }
+    {
+        let declared = self.action(action)?;
+        if self.are_of(&objects, declared.parameters()) {
+            Some(GroundAction { action, objects })
+        } else {
+            None
+        }
     }
 
     /// The atoms that are true at the start, as written.
