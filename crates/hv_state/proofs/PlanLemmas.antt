@@ -1,14 +1,16 @@
 -- The states that a plan passes, as the code finds them.
-use Rattle.std.proofs.Common.{◌≡◌, ◌<◌, ◌≤◌, ◌+◌, ◌-◌, ◌++◌, ◌↔◌, ◌⊎◌, inl, inr, ℕ, zero, suc, List, [], ◌∷◌, length, map, take, get_or, slice_get, Some, IsSomeAnd, sym, ap, ◌∙◌, subst, arith}
+use Rattle.std.proofs.Common.{◌≡◌, ◌<◌, ◌≤◌, ◌+◌, ◌-◌, ◌++◌, ◌↔◌, ◌⊎◌, inl, inr, ℕ, zero, suc, List, [], ◌∷◌, length, map, take, get_or, slice_get, Option, None, Some, IsSomeAnd, sym, ap, ◌∙◌, subst, arith}
 use Rattle.std.specs.List.{Contains}
 use Rattle.std.proofs.lemmas.Bool.{cases_lt}
 use Rattle.std.proofs.lemmas.List.{take_more, length-append}
-use Rattle.hv_world.specs.Values.{Formula, Formulas, holds, and, or, not, imply, forall, exists, equal, no_formulas, more_formulas}
+use Rattle.hv_world.specs.Values.{Atom, Formula, Formulas, holds, and, or, not, imply, forall, exists, equal, no_formulas, more_formulas}
 use Rattle.hv_world.specs.Types.{Typing}
-use Rattle.hv_state.specs.declared.step.Step as code
+use Rattle.hv_world.specs.Bindings.{GroundAction, ground_action_view}
+use Rattle.hv_world.specs.Worlds.{World, Action}
+use Rattle.hv_world.specs.declared.binding.GroundAction as code
 use Rattle.hv_state.specs.Atoms.{GroundAtom, Atoms, Same, After, atoms_under, atom_under}
 use Rattle.hv_state.specs.Truth.{ForEach, ForSome, True, AllTrue, SomeTrue}
-use Rattle.hv_state.specs.Plans.{Step, Plan, AfterStep, AfterSteps, StateAt, IsApplicable, CanRun, StopsAt, ArePassed, step_view}
+use Rattle.hv_state.specs.Plans.{Plan, IsApplicableIn, AfterAction, AfterActions, Start, StateAt, IsApplicable, CanRun, StopsAt, ArePassed}
 
 -- sets with the same atoms
 pub same_itself : (S : Atoms) → Same S S
@@ -24,9 +26,18 @@ after_half : (S T : Atoms) (deletes adds : List GroundAtom) → Same S T → (g 
 after_half S T deletes adds e g (inl (m, out)) = inl ((e g).0 m, out)
 after_half S T deletes adds e g (inr m) = inr m
 
-pub after_same : (S T : Atoms) (a : Step) → Same S T → Same (AfterStep S a) (AfterStep T a)
-after_same S T a e g =
-    (after_half S T (atoms_under a.objects a.deletes) (atoms_under a.objects a.adds) e g, after_half T S (atoms_under a.objects a.deletes) (atoms_under a.objects a.adds) (same_back S T e) g)
+after_sets : (S T : Atoms) (deletes adds : List GroundAtom) → Same S T → Same (After S deletes adds) (After T deletes adds)
+after_sets S T deletes adds e g = (after_half S T deletes adds e g, after_half T S deletes adds (same_back S T e) g)
+
+pub after_same : (w : World) (S T : Atoms) (a : GroundAction) → Same S T → Same (AfterAction w S a) (AfterAction w T a)
+after_same w S T a e = by (slice_get w.actions a.action)
+  where
+    after : Option Action → Atoms → Atoms
+    after found U = elim found [ None ↦ U | Some b ↦ After U (atoms_under a.objects b.deletes) (atoms_under a.objects b.adds) ]
+
+    by : (found : Option Action) → Same (after found S) (after found T)
+    by None = e
+    by (Some b) = after_sets S T (atoms_under a.objects b.deletes) (atoms_under a.objects b.adds) e
 
 -- truth is a matter of which atoms are in the state
 each_half : (w : Typing) (P Q : List ℕ → Type 0) → ((env : List ℕ) → P env → Q env) → (ts : List ℕ) (env : List ℕ) → ForEach w P ts env → ForEach w Q ts env
@@ -60,33 +71,54 @@ module _ (w : Typing) (S T : Atoms) (same : Same S T) where
     some_same (more_formulas f fs) env =
         (λ m. elim m [ inl p ↦ inl ((true_same f env).0 p) | inr q ↦ inr ((some_same fs env).0 q) ], λ m. elim m [ inl p ↦ inl ((true_same f env).1 p) | inr q ↦ inr ((some_same fs env).1 q) ])
 
--- one step more
-after_steps_push : (xs : List Step) (a : Step) (S : Atoms) → Same (AfterSteps S (xs ++ a ∷ [])) (AfterStep (AfterSteps S xs) a)
-after_steps_push [] a S = same_itself (AfterStep S a)
-after_steps_push (x ∷ xs) a S = after_steps_push xs a (AfterStep S x)
+-- an action is applicable as well where the same atoms are true
+pub applicable_same : (w : World) (S T : Atoms) (a : GroundAction) → Same S T → IsApplicableIn w S a → IsApplicableIn w T a
+applicable_same w S T a e = by (slice_get w.actions a.action)
+  where
+    by : (found : Option Action) → IsSomeAnd found (λ b. True w.typing S b.precondition a.objects) → IsSomeAnd found (λ b. True w.typing T b.precondition a.objects)
+    by None m = absurd m
+    by (Some b) m = (true_same w.typing S T e b.precondition a.objects).0 m
+
+-- an action that the world has
+module _ (w : World) (S : Atoms) (g : GroundAction) (a : Action) (there : slice_get w.actions g.action ≡ Some a) where
+  pub applies : (f : Formula) (env : List ℕ) → f ≡ a.precondition → env ≡ g.objects → True w.typing S f env → IsApplicableIn w S g
+  applies f env fs os h = subst (λ o. IsSomeAnd o (λ b. True w.typing S b.precondition g.objects)) (sym there) (subst (λ x. True w.typing S x g.objects) fs (subst (True w.typing S f) os h))
+
+  pub acted : (T U : Atoms) (env : List ℕ) (deletes adds : List Atom) → env ≡ g.objects → deletes ≡ a.deletes → adds ≡ a.adds → Same U S → Same T (After U (atoms_under env deletes) (atoms_under env adds)) → Same T (AfterAction w S g)
+  acted T U env deletes adds os ds as' e h =
+      subst (λ o. Same T (elim o [ None ↦ S | Some b ↦ After S (atoms_under g.objects b.deletes) (atoms_under g.objects b.adds) ])) (sym there)
+      (subst (λ xs. Same T (After S (atoms_under g.objects xs) (atoms_under g.objects a.adds))) ds
+      (subst (λ xs. Same T (After S (atoms_under g.objects deletes) (atoms_under g.objects xs))) as'
+      (subst (λ o. Same T (After S (atoms_under o deletes) (atoms_under o adds))) os
+      (same_through T (After U (atoms_under env deletes) (atoms_under env adds)) (After S (atoms_under env deletes) (atoms_under env adds)) h (after_sets U S (atoms_under env deletes) (atoms_under env adds) e)))))
+
+-- one action more
+after_push : (w : World) (xs : List GroundAction) (a : GroundAction) (S : Atoms) → Same (AfterActions w S (xs ++ a ∷ [])) (AfterAction w (AfterActions w S xs) a)
+after_push w [] a S = same_itself (AfterAction w S a)
+after_push w (x ∷ xs) a S = after_push w xs a (AfterAction w S x)
 
 read_there : {X : Type 0} (xs : List X) (k : ℕ) (x : X) → slice_get xs k ≡ Some x → (k < length xs) × (get_or xs k x ≡ x)
 read_there [] k x e = absurd cc
 read_there (y ∷ ys) zero x e = (omega arith, cc)
 read_there (y ∷ ys) (suc k) x e = let rest = read_there ys k x e in (omega (arith, rest.0), rest.1)
 
-pub step_there : (steps : List code.Step) (k : ℕ) (s : code.Step) → k < length steps → s ≡ get_or steps k s → slice_get (map step_view steps) k ≡ Some (step_view s)
-step_there [] k s lt e = absurd (omega arith)
-step_there (x ∷ xs) zero s lt e = ap (λ y. Some (step_view y)) (sym e)
-step_there (x ∷ xs) (suc k) s lt e = step_there xs k s (omega arith) e
+pub action_there : (actions : List code.GroundAction) (k : ℕ) (s : code.GroundAction) → k < length actions → s ≡ get_or actions k s → slice_get (map ground_action_view actions) k ≡ Some (ground_action_view s)
+action_there [] k s lt e = absurd (omega arith)
+action_there (x ∷ xs) zero s lt e = ap (λ y. Some (ground_action_view y)) (sym e)
+action_there (x ∷ xs) (suc k) s lt e = action_there xs k s (omega arith) e
 
-module _ (p : Plan) (k : ℕ) (a : Step) (there : slice_get p.steps k ≡ Some a) where
-  pub applicable_if : True p.typing (StateAt p k) a.precondition a.objects → IsApplicable p k
-  applicable_if h = subst (λ o. IsSomeAnd o (λ b. True p.typing (StateAt p k) b.precondition b.objects)) (sym there) h
+module _ (p : Plan) (k : ℕ) (a : GroundAction) (there : slice_get p.actions k ≡ Some a) where
+  pub applicable_if : IsApplicableIn p.world (StateAt p k) a → IsApplicable p k
+  applicable_if h = subst (λ o. IsSomeAnd o (IsApplicableIn p.world (StateAt p k))) (sym there) h
 
-  pub only_if : IsApplicable p k → True p.typing (StateAt p k) a.precondition a.objects
-  only_if h = subst (λ o. IsSomeAnd o (λ b. True p.typing (StateAt p k) b.precondition b.objects)) there h
+  pub only_if : IsApplicable p k → IsApplicableIn p.world (StateAt p k) a
+  only_if h = subst (λ o. IsSomeAnd o (IsApplicableIn p.world (StateAt p k))) there h
 
-  next_taken : take (k + 1) p.steps ≡ take k p.steps ++ a ∷ []
-  next_taken = let read = read_there p.steps k a there in take_more p.steps k a read.0 ∙ ap (λ b. take k p.steps ++ b ∷ []) read.1
+  next_taken : take (k + 1) p.actions ≡ take k p.actions ++ a ∷ []
+  next_taken = let read = read_there p.actions k a there in take_more p.actions k a read.0 ∙ ap (λ b. take k p.actions ++ b ∷ []) read.1
 
-  next_state : Same (StateAt p (k + 1)) (AfterStep (StateAt p k) a)
-  next_state = subst (λ xs. Same (AfterSteps (Contains (atoms_under [] p.init)) xs) (AfterStep (StateAt p k) a)) (sym next_taken) (after_steps_push (take k p.steps) a (Contains (atoms_under [] p.init)))
+  next_state : Same (StateAt p (k + 1)) (AfterAction p.world (StateAt p k) a)
+  next_state = subst (λ xs. Same (AfterActions p.world (Start p.world) xs) (AfterAction p.world (StateAt p k) a)) (sym next_taken) (after_push p.world (take k p.actions) a (Start p.world))
 
 -- what holds of each element and its place, after one more
 push_at : {X : Type 0} (P : ℕ → X → Type 0) (xs : List X) (y : X) → ((j : ℕ) (d : X) → j < length xs → P j (get_or xs j d)) → P (length xs) y → (j : ℕ) (d : X) → j < length (xs ++ y ∷ []) → P j (get_or (xs ++ y ∷ []) j d)
@@ -97,21 +129,21 @@ push_at P (x ∷ xs) y h q (suc j) d lt = push_at (λ n. P (suc n)) xs y (λ n e
 
 module _ {S : Type 0} (atoms : S → Atoms) (p : Plan) where
   -- the first state
-  pub passed_first : (s : S) → Same (atoms s) (Contains (atoms_under [] p.init)) → ArePassed atoms p (s ∷ [])
+  pub passed_first : (s : S) → Same (atoms s) (Start p.world) → ArePassed atoms p (s ∷ [])
   passed_first s e = record { begun = omega arith; same = first; applicable = λ k lt. absurd (omega arith) }
     where
       first : (k : ℕ) (d : S) → k < 1 → Same (atoms (get_or (s ∷ []) k d)) (StateAt p k)
       first zero d lt = e
       first (suc k) d lt = absurd (omega arith)
 
-  module _ (states : List S) (passed : ArePassed atoms p states) (k : ℕ) (long : length states ≡ k + 1) (s : S) (is : s ≡ get_or states k s) (a : Step) (there : slice_get p.steps k ≡ Some a) where
+  module _ (states : List S) (passed : ArePassed atoms p states) (k : ℕ) (long : length states ≡ k + 1) (s : S) (is : s ≡ get_or states k s) (a : GroundAction) (there : slice_get p.actions k ≡ Some a) where
     same_there : Same (atoms s) (StateAt p k)
     same_there = subst (λ t. Same (atoms t) (StateAt p k)) (sym is) (passed.same k s (omega arith))
 
-    pub not_applicable : (True p.typing (atoms s) a.precondition a.objects → ⊥) → IsApplicable p k → ⊥
-    not_applicable h m = h ((true_same p.typing (atoms s) (StateAt p k) same_there a.precondition a.objects).1 (only_if p k a there m))
+    pub not_applicable : (IsApplicableIn p.world (atoms s) a → ⊥) → IsApplicable p k → ⊥
+    not_applicable h m = h (applicable_same p.world (StateAt p k) (atoms s) a (same_back (atoms s) (StateAt p k) same_there) (only_if p k a there m))
 
-    pub passed_more : (next : S) → True p.typing (atoms s) a.precondition a.objects → Same (atoms next) (AfterStep (atoms s) a) → ArePassed atoms p (states ++ next ∷ [])
+    pub passed_more : (next : S) → IsApplicableIn p.world (atoms s) a → Same (atoms next) (AfterAction p.world (atoms s) a) → ArePassed atoms p (states ++ next ∷ [])
     passed_more next h e = record {
       begun = omega (arith, length-append states (next ∷ []));
       same = push_at (λ j t. Same (atoms t) (StateAt p j)) states next passed.same (subst (λ n. Same (atoms next) (StateAt p n)) (sym long) reached);
@@ -120,29 +152,29 @@ module _ {S : Type 0} (atoms : S → Atoms) (p : Plan) where
       where
         reached : Same (atoms next) (StateAt p (k + 1))
         reached =
-            same_through (atoms next) (AfterStep (atoms s) a) (StateAt p (k + 1)) e
-            (same_through (AfterStep (atoms s) a) (AfterStep (StateAt p k) a) (StateAt p (k + 1)) (after_same (atoms s) (StateAt p k) a same_there) (same_back (StateAt p (k + 1)) (AfterStep (StateAt p k) a) (next_state p k a there)))
+            same_through (atoms next) (AfterAction p.world (atoms s) a) (StateAt p (k + 1)) e
+            (same_through (AfterAction p.world (atoms s) a) (AfterAction p.world (StateAt p k) a) (StateAt p (k + 1)) (after_same p.world (atoms s) (StateAt p k) a same_there) (same_back (StateAt p (k + 1)) (AfterAction p.world (StateAt p k) a) (next_state p k a there)))
 
         now : IsApplicable p k
-        now = applicable_if p k a there ((true_same p.typing (atoms s) (StateAt p k) same_there a.precondition a.objects).0 h)
+        now = applicable_if p k a there (applicable_same p.world (atoms s) (StateAt p k) a same_there h)
 
         by : (j : ℕ) → (j < k) ⊎ (k ≤ j) → j < k + 1 → IsApplicable p j
         by j (inl before) lt = passed.applicable j (omega (arith, before, long))
         by j (inr behind) lt = let here_is : k ≡ j = omega (arith, behind, lt) in subst (IsApplicable p) here_is now
 
   -- truth in a state that was found
-  pub true_found : (states : List S) → ArePassed atoms p states → (k : ℕ) (s : S) → k < length states → s ≡ get_or states k s → (Y : Type 0) (f : Formula) (env : List ℕ) → Y ↔ True p.typing (atoms s) f env → Y ↔ True p.typing (StateAt p k) f env
+  pub true_found : (states : List S) → ArePassed atoms p states → (k : ℕ) (s : S) → k < length states → s ≡ get_or states k s → (Y : Type 0) (f : Formula) (env : List ℕ) → Y ↔ True p.world.typing (atoms s) f env → Y ↔ True p.world.typing (StateAt p k) f env
   true_found states passed k s lt is Y f env h =
       let there = subst (λ t. Same (atoms t) (StateAt p k)) (sym is) (passed.same k s lt) in
-      let alike = true_same p.typing (atoms s) (StateAt p k) there f env in
+      let alike = true_same p.world.typing (atoms s) (StateAt p k) there f env in
       (λ y. alike.0 (h.0 y), λ m. h.1 (alike.1 m))
 
-  -- all steps were taken
-  pub all_ran : (states : List S) → ArePassed atoms p states → length p.steps < length states → CanRun p
+  -- all actions were done
+  pub all_ran : (states : List S) → ArePassed atoms p states → length p.actions < length states → CanRun p
   all_ran states passed long k lt = passed.applicable k (omega (arith, long, lt))
 
   -- the one behind the last state is the first that was not
-  pub stops : (states : List S) → ArePassed atoms p states → length states ≤ length p.steps → (IsApplicable p (length states - 1) → ⊥) → StopsAt p (length states - 1)
+  pub stops : (states : List S) → ArePassed atoms p states → length states ≤ length p.actions → (IsApplicable p (length states - 1) → ⊥) → StopsAt p (length states - 1)
   stops states passed short out = (omega (arith, short, passed.begun), out, λ j lt. passed.applicable j (omega (arith, lt)))
 
 -- what is true after deletes and adds

@@ -1,6 +1,6 @@
 -- Facts on rows in order.
 use Rattle.std.proofs.Common.{◌≡◌, ◌<◌, ◌≤◌, ◌+◌, ◌-◌, ◌++◌, ◌↔◌, ◌⊎◌, inl, inr, ℕ, zero, suc, List, [], ◌∷◌, length, map, take, drop, get_or, Result, Ok, Err, IsOk, is_ok, if◌then◌else◌, true≢false, true, refl, sym, ap, ◌∙◌, subst, arith}
-use Rattle.std.specs.Global.{Vec}
+use Rattle.hv_state.specs.declared.rows.Row.{Row}
 use Rattle.std.specs.List.{Contains, insert, remove}
 use Rattle.std.specs.List.Sorted.{IsNonDecreasingBy, IsSearchInRange, IsBinarySearchResult}
 use Rattle.std.specs.Ordering.{nat_cmp, ordering_index, ordering_then, ordering_reverse}
@@ -52,31 +52,31 @@ step_rises a b r lt = by (slice_cmp nat_cmp b r) refl
     by Equal e = under Equal (subst (λ x. IsBelow a x) (same_rows b r e) lt)
     by Greater e = at_most_two (slice_cmp nat_cmp a r)
 
-some_of : {X : Type 0} (xs : List X) → 0 < length xs → X
+pub some_of : {X : Type 0} (xs : List X) → 0 < length xs → X
 some_of [] lt = absurd (omega arith)
 some_of (x ∷ xs) lt = x
 
 -- what a search finds
-module _ (vs : List (Vec ℕ)) (row : List ℕ) (ascend : Ascend (rows_in vs)) where
-  row_at : (k : ℕ) (d : Vec ℕ) → k < length vs → get_or (rows_in vs) k [] ≡ (get_or vs k d).items
-  row_at k d lt = get_or-map (λ v. v.items) vs k d [] lt
+module _ (vs : List Row) (row : List ℕ) (ascend : Ascend (rows_in vs)) where
+  row_at : (k : ℕ) (d : Row) → k < length vs → get_or (rows_in vs) k [] ≡ (get_or vs k d).numbers.value.items
+  row_at k d lt = get_or-map (λ v. v.numbers.value.items) vs k d [] lt
 
-  rises : IsNonDecreasingBy (λ v. ordering_index (slice_cmp nat_cmp v.items row)) vs
+  rises : IsNonDecreasingBy (λ v. ordering_index (slice_cmp nat_cmp v.numbers.value.items row)) vs
   rises i j d le lt = by (cases_lt i j)
     where
-      by : (i < j) ⊎ (j ≤ i) → ordering_index (slice_cmp nat_cmp (get_or vs i d).items row) ≤ ordering_index (slice_cmp nat_cmp (get_or vs j d).items row)
+      by : (i < j) ⊎ (j ≤ i) → ordering_index (slice_cmp nat_cmp (get_or vs i d).numbers.value.items row) ≤ ordering_index (slice_cmp nat_cmp (get_or vs j d).numbers.value.items row)
       by (inl before) =
-          let at : IsBelow (get_or (rows_in vs) i []) (get_or (rows_in vs) j []) = ascend i j [] before (omega (arith, length-map vs (λ v. v.items))) in
-          step_rises _ _ row (subst (λ x. IsBelow x (get_or vs j d).items) (row_at i d (omega arith)) (subst (λ y. IsBelow (get_or (rows_in vs) i []) y) (row_at j d lt) at))
+          let at : IsBelow (get_or (rows_in vs) i []) (get_or (rows_in vs) j []) = ascend i j [] before (omega (arith, length-map vs (λ v. v.numbers.value.items))) in
+          step_rises _ _ row (subst (λ x. IsBelow x (get_or vs j d).numbers.value.items) (row_at i d (omega arith)) (subst (λ y. IsBelow (get_or (rows_in vs) i []) y) (row_at j d lt) at))
       by (inr behind) =
           let same : i ≡ j = omega arith in
-          subst (λ k. ordering_index (slice_cmp nat_cmp (get_or vs i d).items row) ≤ ordering_index (slice_cmp nat_cmp (get_or vs k d).items row)) same (omega arith)
+          subst (λ k. ordering_index (slice_cmp nat_cmp (get_or vs i d).numbers.value.items row) ≤ ordering_index (slice_cmp nat_cmp (get_or vs k d).numbers.value.items row)) same (omega arith)
 
-  pub searched : (r : Result ℕ ℕ) → IsSearchInRange r (length vs) → IsBinarySearchResult (λ v. slice_cmp nat_cmp v.items row) vs r → IsPlace (rows_in vs) row r
+  pub searched : (r : Result ℕ ℕ) → IsSearchInRange r (length vs) → IsBinarySearchResult (λ v. slice_cmp nat_cmp v.numbers.value.items row) vs r → IsPlace (rows_in vs) row r
   searched (Ok i) in_range equal =
       let d = some_of vs (omega (arith, in_range)) in
-      (omega (arith, in_range, length-map vs (λ v. v.items)), row_at i d in_range ∙ same_rows (get_or vs i d).items row (equal d))
-  searched (Err i) in_range parted = (omega (arith, in_range, length-map vs (λ v. v.items)), before, behind)
+      (omega (arith, in_range, length-map vs (λ v. v.numbers.value.items)), row_at i d in_range ∙ same_rows (get_or vs i d).numbers.value.items row (equal d))
+  searched (Err i) in_range parted = (omega (arith, in_range, length-map vs (λ v. v.numbers.value.items)), before, behind)
     where
       before : (k : ℕ) → k < i → IsBelow (get_or (rows_in vs) k []) row
       before k lt =
@@ -85,9 +85,9 @@ module _ (vs : List (Vec ℕ)) (row : List ℕ) (ascend : Ascend (rows_in vs)) w
 
       behind : (k : ℕ) → i ≤ k → k < length (rows_in vs) → IsBelow row (get_or (rows_in vs) k [])
       behind k le lt =
-          let within : k < length vs = omega (arith, lt, length-map vs (λ v. v.items)) in
+          let within : k < length vs = omega (arith, lt, length-map vs (λ v. v.numbers.value.items)) in
           let d = some_of vs (omega (arith, within)) in
-          subst (λ x. IsBelow row x) (sym (row_at k d within)) (below_from (get_or vs k d).items row ((parted rises).1 k d le within))
+          subst (λ x. IsBelow row x) (sym (row_at k d within)) (below_from (get_or vs k d).numbers.value.items row ((parted rises).1 k d le within))
 
 -- a row taken out
 module _ (rows : List (List ℕ)) (i : ℕ) (row : List ℕ) (ascend : Ascend rows) (within : i < length rows) (is : get_or rows i [] ≡ row) where
@@ -219,9 +219,9 @@ map-insert f xs i x = map-append f (take i xs) (x ∷ drop i xs) ∙ (λ j. map-
 pub map-remove : {X Y : Type 0} (f : X → Y) (xs : List X) (i : ℕ) → map f (remove xs i) ≡ remove (map f xs) i
 map-remove f xs i = map-append f (take i xs) (drop (suc i) xs) ∙ (λ j. map-take f i xs j ++ map-drop f (suc i) xs j)
 
-module _ (vs new : List (Vec ℕ)) (i : ℕ) (row : List ℕ) (ascend : Ascend (rows_in vs)) (within : i < length (rows_in vs)) (is : get_or (rows_in vs) i [] ≡ row) (e : new ≡ remove vs i) where
+module _ (vs new : List Row) (i : ℕ) (row : List ℕ) (ascend : Ascend (rows_in vs)) (within : i < length (rows_in vs)) (is : get_or (rows_in vs) i [] ≡ row) (e : new ≡ remove vs i) where
   seen_removed : rows_in new ≡ remove (rows_in vs) i
-  seen_removed = ap rows_in e ∙ map-remove (λ v. v.items) vs i
+  seen_removed = ap rows_in e ∙ map-remove (λ v. v.numbers.value.items) vs i
 
   pub remove_ascends : Ascend (rows_in new)
   remove_ascends = rw seen_removed (removed_ascends (rows_in vs) i row ascend within is)
@@ -229,15 +229,15 @@ module _ (vs new : List (Vec ℕ)) (i : ℕ) (row : List ℕ) (ascend : Ascend (
   pub remove_without : IsWithout (rows_in vs) row (rows_in new)
   remove_without = rw seen_removed (removed (rows_in vs) i row ascend within is)
 
-module _ (vs new : List (Vec ℕ)) (i : ℕ) (v : Vec ℕ) (gap : IsGap (rows_in vs) v.items i) (e : new ≡ insert vs i v) where
-  seen_inserted : rows_in new ≡ insert (rows_in vs) i v.items
-  seen_inserted = ap rows_in e ∙ map-insert (λ u. u.items) vs i v
+module _ (vs new : List Row) (i : ℕ) (v : Row) (gap : IsGap (rows_in vs) v.numbers.value.items i) (e : new ≡ insert vs i v) where
+  seen_inserted : rows_in new ≡ insert (rows_in vs) i v.numbers.value.items
+  seen_inserted = ap rows_in e ∙ map-insert (λ u. u.numbers.value.items) vs i v
 
   pub insert_ascends : Ascend (rows_in vs) → Ascend (rows_in new)
-  insert_ascends ascend = rw seen_inserted (inserted_ascends (rows_in vs) i v.items gap ascend)
+  insert_ascends ascend = rw seen_inserted (inserted_ascends (rows_in vs) i v.numbers.value.items gap ascend)
 
-  pub insert_with : IsWith (rows_in vs) v.items (rows_in new)
-  insert_with = rw seen_inserted (inserted (rows_in vs) i v.items gap)
+  pub insert_with : IsWith (rows_in vs) v.numbers.value.items (rows_in new)
+  insert_with = rw seen_inserted (inserted (rows_in vs) i v.numbers.value.items gap)
 
 -- one row less to take out, one less to put in
 pub contains_first : {X : Type 0} (x : X) (xs : List X) → Contains (x ∷ xs) x
@@ -262,26 +262,26 @@ take_out_more now new rest row Q without before r = (from, to)
         let old = (before r).1 q in
         ((without r).1 (old.0, λ e. old.1 (subst (λ x. Contains (x ∷ rest) r) e (contains_first r rest))), λ l. old.1 (contains_later r row rest l))
 
-pub put_in_more : (now new : List (List ℕ)) (left : List (Vec ℕ)) (all : List (List ℕ)) (v : Vec ℕ) (Q : List ℕ → Type 0) → IsWith now v.items new → all ≡ rows_in (left ++ v ∷ [])
+pub put_in_more : (now new : List (List ℕ)) (left : List Row) (all : List (List ℕ)) (v : Row) (Q : List ℕ → Type 0) → IsWith now v.numbers.value.items new → all ≡ rows_in (left ++ v ∷ [])
     → ((r : List ℕ) → (Contains now r ⊎ Contains all r) ↔ Q r) → (r : List ℕ) → (Contains new r ⊎ Contains (rows_in left) r) ↔ Q r
 put_in_more now new left all v Q with e before r = (from, to)
   where
-    seen : all ≡ rows_in left ++ v.items ∷ []
-    seen = e ∙ map_push (λ u. u.items) left v
+    seen : all ≡ rows_in left ++ v.numbers.value.items ∷ []
+    seen = e ∙ map_push (λ u. u.numbers.value.items) left v
 
-    last : r ≡ v.items → Contains all r
+    last : r ≡ v.numbers.value.items → Contains all r
     last same = rw (seen) (subst (λ x. Contains (rows_in left ++ x ∷ []) r) same (Contains-push (rows_in left) r))
 
     from : Contains new r ⊎ Contains (rows_in left) r → Q r
     from (inl m) = elim ((with r).0 m) [ inl old ↦ (before r).0 (inl old) | inr same ↦ (before r).0 (inr (last same)) ]
-    from (inr m) = (before r).0 (inr (rw seen (Contains-append_left (rows_in left) (v.items ∷ []) r m)))
+    from (inr m) = (before r).0 (inr (rw seen (Contains-append_left (rows_in left) (v.numbers.value.items ∷ []) r m)))
 
     to : Q r → Contains new r ⊎ Contains (rows_in left) r
     to q = by ((before r).1 q)
       where
         by : Contains now r ⊎ Contains all r → Contains new r ⊎ Contains (rows_in left) r
         by (inl m) = inl ((with r).1 (inl m))
-        by (inr m) = elim (Contains-push_cases (rows_in left) v.items r (subst (λ xs. Contains xs r) seen m)) [ inl old ↦ inr old | inr same ↦ inl ((with r).1 (inr (sym same))) ]
+        by (inr m) = elim (Contains-push_cases (rows_in left) v.numbers.value.items r (subst (λ xs. Contains xs r) seen m)) [ inl old ↦ inr old | inr same ↦ inl ((with r).1 (inr (sym same))) ]
 
 -- what was done where it could not fail
 pub put_there : {A B X : Type 0} (r : Result A B) (there old new : X) → IsOk r → new ≡ (if is_ok r then there else old) → new ≡ there

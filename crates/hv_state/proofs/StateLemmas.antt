@@ -3,7 +3,7 @@ use Rattle.std.proofs.Common.{◌≡◌, ◌<◌, ◌⊎◌, inl, inr, ℕ, List
 use Rattle.std.specs.List.{Contains}
 use Rattle.std.proofs.lemmas.List.{get_or-map, length-map}
 use Rattle.hv_state.specs.Atoms.{GroundAtom, ground_atom, Same, After}
-use Rattle.hv_state.specs.Rows.{row_of, Listed, IsWithoutAll, IsWithAll}
+use Rattle.hv_state.specs.Rows.{row_of, Listed, IsWithoutAll, IsWithAll, HasSameRows}
 
 -- a row is of one atom
 abbrev atom_of : List ℕ → GroundAtom
@@ -28,12 +28,8 @@ pub on_err : {T E : Type 0} (r : Result T E) (P : Type 0) → P → OnErr r P
 on_err (Ok x) P p = tt
 on_err (Err e) P p = p
 
-pub begun : (old rows new : List (List ℕ)) (gs : List GroundAtom) → old ≡ [] → rows ≡ map row_of gs → IsWithAll old rows new → Same (Listed new) (Contains gs)
-begun old rows new gs none is all g = (λ m. from ((all (row_of g)).0 m), λ m. (all (row_of g)).1 (inr (subst (λ xs. Contains xs (row_of g)) (sym is) (row_listed gs g m))))
-  where
-    from : Contains old (row_of g) ⊎ Contains rows (row_of g) → Contains gs g
-    from (inl m) = let nowhere = subst (λ xs. Contains xs (row_of g)) none m in absurd (omega (arith, nowhere.1))
-    from (inr m) = atom_listed gs g (subst (λ xs. Contains xs (row_of g)) is m)
+pub begun : (rows new : List (List ℕ)) (gs : List GroundAtom) → rows ≡ map row_of gs → HasSameRows rows new → Same (Listed new) (Contains gs)
+begun rows new gs is same g = (λ m. atom_listed gs g (subst (λ xs. Contains xs (row_of g)) is ((same (row_of g)).0 m)), λ m. (same (row_of g)).1 (subst (λ xs. Contains xs (row_of g)) (sym is) (row_listed gs g m)))
 
 pub applied : (old mid rows new : List (List ℕ)) (deletes adds : List GroundAtom) → IsWithoutAll old (map row_of deletes) mid → rows ≡ map row_of adds → IsWithAll mid rows new → Same (Listed new) (After (Listed old) deletes adds)
 applied old mid rows new deletes adds without is all g = (λ m. from ((all (row_of g)).0 m), to)

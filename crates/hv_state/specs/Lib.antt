@@ -1,4 +1,5 @@
 pub mod Atoms
+pub mod Codes
 pub mod Truth
 pub mod Rows
 pub mod Plans

@@ -1,11 +1,11 @@
 -- Atoms as rows of numbers, in order.
 use Rattle.std.specs.Prelude.{◌≡◌, ℕ, ◌<◌, ◌≤◌, ◌↔◌, ◌⊎◌, List, [], ◌∷◌, map, length, Result, Ok, Err, slice_index_or}
-use Rattle.std.specs.Global.{Vec}
 use Rattle.std.specs.List.{AllPairs, Contains}
 use Rattle.std.specs.Ordering.{nat_cmp}
 use Rattle.std.specs.Cmp.Lexicographic.{slice_cmp}
 use Rattle.std.specs.declared.cmp.Ordering.TheVariants.{Less}
 use Rattle.hv_world.specs.Values.{Atom}
+use Rattle.hv_state.specs.declared.rows.Row.{Row}
 use Rattle.hv_state.specs.Atoms.{GroundAtom, Atoms, atoms_under}
 
 -- an atom as a row: its predicate, and then its objects
@@ -15,8 +15,9 @@ row_of g = g.predicate ∷ g.objects
 abbrev pub rows_under : List ℕ → List Atom → List (List ℕ)
 rows_under env xs = map row_of (atoms_under env xs)
 
-abbrev pub rows_in : List (Vec ℕ) → List (List ℕ)
-rows_in vs = map (λ v. v.items) vs
+-- the rows that the code keeps
+abbrev pub rows_in : List Row → List (List ℕ)
+rows_in rs = map (λ r. r.numbers.value.items) rs
 
 -- the atoms whose rows are listed
 abbrev pub Listed : List (List ℕ) → Atoms
@@ -37,6 +38,10 @@ IsGap rows row i = (i ≤ length rows) × ((k : ℕ) → k < i → IsBelow (slic
 abbrev pub IsPlace : List (List ℕ) → List ℕ → Result ℕ ℕ → Type 0
 IsPlace rows row (Ok i) = (i < length rows) × (slice_index_or rows i [] ≡ row)
 IsPlace rows row (Err i) = IsGap rows row i
+
+-- the same rows, in whatever order and however often
+abbrev pub HasSameRows : List (List ℕ) → List (List ℕ) → Type 0
+HasSameRows old new = (r : List ℕ) → Contains new r ↔ Contains old r
 
 -- the same rows without one, with one, without several, with several
 abbrev pub IsWithout : List (List ℕ) → List ℕ → List (List ℕ) → Type 0

@@ -4,39 +4,50 @@ ghost use Rattle.std.specs.Prelude.{◌≡◌, ◌↔◌, map, IsTrue};
 ghost use Rattle.hv_world.specs.Values.{formulas_of};
 ghost use Rattle.hv_world.specs.Views.{formula_view, type_number};
 ghost use Rattle.hv_world.specs.Bindings.{objects_in};
+ghost use Rattle.hv_world.specs.WorldViews.{world_view};
 ghost use Rattle.hv_state.specs.Truth.{True, AllTrue, SomeTrue, ForEach, ForSome};
 
 use crate::atom::{AtomView, object_of};
 use crate::state::State;
-use hv_world::{Binding, Formula, TypeId, Types};
+use hv_world::{Binding, Formula, TypeId, World};
 
 /// Whether a formula is true in a state. It takes no memory but stack, and a frame of it for each
 /// formula and each variable.
 #[cycle(truth)]
-pub fn truth<S: State>(types: &Types, state: &S, formula: &Formula, binding: &Binding<'_>) -> bool
-    ensures { IsTrue result ↔ True types.now (S.atoms state.now) (formula_view formula.now) (objects_in binding.now) }
+pub fn truth<S: State>(
+    world: &World<'_>,
+    state: &S,
+    formula: &Formula,
+    binding: &Binding<'_>,
+) -> bool
+    ensures { IsTrue result ↔ True (world_view world.now).typing (S.atoms state.now) (formula_view formula.now) (objects_in binding.now) }
 {
     match formula {
         Formula::Holds(atom) => state.holds(&AtomView::new(atom, &*binding)),
-        Formula::And(parts) => all_true(types, state, parts, binding),
-        Formula::Or(parts) => some_true(types, state, parts, binding),
-        Formula::Not(part) => !truth(types, state, part, binding),
+        Formula::And(parts) => all_true(world, state, parts, binding),
+        Formula::Or(parts) => some_true(world, state, parts, binding),
+        Formula::Not(part) => !truth(world, state, part, binding),
         Formula::Imply(premise, conclusion) => {
-            !truth(types, state, premise, binding) || truth(types, state, conclusion, binding)
+            !truth(world, state, premise, binding) || truth(world, state, conclusion, binding)
         }
-        Formula::Forall(of, part) => for_each(types, state, part, of, binding),
-        Formula::Exists(of, part) => for_some(types, state, part, of, binding),
+        Formula::Forall(of, part) => for_each(world, state, part, of, binding),
+        Formula::Exists(of, part) => for_some(world, state, part, of, binding),
         Formula::Equal(left, right) => object_of(binding, *left) == object_of(binding, *right),
     }
 }
 
 // Whether all of these are true.
 #[cycle(truth)]
-fn all_true<S: State>(types: &Types, state: &S, parts: &[Formula], binding: &Binding<'_>) -> bool
-    ensures { IsTrue result ↔ AllTrue types.now (S.atoms state.now) (formulas_of (map formula_view parts.now)) (objects_in binding.now) }
+fn all_true<S: State>(
+    world: &World<'_>,
+    state: &S,
+    parts: &[Formula],
+    binding: &Binding<'_>,
+) -> bool
+    ensures { IsTrue result ↔ AllTrue (world_view world.now).typing (S.atoms state.now) (formulas_of (map formula_view parts.now)) (objects_in binding.now) }
 {
     for part in parts {
-        if !truth(types, state, part, binding) {
+        if !truth(world, state, part, binding) {
             return false;
         }
     }
@@ -45,11 +56,16 @@ fn all_true<S: State>(types: &Types, state: &S, parts: &[Formula], binding: &Bin
 
 // Whether one of these is true.
 #[cycle(truth)]
-fn some_true<S: State>(types: &Types, state: &S, parts: &[Formula], binding: &Binding<'_>) -> bool
-    ensures { IsTrue result ↔ SomeTrue types.now (S.atoms state.now) (formulas_of (map formula_view parts.now)) (objects_in binding.now) }
+fn some_true<S: State>(
+    world: &World<'_>,
+    state: &S,
+    parts: &[Formula],
+    binding: &Binding<'_>,
+) -> bool
+    ensures { IsTrue result ↔ SomeTrue (world_view world.now).typing (S.atoms state.now) (formulas_of (map formula_view parts.now)) (objects_in binding.now) }
 {
     for part in parts {
-        if truth(types, state, part, binding) {
+        if truth(world, state, part, binding) {
             return true;
         }
     }
@@ -59,20 +75,20 @@ fn some_true<S: State>(types: &Types, state: &S, parts: &[Formula], binding: &Bi
 // Whether a formula is true whichever objects of these types the next variables have.
 #[cycle(truth)]
 fn for_each<S: State>(
-    types: &Types,
+    world: &World<'_>,
     state: &S,
     formula: &Formula,
     of: &[TypeId],
     binding: &Binding<'_>,
 ) -> bool
-    ensures { IsTrue result ↔ ForEach types.now (True types.now (S.atoms state.now) (formula_view formula.now)) (map type_number of.now) (objects_in binding.now) }
+    ensures { IsTrue result ↔ ForEach (world_view world.now).typing (True (world_view world.now).typing (S.atoms state.now) (formula_view formula.now)) (map type_number of.now) (objects_in binding.now) }
 {
     match of {
-        [] => truth(types, state, formula, binding),
+        [] => truth(world, state, formula, binding),
         [first, others @ ..] => {
-            for object in types.objects_of(*first) {
+            for object in world.objects_of(*first) {
                 let inner = Binding::With(&*binding, *object);
-                if !for_each(types, state, formula, others, &inner) {
+                if !for_each(world, state, formula, others, &inner) {
                     return false;
                 }
             }
@@ -84,20 +100,20 @@ fn for_each<S: State>(
 // Whether a formula is true for some objects of these types that the next variables have.
 #[cycle(truth)]
 fn for_some<S: State>(
-    types: &Types,
+    world: &World<'_>,
     state: &S,
     formula: &Formula,
     of: &[TypeId],
     binding: &Binding<'_>,
 ) -> bool
-    ensures { IsTrue result ↔ ForSome types.now (True types.now (S.atoms state.now) (formula_view formula.now)) (map type_number of.now) (objects_in binding.now) }
+    ensures { IsTrue result ↔ ForSome (world_view world.now).typing (True (world_view world.now).typing (S.atoms state.now) (formula_view formula.now)) (map type_number of.now) (objects_in binding.now) }
 {
     match of {
-        [] => truth(types, state, formula, binding),
+        [] => truth(world, state, formula, binding),
         [first, others @ ..] => {
-            for object in types.objects_of(*first) {
+            for object in world.objects_of(*first) {
                 let inner = Binding::With(&*binding, *object);
-                if for_some(types, state, formula, others, &inner) {
+                if for_some(world, state, formula, others, &inner) {
                     return true;
                 }
             }

@@ -8,7 +8,6 @@ mod laws;
 mod rows;
 mod sorted;
 mod state;
-mod step;
 mod trace;
 
 pub use atom::AtomView;
@@ -16,8 +15,4 @@ pub use evaluate::truth;
 pub use laws::{adds_come_last, no_object_fails_and_none_serves, truth_is_of_sets};
 pub use sorted::SortedState;
 pub use state::State;
-pub use step::Step;
 pub use trace::{Stop, Trace};
-
-#[cfg(test)]
-mod tests;

@@ -7,13 +7,20 @@ ghost use Rattle.std.specs.Vec.{vec_len, vec_capacity};
 ghost use Rattle.hv_world.specs.Views.{term_view, atom_view};
 ghost use Rattle.hv_world.specs.Bindings.{objects_in};
 ghost use Rattle.hv_state.specs.Atoms.{object_of, atom_read};
-ghost use Rattle.hv_state.specs.Rows.{row_of, rows_under, rows_in, Ascend, IsPlace, IsWithout, IsWith, IsWithoutAll, IsWithAll};
+ghost use Rattle.hv_state.specs.Rows.{row_of, rows_under, rows_in, Ascend, IsPlace, IsWithout, IsWith, IsWithoutAll, IsWithAll, HasSameRows};
 
 use crate::atom::{AtomView, object_of};
 use hv_text::Memory;
 use hv_world::{Atom, Binding, Term};
 use std::alloc::Global;
 use std::cmp::Ordering;
+use std::rc::Rc;
+
+/// The row of an atom. A state and its copies share it.
+#[derive(PartialEq, Eq, PartialOrd, Ord, Drop)]
+pub(crate) struct Row {
+    numbers: Rc<Vec<usize>>,
+}
 
 // How objects stand to those of terms.
 fn compare_objects(objects: &[usize], terms: &[Term], binding: &Binding<'_>) -> Ordering
@@ -50,23 +57,23 @@ fn compare(row: &[usize], atom: &AtomView<'_>) -> Ordering
 }
 
 /// Where the row of an atom stands, or where it would: by halving.
-pub(crate) fn find(rows: &[Vec<usize>], atom: &AtomView<'_>) -> Result<usize, usize>
+pub(crate) fn find(rows: &[Row], atom: &AtomView<'_>) -> Result<usize, usize>
     requires { Ascend (rows_in rows.now) }
     ensures { IsPlace (rows_in rows.now) (row_of (atom_read atom.now)) result }
 {
-    rows.binary_search_by(|row| compare(row, atom))
+    rows.binary_search_by(|row| compare(&row.numbers, atom))
 }
 
 // Where a row stands, or where it would.
-fn place(rows: &[Vec<usize>], row: &[usize]) -> Result<usize, usize>
+fn place(rows: &[Row], row: &[usize]) -> Result<usize, usize>
     requires { Ascend (rows_in rows.now) }
     ensures { IsPlace (rows_in rows.now) row.now result }
 {
-    rows.binary_search_by(|other| other.as_slice().cmp(&row))
+    rows.binary_search_by(|other| other.numbers.as_slice().cmp(&row))
 }
 
 // Takes the row of an atom out.
-fn remove(rows: &mut Vec<Vec<usize>>, atom: &AtomView<'_>)
+fn remove(rows: &mut Vec<Row>, atom: &AtomView<'_>)
     requires { Ascend (rows_in rows.old.items) }
     ensures ascend { Ascend (rows_in rows.new.items) }
     ensures exact { IsWithout (rows_in rows.old.items) (row_of (atom_read atom.now)) (rows_in rows.new.items) }
@@ -79,7 +86,7 @@ fn remove(rows: &mut Vec<Vec<usize>>, atom: &AtomView<'_>)
 }
 
 /// Takes the rows of atoms out.
-pub(crate) fn remove_all(rows: &mut Vec<Vec<usize>>, atoms: &[Atom], binding: &Binding<'_>)
+pub(crate) fn remove_all(rows: &mut Vec<Row>, atoms: &[Atom], binding: &Binding<'_>)
     requires { Ascend (rows_in rows.old.items) }
     ensures ascend { Ascend (rows_in rows.new.items) }
     ensures exact { IsWithoutAll (rows_in rows.old.items) (rows_under (objects_in binding.now) (map atom_view atoms.now)) (rows_in rows.new.items) }
@@ -92,21 +99,21 @@ pub(crate) fn remove_all(rows: &mut Vec<Vec<usize>>, atoms: &[Atom], binding: &B
 }
 
 // Puts a row in, unless it stands there.
-fn put(rows: &mut Vec<Vec<usize>>, row: Vec<usize>)
+fn put(rows: &mut Vec<Row>, row: Row)
     requires ascend { Ascend (rows_in rows.old.items) }
     requires room { vec_len rows.old < vec_capacity rows.old }
     ensures ascend { Ascend (rows_in rows.new.items) }
-    ensures exact { IsWith (rows_in rows.old.items) row.items (rows_in rows.new.items) }
+    ensures exact { IsWith (rows_in rows.old.items) row.numbers.value.items (rows_in rows.new.items) }
     ensures more { vec_len rows.new ≤ vec_len rows.old + 1 }
     ensures capacity { vec_capacity rows.old ≤ vec_capacity rows.new }
 {
-    if let Err(place) = place(rows, &row) {
+    if let Err(place) = place(rows, &row.numbers) {
         let _put = rows.insert(place, row);
     }
 }
 
 /// Puts rows in, each unless it stands there.
-pub(crate) fn put_all(rows: &mut Vec<Vec<usize>>, mut new: Vec<Vec<usize>>)
+pub(crate) fn put_all(rows: &mut Vec<Row>, mut new: Vec<Row>)
     requires ascend { Ascend (rows_in rows.old.items) }
     requires room { vec_len rows.old + vec_len new ≤ vec_capacity rows.old }
     ensures ascend { Ascend (rows_in rows.new.items) }
@@ -134,23 +141,35 @@ pub(crate) fn rows_of(
     alloc: Global,
     atoms: &[Atom],
     binding: &Binding<'_>,
-) -> Result<Vec<Vec<usize>>, Memory>
+) -> Result<Vec<Row>, Memory>
     ensures { IfOk result (λ rows. rows_in rows.items ≡ rows_under (objects_in binding.now) (map atom_view atoms.now)) }
 {
     let mut rows = Vec::new(alloc);
     for atom in atoms {
-        rows.push(row_of(alloc, &AtomView::new(atom, &*binding))?)?;
+        let row = row_of(alloc, &AtomView::new(atom, &*binding))?;
+        let numbers = Rc::new(alloc, row)?;
+        rows.push(Row { numbers })?;
     }
     Ok(rows)
 }
 
-/// The same rows once more.
-pub(crate) fn copy_of(alloc: Global, rows: &[Vec<usize>]) -> Result<Vec<Vec<usize>>, Memory>
+/// Puts rows in order, and keeps each once.
+pub(crate) fn sort_distinct(rows: &mut Vec<Row>)
+    ensures ascend { Ascend (rows_in rows.new.items) }
+    ensures exact { HasSameRows (rows_in rows.old.items) (rows_in rows.new.items) }
+{
+    rows.sort_unstable();
+    rows.dedup();
+}
+
+/// The same rows once more, shared.
+pub(crate) fn copy_of(alloc: Global, rows: &[Row]) -> Result<Vec<Row>, Memory>
     ensures { IfOk result (λ copy. rows_in copy.items ≡ rows_in rows.now) }
 {
     let mut copy = Vec::new(alloc);
     for row in rows {
-        copy.push(Vec::from_slice(alloc, row)?)?;
+        let numbers = row.numbers.clone()?;
+        copy.push(Row { numbers })?;
     }
     Ok(copy)
 }

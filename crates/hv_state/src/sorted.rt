@@ -4,17 +4,17 @@ ghost use Rattle.std.specs.Prelude.{ℕ, List};
 ghost use Rattle.hv_state.specs.Rows.{rows_in, Ascend, Listed};
 
 use crate::atom::AtomView;
-use crate::rows::{copy_of, find, put_all, remove_all, rows_of};
+use crate::rows::{Row, copy_of, find, put_all, remove_all, rows_of, sort_distinct};
 use crate::state::State;
 use hv_text::Memory;
-use hv_world::{Atom, Binding};
+use hv_world::{Atom, Binding, World};
 use std::alloc::Global;
 use std::marker::Model;
 
 /// A state as a sorted list of its atoms. An atom is found by halving.
 #[derive(Drop)]
 pub struct SortedState {
-    rows: Vec<Vec<usize>>,
+    rows: Vec<Row>,
 }
 
 impl Model for SortedState {
@@ -28,10 +28,9 @@ impl Model for SortedState {
 impl State for SortedState {
     ghost atoms = { λ s. Listed s };
 
-    fn initial(alloc: Global, init: &[Atom]) -> Result<SortedState, Memory> {
-        let new = rows_of(alloc, init, &Binding::Given(&[]))?;
-        let mut rows = Vec::with_capacity(alloc, new.len())?;
-        put_all(&mut rows, new);
+    fn initial(alloc: Global, world: &World<'_>) -> Result<SortedState, Memory> {
+        let mut rows = rows_of(alloc, world.init(), &Binding::Given(&[]))?;
+        sort_distinct(&mut rows);
         Ok(SortedState { rows })
     }
 

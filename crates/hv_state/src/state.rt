@@ -4,24 +4,25 @@ ghost use Rattle.std.specs.Prelude.{◌≡◌, ◌↔◌, [], IsTrue, IfOk, OnOk
 ghost use Rattle.std.specs.List.{Contains};
 ghost use Rattle.hv_world.specs.Views.{atom_view};
 ghost use Rattle.hv_world.specs.Bindings.{objects_in};
+ghost use Rattle.hv_world.specs.WorldViews.{world_view};
 ghost use Rattle.hv_state.specs.Atoms.{GroundAtom, Same, After, atoms_under, atom_read};
 
 use crate::atom::AtomView;
 use hv_text::Memory;
-use hv_world::{Atom, Binding};
+use hv_world::{Atom, Binding, World};
 use std::alloc::Global;
 
 /// A set of atoms without variables: those that are true.
 pub trait State: Sized + Drop {
     ghost atoms: { Self → GroundAtom → Type 0 };
 
-    /// The state of these atoms.
+    /// The state that a world begins with.
     ///
     /// # Errors
     ///
     /// `Memory` where a growth was refused.
-    fn initial(alloc: Global, init: &[Atom]) -> Result<Self, Memory>
-        ensures { IfOk result (λ s. Same (atoms s) (Contains (atoms_under [] (map atom_view init.now)))) };
+    fn initial(alloc: Global, world: &World<'_>) -> Result<Self, Memory>
+        ensures { IfOk result (λ s. Same (atoms s) (Contains (atoms_under [] (world_view world.now).init))) };
 
     /// Another state with the same atoms.
     ///

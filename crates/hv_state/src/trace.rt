@@ -1,25 +1,24 @@
 //! The states that a plan passes.
 
-ghost use Rattle.std.specs.Prelude.{◌≡◌, ◌<◌, ◌≤◌, ◌↔◌, ◌+◌, ◌-◌, ℕ, length, map, option_map, IsTrue, IfOk, IfErr, MatchOption};
-ghost use Rattle.hv_world.specs.Types.{Typing};
+ghost use Rattle.std.specs.Prelude.{◌≡◌, ◌<◌, ◌≤◌, ◌↔◌, ◌+◌, ◌-◌, ℕ, length, map, IsTrue, IfOk, IfErr, MatchOption};
 ghost use Rattle.hv_world.specs.Views.{formula_view};
-ghost use Rattle.hv_world.specs.Bindings.{objects_in};
+ghost use Rattle.hv_world.specs.Bindings.{objects_in, ground_action_view};
+ghost use Rattle.hv_world.specs.WorldViews.{world_view};
 ghost use Rattle.hv_state.specs.Atoms.{Same};
 ghost use Rattle.hv_state.specs.Truth.{True};
-ghost use Rattle.hv_state.specs.Plans.{Plan, AfterStep, StateAt, CanRun, StopsAt, IsStop, IsApplicableIn, IsApplicable, GoalHolds, step_view, plan_of, Passage, passage, plan_in, ArePassed};
+ghost use Rattle.hv_state.specs.Plans.{Plan, plan, AfterAction, StateAt, CanRun, StopsAt, IsStop, IsApplicableIn, IsApplicable, GoalHolds, ArePassed};
 
 use crate::evaluate::truth;
 use crate::state::State;
-use crate::step::Step;
 use hv_text::Memory;
-use hv_world::{Atom, Binding, Formula, Types};
+use hv_world::{Binding, Formula, GroundAction, World};
 use std::alloc::Global;
 use std::marker::Model;
 
 /// Why a plan does not run.
 #[derive(Clone, Copy, Debug, PartialEq, Eq)]
 pub enum Stop {
-    /// The step of this number, from 0, is the first that is not applicable.
+    /// The action of this number, from 0, is the first that is not applicable.
     Inapplicable(usize),
     /// Memory ran out.
     Memory,
@@ -37,61 +36,64 @@ impl From<Memory> for Stop {
 
 /// A plan that runs, with each state that it passes.
 #[derive(Drop)]
-pub struct Trace<'a, S: State> {
-    types: &'a Types,
-    init: &'a [Atom],
-    steps: &'a [Step<'a>],
+pub struct Trace<'a, 's, S: State> {
+    world: &'a World<'s>,
+    actions: &'a [GroundAction],
     states: Vec<S>,
 }
 
-impl<'a, S: State> Model for Trace<'a, S> {
-    ghost use Rattle.std.specs.Prelude.{◌≡◌, ◌+◌, length};
+impl<'a, 's, S: State> Model for Trace<'a, 's, S> {
+    ghost use Rattle.std.specs.Prelude.{◌≡◌, ◌+◌, length, map};
     ghost use Rattle.std.specs.Coded.{codes};
-    ghost use Rattle.hv_state.specs.Plans.{Passage, passage, plan_in, ArePassed};
-    ghost use Rattle.hv_world.specs.contracts.formula.Formula as formula;
+    ghost use Rattle.hv_world.specs.Bindings.{ground_action_view};
+    ghost use Rattle.hv_world.specs.WorldViews.{world_view};
+    ghost use Rattle.hv_state.specs.Codes.{formula_code};
+    ghost use Rattle.hv_state.specs.Plans.{Plan, plan, ArePassed};
 
-    ghost Value = { Passage };
+    ghost Value = { Plan };
 
-    ghost coded = { Prim.hlevel (codes, formula.the_row.coded) };
+    ghost coded = { Prim.hlevel (codes, formula_code) };
 
-    ghost view = { λ t. passage t.types.now t.init.now t.steps.now };
+    ghost view = { λ t. plan (world_view t.world.now) (map ground_action_view t.actions.now) };
 
-    ghost invariant = { λ t. ArePassed S.atoms (plan_in (passage t.types.now t.init.now t.steps.now)) t.states.items × (length t.states.items ≡ length t.steps.now + 1) };
+    ghost invariant = { λ t. ArePassed S.atoms (plan (world_view t.world.now) (map ground_action_view t.actions.now)) t.states.items × (length t.states.items ≡ length t.actions.now + 1) };
 }
 
-// The state after a step, or none where the step is not applicable.
+// The state after an action, or none where it is not applicable.
 fn state_after<S: State>(
     alloc: Global,
-    types: &Types,
+    world: &World<'_>,
     state: &S,
-    step: &Step<'_>,
+    step: &GroundAction,
 ) -> Result<Option<S>, Memory>
-    ensures { IfOk result (λ next. MatchOption next (IsApplicableIn types.now (S.atoms state.now) (step_view step.now) → ⊥) (λ s. IsApplicableIn types.now (S.atoms state.now) (step_view step.now) × Same (S.atoms s) (AfterStep (S.atoms state.now) (step_view step.now)))) }
+    ensures { IfOk result (λ next. MatchOption next (IsApplicableIn (world_view world.now) (S.atoms state.now) (ground_action_view step.now) → ⊥) (λ s. IsApplicableIn (world_view world.now) (S.atoms state.now) (ground_action_view step.now) × Same (S.atoms s) (AfterAction (world_view world.now) (S.atoms state.now) (ground_action_view step.now)))) }
 {
-    let objects = Binding::Given(step.objects);
-    if !truth(types, state, step.precondition, &objects) {
+    let Some(action) = world.action(step.action) else {
+        return Ok(None);
+    };
+    let objects = Binding::Given(&step.objects);
+    if !truth(world, state, action.precondition(), &objects) {
         return Ok(None);
     }
     let mut next = state.copy(alloc)?;
-    next.apply(step.deletes, step.adds, &objects)?;
+    next.apply(action.deletes(), action.adds(), &objects)?;
     Ok(Some(next))
 }
 
-// The states of a plan up to the first step that is not applicable, or to the end.
+// The states of a plan up to the first action that is not applicable, or to the end.
 fn states_of<S: State>(
     alloc: Global,
-    types: &Types,
-    init: &[Atom],
-    steps: &[Step<'_>],
+    world: &World<'_>,
+    actions: &[GroundAction],
 ) -> Result<Vec<S>, Memory>
-    ensures passed { IfOk result (λ states. ArePassed S.atoms (plan_of types.now init.now steps.now) states.items) }
-    ensures within { IfOk result (λ states. length states.items ≤ length steps.now + 1) }
-    ensures stopped { IfOk result (λ states. length states.items ≤ length steps.now → IsApplicable (plan_of types.now init.now steps.now) (length states.items - 1) → ⊥) }
+    ensures passed { IfOk result (λ states. ArePassed S.atoms (plan (world_view world.now) (map ground_action_view actions.now)) states.items) }
+    ensures within { IfOk result (λ states. length states.items ≤ length actions.now + 1) }
+    ensures stopped { IfOk result (λ states. length states.items ≤ length actions.now → IsApplicable (plan (world_view world.now) (map ground_action_view actions.now)) (length states.items - 1) → ⊥) }
 {
     let mut states = Vec::new(alloc);
-    states.push(S::initial(alloc, init)?)?;
-    for (number, step) in steps.iter().enumerate() {
-        match state_after(alloc, types, &states[number], step)? {
+    states.push(S::initial(alloc, world)?)?;
+    for (number, step) in actions.iter().enumerate() {
+        match state_after(alloc, world, &states[number], step)? {
             Some(next) => states.push(next)?,
             None => return Ok(states),
         }
@@ -99,49 +101,47 @@ fn states_of<S: State>(
     Ok(states)
 }
 
-impl<'a, S: State> Trace<'a, S> {
+impl<'a, 's, S: State> Trace<'a, 's, S> {
     /// Runs a plan.
     ///
     /// # Errors
     ///
-    /// `Inapplicable` at the first step that is not applicable, and `Memory` where a growth was
-    /// refused.
+    /// `Inapplicable` at the first action that is not applicable, which is also one that the world
+    /// does not have; and `Memory` where a growth was refused.
     pub fn run(
         alloc: Global,
-        types: &'a Types,
-        init: &'a [Atom],
-        steps: &'a [Step<'a>],
-    ) -> Result<Trace<'a, S>, Stop>
-        ensures plan { IfOk result (λ t. plan_in t ≡ plan_of types.now init.now steps.now) }
-        ensures ran { IfOk result (λ _. CanRun (plan_of types.now init.now steps.now)) }
-        ensures stop { IfErr result (IsStop (plan_of types.now init.now steps.now)) }
+        world: &'a World<'s>,
+        actions: &'a [GroundAction],
+    ) -> Result<Trace<'a, 's, S>, Stop>
+        ensures plan { IfOk result (λ t. t ≡ plan (world_view world.now) (map ground_action_view actions.now)) }
+        ensures ran { IfOk result (λ _. CanRun (plan (world_view world.now) (map ground_action_view actions.now))) }
+        ensures stop { IfErr result (IsStop (plan (world_view world.now) (map ground_action_view actions.now))) }
     {
-        let states = states_of(alloc, types, init, steps)?;
-        if states.len() <= steps.len() {
+        let states = states_of(alloc, world, actions)?;
+        if states.len() <= actions.len() {
             return Err(Stop::Inapplicable(states.len() - 1));
         }
         Ok(Trace {
-            types,
-            init,
-            steps,
+            world,
+            actions,
             states,
         })
     }
 
-    /// Whether a formula is true after the first `k` steps.
+    /// Whether a formula is true after the first `k` actions.
     pub fn holds_at(&self, k: usize, formula: &Formula, binding: &Binding<'_>) -> bool
-        requires { k ≤ length (plan_in self.now).steps }
-        ensures { IsTrue result ↔ True (plan_in self.now).typing (StateAt (plan_in self.now) k) (formula_view formula.now) (objects_in binding.now) }
+        requires { k ≤ length self.now.actions }
+        ensures { IsTrue result ↔ True self.now.world.typing (StateAt self.now k) (formula_view formula.now) (objects_in binding.now) }
     {
-        truth(self.types, &self.states[k], formula, binding)
+        truth(self.world, &self.states[k], formula, binding)
     }
 
-    /// Whether the goal is true after all steps. It is where there is none.
-    pub fn goal_holds(&self, goal: Option<&Formula>) -> bool
-        ensures { IsTrue result ↔ GoalHolds (plan_in self.now) (option_map (λ f. formula_view f.now) goal.entry) }
+    /// Whether the goal of the world is true after all actions. It is where there is none.
+    pub fn goal_holds(&self) -> bool
+        ensures { IsTrue result ↔ GoalHolds self.now }
     {
-        match goal {
-            Some(formula) => self.holds_at(self.steps.len(), formula, &Binding::Given(&[])),
+        match self.world.goal() {
+            Some(formula) => self.holds_at(self.actions.len(), formula, &Binding::Given(&[])),
             None => true,
         }
     }

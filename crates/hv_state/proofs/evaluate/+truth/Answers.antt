@@ -1,5 +1,6 @@
 use Rattle.std.proofs.Common.{◌↔◌, ◌<◌, ◌+◌, map, get_or, sym, subst, ap, refl, arith, rules, true≢false, ◌∙◌, IsTrue}
 use Rattle.hv_world.specs.Bindings.{objects_in}
+use Rattle.hv_world.specs.WorldViews.{world_view}
 use Rattle.hv_world.specs.Values.{formulas_of}
 use Rattle.hv_world.specs.Views.{formula_view, type_number}
 use Rattle.hv_state.specs.Truth.{True, ForEach, ForSome}
@@ -20,7 +21,7 @@ some_true-truth-requires g t c κs within =
 
 pub truth-returns-in-Forall : goal.truth-returns-in-Forall
 truth-returns-in-Forall g t c =
-    let w = c.args.types.now in
+    let w = (world_view c.args.world.now).typing in
     let env = objects_in c.args.binding.now in
     let atoms = g.S.State.atoms c.args.state.now in
     let answer = IsTrue c.for_each.result in
@@ -30,7 +31,7 @@ truth-returns-in-Forall g t c =
 
 pub truth-returns-in-Exists : goal.truth-returns-in-Exists
 truth-returns-in-Exists g t c =
-    let w = c.args.types.now in
+    let w = (world_view c.args.world.now).typing in
     let env = objects_in c.args.binding.now in
     let atoms = g.S.State.atoms c.args.state.now in
     let answer = IsTrue c.for_some.result in
@@ -42,7 +43,7 @@ pub for_each-returns-then-not-for_each : goal.for_each-returns-then-not-for_each
 for_each-returns-then-not-for_each g t c = (
   λ h. absurd (true≢false (sym h)),
   λ whole.
-      let w = c.args.types.now in
+      let w = (world_view c.args.world.now).typing in
       let env = objects_in c.args.binding.now in
       let P = True w (g.S.State.atoms c.args.state.now) (formula_view c.args.formula.now) in
       let first = get_or c.args.of.now 0 (record { 0 = 0 }) in
@@ -53,7 +54,7 @@ for_each-returns-then-not-for_each g t c = (
 
 pub for_each-returns-after-loop-object : goal.for_each-returns-after-loop-object
 for_each-returns-after-loop-object g t c =
-    let w = c.args.types.now in
+    let w = (world_view c.args.world.now).typing in
     let env = objects_in c.args.binding.now in
     let P = True w (g.S.State.atoms c.args.state.now) (formula_view c.args.formula.now) in
     let first = get_or c.args.of.now 0 (record { 0 = 0 }) in
@@ -62,7 +63,7 @@ for_each-returns-after-loop-object g t c =
 
 pub for_some-returns-then-for_some : goal.for_some-returns-then-for_some
 for_some-returns-then-for_some g t c =
-    let w = c.args.types.now in
+    let w = (world_view c.args.world.now).typing in
     let env = objects_in c.args.binding.now in
     let P = True w (g.S.State.atoms c.args.state.now) (formula_view c.args.formula.now) in
     let first = get_or c.args.of.now 0 (record { 0 = 0 }) in
@@ -73,7 +74,7 @@ pub for_some-returns-after-loop-object : goal.for_some-returns-after-loop-object
 for_some-returns-after-loop-object g t c = (
   λ h. absurd (true≢false (sym h)),
   λ whole.
-      let w = c.args.types.now in
+      let w = (world_view c.args.world.now).typing in
       let env = objects_in c.args.binding.now in
       let P = True w (g.S.State.atoms c.args.state.now) (formula_view c.args.formula.now) in
       let first = get_or c.args.of.now 0 (record { 0 = 0 }) in

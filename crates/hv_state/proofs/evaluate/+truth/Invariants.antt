@@ -2,6 +2,7 @@ use Rattle.std.proofs.Common.{◌↔◌, ◌+◌, ◌<◌, ◌++◌, ◌∷◌, 
 use Rattle.hv_world.specs.Values.{formulas_of}
 use Rattle.hv_world.specs.Views.{formula_view, type_number}
 use Rattle.hv_world.specs.Bindings.{objects_in}
+use Rattle.hv_world.specs.WorldViews.{world_view}
 use Rattle.hv_world.specs.declared.id.ObjectId.{ObjectId}
 use Rattle.hv_state.specs.Truth.{True, AllTrue, SomeTrue, ForEach, ForSome}
 use Rattle.hv_state.proofs.Levels.{levels, most_levels}
@@ -25,20 +26,20 @@ decreases-for_some g l = levels (formula_view l.formula.now) + length l.of.now +
 -- what is left to be true decides
 abbrev pub invariant-all_true-loop-part : goal.invariant-all_true-loop-part
 invariant-all_true-loop-part g l =
-    AllTrue l.types (g.S.State.atoms l.state) (formulas_of (map formula_view (drop l.part-index l.parts))) (objects_in l.binding)
-    ↔ AllTrue l.types (g.S.State.atoms l.state) (formulas_of (map formula_view l.parts)) (objects_in l.binding)
+    AllTrue (world_view l.world).typing (g.S.State.atoms l.state) (formulas_of (map formula_view (drop l.part-index l.parts))) (objects_in l.binding)
+    ↔ AllTrue (world_view l.world).typing (g.S.State.atoms l.state) (formulas_of (map formula_view l.parts)) (objects_in l.binding)
 
 abbrev pub invariant-some_true-loop-part : goal.invariant-some_true-loop-part
 invariant-some_true-loop-part g l =
-    SomeTrue l.types (g.S.State.atoms l.state) (formulas_of (map formula_view (drop l.part-index l.parts))) (objects_in l.binding)
-    ↔ SomeTrue l.types (g.S.State.atoms l.state) (formulas_of (map formula_view l.parts)) (objects_in l.binding)
+    SomeTrue (world_view l.world).typing (g.S.State.atoms l.state) (formulas_of (map formula_view (drop l.part-index l.parts))) (objects_in l.binding)
+    ↔ SomeTrue (world_view l.world).typing (g.S.State.atoms l.state) (formulas_of (map formula_view l.parts)) (objects_in l.binding)
 
 abbrev pub invariant-for_each-loop-object : goal.invariant-for_each-loop-object
 invariant-for_each-loop-object g l =
     (k : ℕ) (d : ObjectId) → k < l.object-index
-    → ForEach l.types (True l.types (g.S.State.atoms l.state) (formula_view l.formula)) (map type_number l.others) (objects_in l.binding ++ (get_or l.object-items k d).0 ∷ [])
+    → ForEach (world_view l.world).typing (True (world_view l.world).typing (g.S.State.atoms l.state) (formula_view l.formula)) (map type_number l.others) (objects_in l.binding ++ (get_or l.object-items k d).0 ∷ [])
 
 abbrev pub invariant-for_some-loop-object : goal.invariant-for_some-loop-object
 invariant-for_some-loop-object g l =
     (k : ℕ) (d : ObjectId) → k < l.object-index
-    → ForSome l.types (True l.types (g.S.State.atoms l.state) (formula_view l.formula)) (map type_number l.others) (objects_in l.binding ++ (get_or l.object-items k d).0 ∷ []) → ⊥
+    → ForSome (world_view l.world).typing (True (world_view l.world).typing (g.S.State.atoms l.state) (formula_view l.formula)) (map type_number l.others) (objects_in l.binding ++ (get_or l.object-items k d).0 ∷ []) → ⊥
