@@ -2,7 +2,7 @@
 -- where each node keeps the rules.
 use Rattle.std.proofs.Common.{◌≡◌, ℕ, zero, suc, ◌<◌, ◌≤◌, true, refl, subst, arith}
 use Rattle.std.specs.Prelude.{◌==◌}
-use Rattle.hv_order.specs.Trees.{Item, Act, Task, Pre, Mem, Tree, AtOrBelow, itself, its_pre, its_child, Reached, IsPrimitive, IsSubtask, IsTree}
+use Rattle.hv_plan.specs.Trees.{Item, Act, Task, Pre, Mem, Tree, AtOrBelow, itself, its_pre, its_child, Reached, IsPrimitive, IsSubtask, IsTree}
 use Rattle.hv_order.specs.Candidates.{Choice, AreOrders}
 use Rattle.hv_order.specs.Precedence.{Precedes, of_pre, of_line, of_root}
 use Rattle.hv_order.specs.Schedules.{begins, ends, IsSchedule}

@@ -1,7 +1,7 @@
 -- A sequence that runs gives each precondition step an index.
 use Rattle.std.proofs.Common.{◌≡◌, ℕ, ◌+◌, ◌≤◌, true, List, [], ◌∷◌, refl, sym, ap, subst, inl, inr, arith}
 use Rattle.std.specs.Prelude.{if◌then◌else◌, ◌==◌}
-use Rattle.hv_order.specs.Trees.{Item, Act, Task, Pre, Mem, Distinct}
+use Rattle.hv_plan.specs.Trees.{Item, Act, Task, Pre, Mem, Distinct}
 use Rattle.hv_order.specs.Candidates.{Choice}
 use Rattle.hv_order.specs.Sequences.{Earlier, Runs}
 use Rattle.hv_order.specs.Schedules.{begins, ends}

@@ -1,6 +1,6 @@
 -- A depth above a line's number is enough: more changes nothing.
 use Rattle.std.proofs.Common.{◌≡◌, ℕ, zero, suc, ◌<◌, List, refl, subst, arith}
-use Rattle.hv_order.specs.Trees.{Item, Act, Task, Pre, Mem}
+use Rattle.hv_plan.specs.Trees.{Item, Act, Task, Pre, Mem}
 use Rattle.hv_order.specs.Candidates.{Candidate}
 use Rattle.hv_order.specs.Finishes.{FitsBy, Fits}
 use Rattle.hv_order.specs.Laws.{DepthLaw}

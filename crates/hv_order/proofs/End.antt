@@ -1,7 +1,7 @@
 -- End: the network at the end of a derivation, whatever the order of its decompositions.
 use Rattle.std.proofs.Common.{◌≡◌, ℕ, true, List, [], ◌∷◌, ◌++◌, refl, sym, subst, inl, inr, ◌⊎◌}
 use Rattle.std.specs.Prelude.{map}
-use Rattle.hv_order.specs.Trees.{Item, Act, Task, Pre, Mem, Tree, AtOrBelow, itself, its_child, Reached, IsPrimitive, IsTree}
+use Rattle.hv_plan.specs.Trees.{Item, Act, Task, Pre, Mem, Tree, AtOrBelow, itself, its_child, Reached, IsPrimitive, IsTree}
 use Rattle.hv_order.specs.Candidates.{Choice, AreOrders}
 use Rattle.hv_order.specs.Networks.{Network, ordered_pairs, inherited, inherited_pairs, initial_network, decomposition, Leads}
 use Rattle.hv_order.specs.Precedence.{Precedes, of_pre, of_line, of_root, IsEnd}

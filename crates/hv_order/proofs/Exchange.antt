@@ -1,7 +1,7 @@
 -- Exchange: the choices and indices at and below one line may be replaced by others that keep to a
 -- window of the line.
 use Rattle.std.proofs.Common.{◌≡◌, ℕ, ◌≤◌, true, refl, sym, subst, inl, inr, arith, ◌⊎◌}
-use Rattle.hv_order.specs.Trees.{Item, Act, Task, Pre, Mem, Tree, AtOrBelow, itself, its_pre, Reached, IsPrimitive, IsTree, line_tree}
+use Rattle.hv_plan.specs.Trees.{Item, Act, Task, Pre, Mem, Tree, AtOrBelow, itself, its_pre, Reached, IsPrimitive, IsTree, line_tree}
 use Rattle.hv_order.specs.Candidates.{Candidate, AreOrders}
 use Rattle.hv_order.specs.Precedence.{Precedes, of_pre, of_line}
 use Rattle.hv_order.specs.Schedules.{begins, ends, IsSchedule, Schedule, IsWindow, IsExchange}

@@ -1,7 +1,7 @@
 -- A sequence of all actions of the plan executes exactly where it runs: no state is left out.
 use Rattle.std.proofs.Common.{◌≡◌, ℕ, ◌+◌, ◌<◌, ◌≤◌, true, List, [], ◌∷◌, sym, ap, subst, inl, inr, arith, ◌⊎◌}
 use Rattle.std.proofs.lemmas.Bool.{cases_lt}
-use Rattle.hv_order.specs.Trees.{Item, Act, Task, Pre, Mem}
+use Rattle.hv_plan.specs.Trees.{Item, Act, Task, Pre, Mem}
 use Rattle.hv_order.specs.Candidates.{Choice}
 use Rattle.hv_order.specs.Sequences.{Executes, Runs}
 use Rattle.hv_order.proofs.Members.{act_same, act_not_pre}

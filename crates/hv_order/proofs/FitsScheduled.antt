@@ -1,7 +1,7 @@
 -- Where the condition on the tree holds, a choice has a schedule: the starts and finishes of each
 -- line are put together along a derivation, parents first.
 use Rattle.std.proofs.Common.{◌≡◌, ℕ, zero, suc, ◌≤◌, true, List, [], ◌∷◌, refl, sym, subst, inl, inr, arith, ◌⊎◌}
-use Rattle.hv_order.specs.Trees.{Item, Act, Task, Pre, Mem, Tree, AtOrBelow, itself, its_pre, its_child, Reached, IsPrimitive, IsSubtask, IsTree, IsWithin}
+use Rattle.hv_plan.specs.Trees.{Item, Act, Task, Pre, Mem, Tree, AtOrBelow, itself, its_pre, its_child, Reached, IsPrimitive, IsSubtask, IsTree, IsWithin}
 use Rattle.hv_order.specs.Candidates.{Candidate, Choice, IsOrder, AreOrders, IsChoice, free_candidate}
 use Rattle.hv_order.specs.Networks.{Network, initial_network, decomposition, Leads}
 use Rattle.hv_order.specs.Precedence.{Precedes, of_pre, of_line, of_root, IsEnd}

@@ -1,6 +1,6 @@
 -- From the table to the plan: the rows have least finishes, and the root's row decides.
 use Rattle.std.proofs.Common.{◌≡◌, ℕ, zero, suc, ◌<◌, ◌≤◌, List, [], ◌∷◌, refl, sym, subst, inl, inr, arith, Option, Some, None}
-use Rattle.hv_order.specs.Trees.{Item, Task, Mem, Tree, line_tree}
+use Rattle.hv_plan.specs.Trees.{Item, Task, Mem, Tree, line_tree}
 use Rattle.hv_order.specs.Candidates.{Candidate, IsOrder, AreCandidates, free_candidate}
 use Rattle.hv_order.specs.Sequences.{CanBePlaced}
 use Rattle.hv_order.specs.Finishes.{RootFitsBy, Fits, FitsAll}

@@ -1,7 +1,7 @@
 -- Items laid out one after another, each as early as it can be, finish as early as they can.
 use Rattle.std.proofs.Common.{◌≡◌, ℕ, ◌≤◌, Bool, true, false, List, [], ◌∷◌, refl, sym, ap, ◌∙◌, subst, inl, inr, arith, ◌⊎◌, Option, Some, None}
 use Rattle.std.specs.Prelude.{if◌then◌else◌, max}
-use Rattle.hv_order.specs.Trees.{Item, Mem, Distinct}
+use Rattle.hv_plan.specs.Trees.{Item, Mem, Distinct}
 use Rattle.hv_order.specs.Candidates.{IsOrder}
 use Rattle.hv_order.specs.Finishes.{FitTogether}
 use Rattle.hv_order.specs.Tables.{IsLeastAt, IsLeast, and_then, earliest_start, last_finish, layout_finish, Respects, IsSort}

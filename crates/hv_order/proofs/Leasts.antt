@@ -4,7 +4,7 @@ use Rattle.std.specs.Prelude.{if◌then◌else◌, nat_lt, nat_le, min}
 use Rattle.std.proofs.lemmas.Bool.{cases_lt}
 use Rattle.std.proofs.lemmas.Bool.Decides.{leb_tells}
 use Rattle.std.proofs.Math.Dec.{leb}
-use Rattle.hv_order.specs.Trees.{Mem}
+use Rattle.hv_plan.specs.Trees.{Mem}
 use Rattle.hv_order.specs.Candidates.{Candidate, WithSome}
 use Rattle.hv_order.specs.Finishes.{ActionFits}
 use Rattle.hv_order.specs.Tables.{IsLeast, first_index, earlier_finish, best_finish, action_finish}

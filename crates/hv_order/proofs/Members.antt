@@ -3,7 +3,7 @@ use Rattle.std.proofs.Common.{◌≡◌, ℕ, ◌+◌, ◌*◌, ◌≢◌, Bool,
 use Rattle.std.specs.Prelude.{map, ◌&&◌, ◌==◌}
 use Rattle.std.proofs.lemmas.Bool.Decides.{eqb_tells}
 use Rattle.std.proofs.Math.Dec.{eqb}
-use Rattle.hv_order.specs.Trees.{Item, Act, Task, Pre, Mem}
+use Rattle.hv_plan.specs.Trees.{Item, Act, Task, Pre, Mem}
 
 -- two numbers are the same or not, and their test says so
 pub data SameNumber (a b : ℕ) : Type 0 where

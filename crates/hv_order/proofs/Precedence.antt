@@ -3,7 +3,7 @@ use Rattle.std.proofs.Common.{◌≡◌, ℕ, true, List, refl, sym, ap, subst, 
 use Rattle.hv_order.proofs.Ancestry
 use Rattle.hv_order.proofs.Members.{pre_not_task, pre_same}
 use Rattle.hv_order.proofs.Ancestry.{reached_initial, reached_child, reached_below, Above, above, same, above_pre, above_child, under}
-use Rattle.hv_order.specs.Trees.{Item, Task, Pre, Mem, Tree, AtOrBelow, its_pre, its_child, Reached, IsSubtask, IsTree}
+use Rattle.hv_plan.specs.Trees.{Item, Task, Pre, Mem, Tree, AtOrBelow, its_pre, its_child, Reached, IsSubtask, IsTree}
 use Rattle.hv_order.specs.Candidates.{Candidate, Choice, IsOrder, AreOrders}
 use Rattle.hv_order.specs.Precedence.{Precedes, of_pre, of_line, of_root}
 

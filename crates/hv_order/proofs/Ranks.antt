@@ -1,6 +1,6 @@
 -- The rank of an item: how many items come before it by the pairs of a network.
 use Rattle.std.proofs.Common.{◌≡◌, ℕ, ◌+◌, ◌<◌, ◌≤◌, List, [], ◌∷◌, refl, subst, inl, inr, arith, ◌⊎◌}
-use Rattle.hv_order.specs.Trees.{Item, Mem}
+use Rattle.hv_plan.specs.Trees.{Item, Mem}
 use Rattle.hv_order.proofs.Members.{same_item, first_same, second_same, pair_same}
 
 -- is the pair (x, y) in the list

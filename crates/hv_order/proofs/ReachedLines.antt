@@ -1,6 +1,6 @@
 -- Every line belongs to the tree: from the greatest number down.
 use Rattle.std.proofs.Common.{ℕ, zero, suc, ◌+◌, ◌<◌, ◌≤◌, inl, inr, arith, ◌⊎◌}
-use Rattle.hv_order.specs.Trees.{Task, Mem, Tree, Reached, IsTree}
+use Rattle.hv_plan.specs.Trees.{Task, Mem, Tree, Reached, IsTree}
 use Rattle.hv_order.specs.Laws.{ReachLaw}
 use Rattle.hv_order.proofs.Ancestry.{reached_initial, reached_child}
 

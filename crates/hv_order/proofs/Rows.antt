@@ -1,6 +1,6 @@
 -- The worked rows: their tables by computation, and what the laws make of them.
 use Rattle.std.proofs.Common.{◌≡◌, ℕ, zero, suc, Bool, true, List, [], ◌∷◌, refl, sym, ap, ◌∙◌, subst, inl, inr, arith}
-use Rattle.hv_order.specs.Trees.{Item, Act, Task, Pre, Mem, itself, its_child, IsSubtask, IsTree, IsWithin, HasActions}
+use Rattle.hv_plan.specs.Trees.{Item, Act, Task, Pre, Mem, itself, its_child, IsSubtask, IsTree, IsWithin, HasActions}
 use Rattle.hv_order.specs.Candidates.{Candidate, IsOrder}
 use Rattle.hv_order.specs.Tables.{IsSort, AreSorts, AreRootSorts}
 use Rattle.hv_order.specs.Rows.{is_same, unordered, one_pair, middle, middle_children, middle_lines, middle_sort, middle_roots, reversed_roots, own_lines, WorkedRows}

@@ -2,7 +2,7 @@
 -- step, and finishes as late as it may.
 use Rattle.std.proofs.Common.{◌≡◌, ℕ, zero, suc, ◌<◌, ◌≤◌, Bool, true, false, List, [], ◌∷◌, refl, sym, ap, ◌∙◌, subst, inl, inr, arith}
 use Rattle.std.specs.Prelude.{if◌then◌else◌, min}
-use Rattle.hv_order.specs.Trees.{Item, Act, Task, Pre, Mem, Tree, AtOrBelow, itself, its_pre, its_child, Reached, IsPrimitive, IsSubtask, IsTree, IsWithin}
+use Rattle.hv_plan.specs.Trees.{Item, Act, Task, Pre, Mem, Tree, AtOrBelow, itself, its_pre, its_child, Reached, IsPrimitive, IsSubtask, IsTree, IsWithin}
 use Rattle.hv_order.specs.Candidates.{Candidate, Choice, IsChoice}
 use Rattle.hv_order.specs.Precedence.{of_pre, of_line, of_root}
 use Rattle.hv_order.specs.Schedules.{ends, IsSchedule}

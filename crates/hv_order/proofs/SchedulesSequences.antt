@@ -2,7 +2,7 @@
 -- the indices gives a sequence.
 use Rattle.std.proofs.Common.{◌≡◌, ℕ, ◌+◌, ◌*◌, ◌<◌, ◌≤◌, true, List, [], ◌∷◌, refl, ap, inl, inr, arith, ◌⊎◌}
 use Rattle.std.proofs.lemmas.Bool.{cases_lt}
-use Rattle.hv_order.specs.Trees.{Item, Act, Task, Pre, Mem, Tree, Reached, IsPrimitive, IsTree}
+use Rattle.hv_plan.specs.Trees.{Item, Act, Task, Pre, Mem, Tree, Reached, IsPrimitive, IsTree}
 use Rattle.hv_order.specs.Candidates.{Choice, AreOrders}
 use Rattle.hv_order.specs.Networks.{Network, HasDerivation}
 use Rattle.hv_order.specs.Precedence.{IsEnd}

@@ -1,6 +1,6 @@
 -- Candidates, a derivation and a sequence exist exactly where the condition on the tree holds.
 use Rattle.std.proofs.Common.{ℕ, List}
-use Rattle.hv_order.specs.Trees.{Act, Tree, IsTree, IsWithin, HasActions}
+use Rattle.hv_plan.specs.Trees.{Act, Tree, IsTree, IsWithin, HasActions}
 use Rattle.hv_order.specs.Candidates.{Candidate, Choice, AreOrders, AreCandidates, IsChoice}
 use Rattle.hv_order.specs.Sequences.{HasSequence, Placed, HasSolution, CanBePlaced}
 use Rattle.hv_order.specs.Finishes.{FitsAll}

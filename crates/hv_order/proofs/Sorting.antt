@@ -1,6 +1,6 @@
 -- Sorting items by two numbers, and by their code where both are equal: a strict total order.
 use Rattle.std.proofs.Common.{◌≡◌, ℕ, ◌<◌, ◌≤◌, List, [], ◌∷◌, refl, sym, ap, ◌∙◌, subst, inl, inr, arith, ◌⊎◌}
-use Rattle.hv_order.specs.Trees.{Item, Mem, Distinct}
+use Rattle.hv_plan.specs.Trees.{Item, Mem, Distinct}
 use Rattle.hv_order.specs.Sequences.{Earlier}
 use Rattle.hv_order.proofs.Members.{code, code_once}
 

@@ -1,7 +1,7 @@
 -- Split: what stands outside a line precedes all items at and below the line or none, and comes
 -- behind all or none.
 use Rattle.std.proofs.Common.{ℕ, sym, subst}
-use Rattle.hv_order.specs.Trees.{Item, Task, Tree, AtOrBelow, its_pre, its_child, Reached, IsTree}
+use Rattle.hv_plan.specs.Trees.{Item, Task, Tree, AtOrBelow, its_pre, its_child, Reached, IsTree}
 use Rattle.hv_order.specs.Candidates.{Choice}
 use Rattle.hv_order.specs.Laws.{SplitLaw}
 use Rattle.hv_order.proofs.Ancestry.{under}

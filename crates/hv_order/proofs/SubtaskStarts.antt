@@ -1,6 +1,6 @@
 -- Where the first step at or below a subtask begins.
 use Rattle.std.proofs.Common.{◌≡◌, ℕ, refl}
-use Rattle.hv_order.specs.Trees.{Item, Act, Task, Pre, Tree, AtOrBelow, itself, its_pre, IsPrimitive, IsSubtask}
+use Rattle.hv_plan.specs.Trees.{Item, Act, Task, Pre, Tree, AtOrBelow, itself, its_pre, IsPrimitive, IsSubtask}
 use Rattle.hv_order.specs.Schedules.{begins}
 use Rattle.hv_order.specs.Certificates.{subtask_start}
 

@@ -1,6 +1,6 @@
 -- The table has the least finish for each start.
 use Rattle.std.proofs.Common.{◌≡◌, ℕ, zero, suc, ◌+◌, ◌-◌, ◌≤◌, true, List, [], arith, Option, Some, None}
-use Rattle.hv_order.specs.Trees.{Item, Act, Task, Pre, Mem}
+use Rattle.hv_plan.specs.Trees.{Item, Act, Task, Pre, Mem}
 use Rattle.hv_order.specs.Candidates.{Candidate, IsOrder}
 use Rattle.hv_order.specs.Finishes.{FitsBy, Fits}
 use Rattle.hv_order.specs.Tables.{IsLeast, and_then, first_index, layout_finish, candidate_finish, least_finish, IsSort}

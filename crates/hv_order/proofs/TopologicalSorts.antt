@@ -1,7 +1,7 @@
 -- A strict partial order on a list's members has a topological sort: by how many come before each.
 use Rattle.std.proofs.Common.{◌≡◌, ℕ, ◌+◌, ◌<◌, ◌≤◌, Bool, true, false, List, [], ◌∷◌, refl, subst, inl, inr, arith}
 use Rattle.std.specs.Prelude.{if◌then◌else◌}
-use Rattle.hv_order.specs.Trees.{Item, Mem}
+use Rattle.hv_plan.specs.Trees.{Item, Mem}
 use Rattle.hv_order.specs.Candidates.{IsOrder}
 use Rattle.hv_order.specs.Tables.{Respects, HasSort}
 use Rattle.hv_order.specs.Laws.{SortLaw}

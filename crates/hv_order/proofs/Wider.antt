@@ -1,6 +1,6 @@
 -- Exchange on the tree: what fits between two states fits between an earlier and a later one.
 use Rattle.std.proofs.Common.{ℕ, zero, suc, ◌≤◌, Bool, List, arith}
-use Rattle.hv_order.specs.Trees.{Item, Act, Task, Pre}
+use Rattle.hv_plan.specs.Trees.{Item, Act, Task, Pre}
 use Rattle.hv_order.specs.Finishes.{FitTogether, ActionFits, Fits}
 use Rattle.hv_order.specs.Laws.{WiderLaw}
 

@@ -1,7 +1,7 @@
 -- Split by indices: the steps of a line lie in a window that no other step meets.
 use Rattle.std.proofs.Common.{◌≡◌, ℕ, ◌≤◌, List, [], ◌∷◌, refl, ap, subst, inl, inr, arith, ◌⊎◌}
 use Rattle.std.specs.Prelude.{max}
-use Rattle.hv_order.specs.Trees.{Item, Task, Pre, Mem, Tree, AtOrBelow, itself, its_pre, Reached, IsPrimitive, IsTree, line_tree}
+use Rattle.hv_plan.specs.Trees.{Item, Task, Pre, Mem, Tree, AtOrBelow, itself, its_pre, Reached, IsPrimitive, IsTree, line_tree}
 use Rattle.hv_order.specs.Candidates.{AreOrders}
 use Rattle.hv_order.specs.Networks.{Network}
 use Rattle.hv_order.specs.Precedence.{Precedes, of_pre, of_line, of_root, IsEnd}

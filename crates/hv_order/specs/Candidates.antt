@@ -1,6 +1,6 @@
 -- Candidates: what may be chosen for each node of the tree, that is for each line and for the root.
 use Rattle.std.specs.Prelude.{◌≡◌, ℕ, Bool, true, false, List}
-use Rattle.hv_order.specs.Trees.{Item, Task, Mem, Tree, Reached}
+use Rattle.hv_plan.specs.Trees.{Item, Task, Mem, Tree, Reached}
 
 -- A candidate of a node is a matching of the node's children to the subtasks of its method, with an
 -- object for each parameter. Two things of it matter to the order of steps: which children must come

@@ -1,6 +1,6 @@
 -- What the check of a certificate looks at: a choice, and one index for each precondition step.
 use Rattle.std.specs.Prelude.{◌≡◌, ℕ, ◌+◌, ◌≤◌, true, ◌&&◌, ◌==◌}
-use Rattle.hv_order.specs.Trees.{Item, Act, Task, Pre, Mem, Tree, Reached}
+use Rattle.hv_plan.specs.Trees.{Item, Act, Task, Pre, Mem, Tree, Reached}
 use Rattle.hv_order.specs.Candidates.{Choice}
 
 -- the same choice with each precondition pinned to one index: it is true there, if it was, and

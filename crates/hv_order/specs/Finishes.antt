@@ -1,6 +1,6 @@
 -- The condition on the tree: when the steps at and below an item fit between two states.
 use Rattle.std.specs.Prelude.{◌≡◌, ℕ, zero, suc, ◌≤◌, ◌<◌, Bool, true, List}
-use Rattle.hv_order.specs.Trees.{Item, Act, Task, Pre, Mem, Tree}
+use Rattle.hv_plan.specs.Trees.{Item, Act, Task, Pre, Mem, Tree}
 use Rattle.hv_order.specs.Candidates.{Candidate, WithSome}
 
 -- The items of a list fit together between s and f, where Fit says between which states each fits:

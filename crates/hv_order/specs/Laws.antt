@@ -1,6 +1,6 @@
 -- The laws of hierarchical plans.
 use Rattle.std.specs.Prelude.{◌≡◌, ℕ, ◌≤◌, ◌<◌, Bool, List, [], ◌∷◌, ◌⊎◌, ◌↔◌, Option, Some, None}
-use Rattle.hv_order.specs.Trees.{Item, Task, Mem, Tree, AtOrBelow, Reached, IsTree, line_tree, IsWithin, HasActions}
+use Rattle.hv_plan.specs.Trees.{Item, Task, Mem, Tree, AtOrBelow, Reached, IsTree, line_tree, IsWithin, HasActions}
 use Rattle.hv_order.specs.Candidates.{Candidate, Choice, IsOrder, AreOrders, AreCandidates, free_candidate}
 use Rattle.hv_order.specs.Networks.{Network, Derives, HasDerivation}
 use Rattle.hv_order.specs.Precedence.{IsEnd, SameNetwork, IsSplit}

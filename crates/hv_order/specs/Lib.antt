@@ -1,4 +1,3 @@
-pub mod Trees
 pub mod Candidates
 pub mod Networks
 pub mod Precedence

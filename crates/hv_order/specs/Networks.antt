@@ -3,7 +3,7 @@
 -- place in the order. Here the network of a method holds one step more, the precondition step, which
 -- comes before all subtasks. It stays when the method has no subtask.
 use Rattle.std.specs.Prelude.{◌≡◌, ℕ, Bool, false, if◌then◌else◌, ◌==◌, List, [], ◌∷◌, ◌++◌, map}
-use Rattle.hv_order.specs.Trees.{Item, Act, Task, Pre, Mem, Distinct, Tree, Reached, IsPrimitive}
+use Rattle.hv_plan.specs.Trees.{Item, Act, Task, Pre, Mem, Distinct, Tree, Reached, IsPrimitive}
 use Rattle.hv_order.specs.Candidates.{Choice}
 
 -- Items, and pairs (x, y) of them where x must come before y. A list stands for the set of its members

@@ -1,6 +1,6 @@
 -- Which steps must come before which, said of the tree alone, with no derivation.
 use Rattle.std.specs.Prelude.{◌≡◌, ℕ, true, ◌↔◌}
-use Rattle.hv_order.specs.Trees.{Item, Task, Pre, Mem, Tree, AtOrBelow, Reached, IsPrimitive}
+use Rattle.hv_plan.specs.Trees.{Item, Task, Pre, Mem, Tree, AtOrBelow, Reached, IsPrimitive}
 use Rattle.hv_order.specs.Candidates.{Choice}
 use Rattle.hv_order.specs.Networks.{Network}
 

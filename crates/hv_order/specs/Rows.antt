@@ -1,6 +1,6 @@
 -- Worked rows: small plans as trees and candidates.
 use Rattle.std.specs.Prelude.{◌≡◌, ℕ, zero, suc, Bool, true, false, if◌then◌else◌, ◌==◌, ◌&&◌, ◌||◌, nat_le, List, [], ◌∷◌, Option, Some, None}
-use Rattle.hv_order.specs.Trees.{Item, Act, Task, Pre, Tree}
+use Rattle.hv_plan.specs.Trees.{Item, Act, Task, Pre, Tree}
 use Rattle.hv_order.specs.Candidates.{Candidate, Choice, free_candidate}
 use Rattle.hv_order.specs.Networks.{Network, initial_network, decomposition}
 use Rattle.hv_order.specs.Sequences.{HasSolution}

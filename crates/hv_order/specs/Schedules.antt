@@ -1,6 +1,6 @@
 -- Schedules: a state index for each precondition step, instead of a sequence.
 use Rattle.std.specs.Prelude.{◌≡◌, ℕ, ◌+◌, ◌≤◌, true}
-use Rattle.hv_order.specs.Trees.{Item, Act, Task, Pre, Tree, Reached, IsPrimitive, AtOrBelow, line_tree}
+use Rattle.hv_plan.specs.Trees.{Item, Act, Task, Pre, Tree, Reached, IsPrimitive, AtOrBelow, line_tree}
 use Rattle.hv_order.specs.Candidates.{Choice, free_candidate}
 use Rattle.hv_order.specs.Precedence.{Precedes}
 

@@ -1,6 +1,6 @@
 -- Sequences of the steps of a plan: linearizations of the network at the end of a derivation.
 use Rattle.std.specs.Prelude.{◌≡◌, ℕ, ◌+◌, ◌≤◌, true, ◌⊎◌, List, [], ◌∷◌}
-use Rattle.hv_order.specs.Trees.{Item, Act, Task, Pre, Mem, Distinct, Tree}
+use Rattle.hv_plan.specs.Trees.{Item, Act, Task, Pre, Mem, Distinct, Tree}
 use Rattle.hv_order.specs.Candidates.{Candidate, Choice, IsChoice}
 use Rattle.hv_order.specs.Networks.{Network, Derives}
 

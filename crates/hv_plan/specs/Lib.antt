@@ -7,3 +7,17 @@ pub mod LineViews
 pub mod Views
 pub mod Canonical
 pub mod Bare
+pub mod Trees
+pub mod Shapes
+pub mod Fits
+pub mod Causes
+pub mod PlanTrees
+pub mod TreeViews
+pub mod LineFaults
+pub mod FitViews
+pub mod Shaping
+pub mod ShapeCauses
+pub mod ShapeViews
+pub mod Tallies
+pub mod ChildFaults
+pub mod NodeViews

@@ -1,5 +1,6 @@
 //! Why a text holds no plan.
 
+use hv_text::Memory;
 use std::alloc::AllocFailed;
 
 /// Why a text holds no plan, with the number of the line where there is one.
@@ -23,6 +24,17 @@ pub enum PlanFault {
     RepeatedRoot(u32),
     /// A growth of memory was refused.
     Memory,
+}
+
+impl From<Memory> for PlanFault {
+    ghost use Rattle.std.specs.Prelude.{◌≡◌};
+    ghost use Rattle.hv_plan.specs.declared.fault.PlanFault.TheVariants as faults;
+
+    ghost from_gives = { λ _ e. e ≡ faults.Memory };
+
+    fn from(_refused: Memory) -> PlanFault {
+        PlanFault::Memory
+    }
 }
 
 impl<T: Drop> From<AllocFailed<T>> for PlanFault {

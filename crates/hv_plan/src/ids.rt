@@ -6,8 +6,8 @@ ghost use Rattle.hv_plan.specs.Forms.{every, id_at};
 ghost use Rattle.hv_plan.specs.Views.{as_ids, ids_view};
 
 use crate::id::{Id, id_at};
-use hv_text::Word;
-use std::alloc::{AllocFailed, Global};
+use hv_text::{Memory, Word};
+use std::alloc::Global;
 
 /// What words are as ids: ids of 64 bits, ids of which some is larger, or not all of them ids.
 #[derive(Drop)]
@@ -22,10 +22,10 @@ pub(crate) enum Ids {
 /// # Errors
 ///
 /// Where a growth of memory was refused.
-pub(crate) fn read_ids(alloc: Global, words: &[Word<'_>]) -> Result<Ids, AllocFailed<u64>>
+pub(crate) fn read_ids(alloc: Global, words: &[Word<'_>]) -> Result<Ids, Memory>
     ensures { IfOk result (λ is. ids_view is ≡ as_ids (every id_at (map piece_of words.now))) }
 {
-    let mut ids = Vec::new(alloc);
+    let mut ids = Vec::with_capacity(alloc, words.len())?;
     let mut fits = true;
     for word in words {
         match id_at(*word) {

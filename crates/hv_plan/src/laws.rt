@@ -1,4 +1,4 @@
-//! What is read of a plan is what the table of its lines spells.
+//! What is read of a plan is what the table of its lines spells; and its lines form a tree or have a cause.
 
 ghost use Rattle.hv_text.specs.declared.fault.TheConstants.{MOST_BYTES};
 ghost use Rattle.std.specs.Prelude.{◌≡◌, ◌↔◌, ◌⊎◌, ◌≤◌, ℕ, List, Some, false, length};
@@ -10,6 +10,11 @@ ghost use Rattle.hv_plan.specs.Plans.{IsBody, fault_from};
 ghost use Rattle.hv_plan.specs.Spellings.{SpellsForm, SayPlan, IsFirstFault, IsPlan, IsPlanFault};
 ghost use Rattle.hv_plan.specs.Canonical.{plan_text};
 ghost use Rattle.hv_plan.specs.Bare.{bare_plan};
+ghost use Rattle.hv_world.specs.Worlds.{World};
+ghost use Rattle.hv_plan.specs.Shapes.{FormTree};
+ghost use Rattle.hv_plan.specs.Fits.{FitWorld};
+ghost use Rattle.hv_plan.specs.Causes.{Qualifies};
+ghost use Rattle.hv_plan.specs.declared.cause.CauseKind.{CauseKind};
 ghost use Rattle.hv_plan.specs.declared.fault.PlanFault.{PlanFault};
 ghost use Rattle.hv_plan.specs.declared.fault.PlanFault.TheVariants as faults;
 
@@ -38,4 +43,9 @@ pub fn a_plan_or_a_fault()
 pub fn plans_are_read_back()
     ensures back { (text : List ℕ) (p : Plan) → IsPlan text p → length (plan_text p) ≤ MOST_BYTES → (q : Plan) × IsPlan (plan_text p) q × (bare_plan q ≡ bare_plan p) }
     ensures again { (text : List ℕ) (p q : Plan) → IsPlan text p → IsPlan (plan_text p) q → plan_text q ≡ plan_text p }
+{}
+
+/// Lines that form a tree that fits a world qualify for no cause.
+pub fn a_tree_or_a_cause()
+    ensures { (w : World) (p : Plan) (k : CauseKind) (l : ℕ) → FormTree p → FitWorld w p → Qualifies w p k l → ⊥ }
 {}

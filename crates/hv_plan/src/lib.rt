@@ -2,7 +2,11 @@
 
 #![tactic(auto)]
 
+mod assemble;
+mod build;
+mod cause;
 mod fault;
+mod fit;
 mod form;
 mod id;
 mod ids;
@@ -11,13 +15,17 @@ mod lines;
 mod plan;
 mod print;
 mod read;
+mod shape;
+mod subtasks;
 mod task;
+mod tree;
 
+pub use cause::{Cause, CauseKind, TreeFault};
 pub use fault::PlanFault;
-pub use laws::{a_plan_or_a_fault, forms_are_spelled, plans_are_read_back, plans_are_spelled};
+pub use laws::{
+    a_plan_or_a_fault, a_tree_or_a_cause, forms_are_spelled, plans_are_read_back, plans_are_spelled,
+};
 pub use plan::{ActionLine, DecompositionLine, PlanText};
 pub use print::print_plan;
 pub use read::read_plan;
-
-#[cfg(test)]
-mod tests;
+pub use tree::{Child, Node, Tree};

@@ -6,6 +6,7 @@ ghost use Rattle.hv_plan.specs.Lines.{is_end, is_start, behind_start, before_end
 ghost use Rattle.hv_plan.specs.LineViews.{plan_view};
 ghost use Rattle.hv_plan.specs.Views.{lines_left, IsWithin};
 ghost use Rattle.hv_plan.specs.Plans.{IsBody, IsBodyFault, IsPlanRead, IsFaultRead};
+ghost use Rattle.hv_plan.specs.Shapes.{IsInTextOrder};
 ghost use Rattle.hv_plan.specs.Spellings.{IsPlan, IsPlanFault};
 
 use crate::fault::PlanFault;
@@ -23,6 +24,7 @@ use std::alloc::Global;
 /// before `BadLine`, that before `IdTooLarge`, and that before `RepeatedRoot`. `Memory` where a growth was refused.
 pub fn read_plan<'s>(alloc: Global, text: &'s [u8]) -> Result<PlanText<'s>, PlanFault>
     ensures ok { IfOk result (λ p. IsPlan text.now (plan_view p)) }
+    ensures order { IfOk result (λ p. IsInTextOrder (plan_view p)) }
     ensures err { IfErr result (λ f. IsPlanFault text.now f) }
 {
     read_text(alloc, text)

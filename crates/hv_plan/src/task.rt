@@ -7,8 +7,8 @@ ghost use Rattle.hv_text.specs.Names.{text_of};
 ghost use Rattle.hv_plan.specs.Forms.{every, name_at, bare, inside, task_of};
 ghost use Rattle.hv_plan.specs.Views.{task_view};
 
-use hv_text::{Name, Word};
-use std::alloc::{AllocFailed, Global};
+use hv_text::{Memory, Name, Word};
+use std::alloc::Global;
 
 /// A task: its name and its arguments.
 #[derive(Drop)]
@@ -25,7 +25,7 @@ pub(crate) struct TaskText<'s> {
 pub(crate) fn read_task<'s>(
     alloc: Global,
     words: &[Word<'s>],
-) -> Result<Option<TaskText<'s>>, AllocFailed<Name<'s>>>
+) -> Result<Option<TaskText<'s>>, Memory>
     ensures { IfOk result (λ t. option_map task_view t ≡ task_of (map piece_of words.now)) }
 {
     let Some(words) = bare(words) else {
@@ -81,13 +81,10 @@ pub(crate) fn name_at<'s>(word: Word<'s>) -> Option<Name<'s>>
 }
 
 // The names that words are, where each is one.
-fn read_names<'s>(
-    alloc: Global,
-    words: &[Word<'s>],
-) -> Result<Option<Vec<Name<'s>>>, AllocFailed<Name<'s>>>
+fn read_names<'s>(alloc: Global, words: &[Word<'s>]) -> Result<Option<Vec<Name<'s>>>, Memory>
     ensures { IfOk result (λ names. option_map (λ ns. map text_of ns.items) names ≡ every name_at (map piece_of words.now)) }
 {
-    let mut names = Vec::new(alloc);
+    let mut names = Vec::with_capacity(alloc, words.len())?;
     for word in words {
         let Some(name) = name_at(*word) else {
             return Ok(None);

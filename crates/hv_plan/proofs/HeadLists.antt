@@ -1,0 +1,43 @@
+-- Lists over the lines of a plan, and the steps of loops that make them.
+use Rattle.std.proofs.Common.{◌≡◌, ◌+◌, ◌<◌, ℕ, List, [], ◌∷◌, ◌++◌, map, refl, sym, ap, ◌∙◌, arith, length, drop, get_or, slice_index}
+use Rattle.std.proofs.lemmas.List.{map-append, append_assoc, drop_more}
+use Rattle.hv_plan.specs.Values.{Action, Decomposition, Plan}
+use Rattle.hv_plan.specs.Shapes.{head, heads, ids}
+use Rattle.hv_plan.specs.Shaping.{lines_of_heads}
+
+-- the ids of actions, and those of decomposition lines behind them; and so with their numbers
+abbrev pub action_ids : Plan → List ℕ
+action_ids p = map (λ a. a.id) p.actions
+
+abbrev pub decomposition_ids : Plan → List ℕ
+decomposition_ids p = map (λ d. d.id) p.decompositions
+
+heads_ids : (ds : List Decomposition) → map (λ (a : Action). a.id) (map head ds) ≡ map (λ d. d.id) ds
+heads_ids [] = refl
+heads_ids (d ∷ ds) = ap (λ xs. d.id ∷ xs) (heads_ids ds)
+
+heads_lines : (ds : List Decomposition) → map (λ (a : Action). a.line) (map head ds) ≡ map (λ d. d.line) ds
+heads_lines [] = refl
+heads_lines (d ∷ ds) = ap (λ xs. d.line ∷ xs) (heads_lines ds)
+
+pub ids_are : (p : Plan) → ids p ≡ action_ids p ++ decomposition_ids p
+ids_are p = map-append (λ (a : Action). a.id) p.actions (map head p.decompositions) ∙ ap (λ xs. action_ids p ++ xs) (heads_ids p.decompositions)
+
+pub lines_are : (p : Plan) → lines_of_heads p ≡ map (λ a. a.line) p.actions ++ map (λ d. d.line) p.decompositions
+lines_are p = map-append (λ (a : Action). a.line) p.actions (map head p.decompositions) ∙ ap (λ xs. map (λ (a : Action). a.line) p.actions ++ xs) (heads_lines p.decompositions)
+
+-- the step of a loop that pushes what a function gives of each
+pub push_next : {Y : Type 0} (f : ℕ → Y) (xs : List ℕ) (i : ℕ) (old new all : List Y) → i < length xs → new ≡ old ++ f (slice_index xs i) ∷ []
+    → old ++ map f (drop i xs) ≡ all → new ++ map f (drop (i + 1) xs) ≡ all
+push_next f xs i old new all lt pushed so_far =
+    ap (λ ys. ys ++ map f (drop (i + 1) xs)) pushed ∙ append_assoc old (f (slice_index xs i) ∷ []) (map f (drop (i + 1) xs))
+    ∙ ap (λ ys. old ++ map f ys) (sym (drop_more xs i 0 lt)) ∙ so_far
+
+-- the step of a loop that appends a list for each
+pub append_next : {X Y : Type 0} (f : List X → List Y) (g : X → List Y) → ((x : X) (xs : List X) → f (x ∷ xs) ≡ g x ++ f xs)
+    → (xs : List X) (i : ℕ) (x : X) (old new all : List Y) → i < length xs → x ≡ get_or xs i x → new ≡ old ++ g x
+    → old ++ f (drop i xs) ≡ all → new ++ f (drop (i + 1) xs) ≡ all
+append_next f g cons xs i x old new all lt is appended so_far =
+    ap (λ ys. ys ++ f (drop (i + 1) xs)) appended ∙ append_assoc old (g x) (f (drop (i + 1) xs))
+    ∙ ap (λ ys. old ++ ys) (sym (cons x (drop (i + 1) xs)))
+    ∙ ap (λ ys. old ++ f ys) (sym (drop_more xs i x lt ∙ ap (λ y. y ∷ drop (i + 1) xs) (sym is))) ∙ so_far

@@ -1,0 +1,17 @@
+use Rattle.std.proofs.Common.{◌≡◌, ◌∙◌, map, length, sym, arith}
+use Rattle.std.proofs.lemmas.List.{length-map}
+use Rattle.hv_world.specs.Views.{name_view, subtask_view}
+use Rattle.hv_plan.specs.Fits.{names_of}
+use Rattle.hv_plan.specs.Tallies.{count, names}
+use Rattle.hv_plan.proofs.subtasks.names_fault.Goals as goal
+
+pub returns-then-names-subtasks-clause-fault : goal.returns-then-names-subtasks-clause-fault
+returns-then-names-subtasks-clause-fault c =
+    count (λ same. let e : length c.args.names.now ≡ length c.args.subtasks.now = sym (length-map c.args.names.now name_view) ∙ same ∙ length-map (map subtask_view c.args.subtasks.now) (λ x. x.name) ∙ length-map c.args.subtasks.now subtask_view in
+    omega (arith, e, c.if-names-subtasks.true))
+
+pub returns-else-branch-clause-fault : goal.returns-else-branch-clause-fault
+returns-else-branch-clause-fault c =
+    let e : length c.args.names.now ≡ length c.args.subtasks.now = omega (arith, c.if-names-subtasks.false) in
+    let (n, differ) = rw c.if-branch.false at c.in_ok-have_same_names.ensures.same in
+    names (length-map c.args.names.now name_view ∙ e ∙ sym (length-map (map subtask_view c.args.subtasks.now) (λ x. x.name) ∙ length-map c.args.subtasks.now subtask_view)) n differ

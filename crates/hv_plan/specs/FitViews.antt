@@ -1,0 +1,42 @@
+-- What the code finds that lines say.
+use Rattle.std.specs.Prelude.{◌≡◌, ℕ, List, [], ◌∷◌, Option, Some, None, option_map, option_and_then, Result, Ok, Err, map, slice_get, MatchOption}
+use Rattle.std.specs.List.{AllZip}
+use Rattle.hv_world.specs.Bindings.{GroundAction, object_number}
+use Rattle.hv_world.specs.Values.{TaskName, compound, primitive}
+use Rattle.hv_world.specs.Worlds.{World, method_named}
+use Rattle.hv_plan.specs.Values.{Decomposition}
+use Rattle.hv_plan.specs.Shapes.{head}
+use Rattle.hv_plan.specs.Trees.{Item, Act, Task, Pre}
+use Rattle.hv_plan.specs.Fits.{IsForTask, Says}
+use Rattle.hv_plan.specs.LineFaults.{Entry, IsEarliest, FaultIn}
+use Rattle.hv_plan.specs.declared.cause.CauseKind.{CauseKind}
+use Rattle.hv_plan.specs.declared.cause.Cause.{Cause}
+use Rattle.hv_plan.specs.declared.fit.Decomposed.{Decomposed}
+
+-- what a decomposition line says: its task with the objects, and a method for it
+pub record IsDecomposed (w : World) (d : Decomposition) (x : Decomposed) : Type 0 where
+  pub says : Says w (head d) (compound x.task.0) (map object_number x.objects.items)
+  pub named : method_named w d.method ≡ Some x.method.0
+  pub is_for : MatchOption (slice_get w.methods x.method.0) ⊥ (λ m. IsForTask m.task x.task.0)
+
+-- what a line was found to say, and the cause where it was found at fault
+abbrev pub kept : {X : Type 0} → Result X CauseKind → List X
+kept (Ok x) = x ∷ []
+kept (Err k) = []
+
+abbrev pub cause_at : {X : Type 0} → Result X CauseKind → ℕ → Option Cause
+cause_at (Ok x) l = None
+cause_at (Err k) l = Some (record { kind = k; line = l })
+
+-- The cause that is reported of those for which one of these lines is at fault by itself; and where
+-- there is none, what each line says
+pub record AreFitted {D N : Type 0} (w : World) (entry : D → Entry) (Is : D → N → Type 0) (ds : List D) (ns : List N) (c : Option Cause) : Type 0 where
+  pub cause : IsEarliest (FaultIn w (map entry ds)) c
+  pub said : c ≡ None → AllZip Is ds ns
+
+-- the action or the task of an item, by the actions, by what the decomposition lines say, and by the
+-- place of the line of each node
+abbrev pub item_name : List GroundAction → List Decomposed → List ℕ → Item → Option TaskName
+item_name as' ds places (Act k) = option_map (λ a. primitive a.action) (slice_get as' k)
+item_name as' ds places (Task v) = option_and_then (λ k. option_map (λ d. compound d.task.0) (slice_get ds k)) (slice_get places v)
+item_name as' ds places (Pre v) = None

@@ -1,0 +1,249 @@
+//! The tree of a plan is built.
+
+ghost use Rattle.std.specs.Prelude.{◌≡◌, ◌+◌, ◌<◌, ℕ, List, [], ◌∷◌, Some, map, length, get_or, slice_get, IfOk, IfErr, OnOk};
+ghost use Rattle.hv_world.specs.MethodViews.{method_view};
+ghost use Rattle.hv_world.specs.Values.{TaskName};
+ghost use Rattle.hv_world.specs.Worlds as value;
+ghost use Rattle.hv_world.specs.WorldViews.{world_view};
+ghost use Rattle.hv_plan.specs.Causes.{IsTreeFault};
+ghost use Rattle.hv_plan.specs.ChildFaults.{AreNumbered, AreSizes, ChildFaultIn, IsMethodCause, IsSaid, said_name};
+ghost use Rattle.hv_plan.specs.Fits.{FitWorld, names_of};
+ghost use Rattle.hv_plan.specs.FitViews.{IsDecomposed};
+ghost use Rattle.hv_world.specs.Bindings.{ground_action_view};
+ghost use Rattle.std.specs.List.{AllZip};
+ghost use Rattle.hv_plan.specs.Forms.{every};
+ghost use Rattle.hv_plan.specs.LineFaults.{IsEarliest};
+ghost use Rattle.hv_plan.specs.LineViews.{decomposition_view, plan_view};
+ghost use Rattle.hv_plan.specs.PlanTrees.{IsActionOf, IsTreeOf};
+ghost use Rattle.hv_plan.specs.Shapes.{FormTree, IsInTextOrder, line_parent, parents};
+ghost use Rattle.hv_plan.specs.ShapeViews.{shape_view, IsShape};
+ghost use Rattle.hv_plan.specs.declared.plan.DecompositionLine.{DecompositionLine};
+ghost use Rattle.hv_plan.specs.TreeViews.{child_view, tree_view};
+
+use crate::assemble::{nodes_of, tree_of};
+use crate::cause::{Cause, TreeFault, earlier};
+use crate::fit::all::{Fits, fit};
+use crate::plan::PlanText;
+use crate::shape::{Shape, shape_of};
+use crate::subtasks::names::{Said, Sizes};
+use crate::subtasks::names_fault;
+use crate::tree::{Child, Tree};
+use hv_text::Memory;
+use hv_world::{Method, MethodId, World};
+use std::alloc::Global;
+
+// What the children of all lines are checked by: the method of a line, and what names its children.
+#[derive(Clone, Copy)]
+struct Methods<'a, 's> {
+    world: &'a World<'s>,
+    sizes: Sizes,
+    said: Said<'a>,
+}
+
+impl Methods<'_, '_> {
+    // The cause for which the children of a line are not as the subtasks of a method.
+    fn method_cause(
+        &self,
+        alloc: Global,
+        counts: &mut [usize],
+        line: u32,
+        method: &Method<'_>,
+        children: &[Child],
+    ) -> Result<Option<Cause>, Memory>
+        requires size { length counts.old ≡ self.now.sizes.tasks + self.now.sizes.actions }
+        requires empty { (n : ℕ) → get_or counts.old n 0 ≡ 0 }
+        requires known { AreNumbered self.now.sizes.tasks self.now.sizes.actions (said_name self.now.said) (map child_view children.now) }
+        ensures size { length counts.new ≡ length counts.old }
+        ensures empty { OnOk result ((n : ℕ) → get_or counts.new n 0 ≡ 0) }
+        ensures cause { IfOk result (λ o. (ns : List TaskName) → every (said_name self.now.said) (map child_view children.now) ≡ Some ns → IsMethodCause ns (names_of (method_view method.now).network.subtasks) line o) }
+    {
+        let Some(names) = self.said.names(alloc, children)? else {
+            return Ok(None);
+        };
+        let subtasks = method.network().subtasks();
+        match names_fault(alloc, self.sizes, counts, &names, subtasks)? {
+            Some(kind) => Ok(Some(Cause { kind, line })),
+            None => Ok(None),
+        }
+    }
+
+    // The cause for which the children of a decomposition line are not as the subtasks of its method.
+    fn line_cause(
+        &self,
+        alloc: Global,
+        counts: &mut [usize],
+        line: u32,
+        method: MethodId,
+        children: &[Child],
+    ) -> Result<Option<Cause>, Memory>
+        requires size { length counts.old ≡ self.now.sizes.tasks + self.now.sizes.actions }
+        requires empty { (n : ℕ) → get_or counts.old n 0 ≡ 0 }
+        requires known { AreNumbered self.now.sizes.tasks self.now.sizes.actions (said_name self.now.said) (map child_view children.now) }
+        ensures size { length counts.new ≡ length counts.old }
+        ensures empty { OnOk result ((n : ℕ) → get_or counts.new n 0 ≡ 0) }
+        ensures cause { IfOk result (λ o. (m : value.Method) (ns : List TaskName) → slice_get (world_view self.now.world.now).methods method.0 ≡ Some m → every (said_name self.now.said) (map child_view children.now) ≡ Some ns → IsMethodCause ns (names_of m.network.subtasks) line o) }
+    {
+        match self.world.method(method) {
+            Some(method) => self.method_cause(alloc, counts, line, method, children),
+            None => Ok(None),
+        }
+    }
+
+    // The cause for which the children of the decomposition line at a place are not as the subtasks
+    // of its method.
+    fn place_cause(
+        &self,
+        alloc: Global,
+        counts: &mut [usize],
+        plan: &PlanText<'_>,
+        shape: &Shape,
+        place: usize,
+    ) -> Result<Option<Cause>, Memory>
+        requires place { place < length plan.now.decompositions.items }
+        requires form { FormTree (plan_view plan.now) }
+        requires shape { IsShape (plan_view plan.now) (shape_view shape.now) }
+        requires said { IsSaid (world_view self.now.world.now) (plan_view plan.now) (shape_view shape.now) self.now.said }
+        requires sizes { AreSizes (world_view self.now.world.now) self.now.sizes.tasks self.now.sizes.actions }
+        requires size { length counts.old ≡ self.now.sizes.tasks + self.now.sizes.actions }
+        requires empty { (n : ℕ) → get_or counts.old n 0 ≡ 0 }
+        ensures size { length counts.new ≡ length counts.old }
+        ensures empty { OnOk result ((n : ℕ) → get_or counts.new n 0 ≡ 0) }
+        ensures cause { IfOk result (λ o. (d : DecompositionLine) → d ≡ get_or plan.now.decompositions.items place d → IsEarliest (ChildFaultIn (world_view self.now.world.now) (plan_view plan.now) (line_parent (decomposition_view d) ∷ [])) o) }
+    {
+        let line = plan.decompositions[place].line;
+        let Some(said) = self.said.lines.get(place) else {
+            return Ok(None);
+        };
+        let children = &shape.children[shape.numbers[place]];
+        self.line_cause(alloc, counts, line, said.method, children)
+    }
+
+    // The cause that is reported of those for which the children of a decomposition line are not as
+    // the subtasks of its method.
+    fn lines_cause(
+        &self,
+        alloc: Global,
+        counts: &mut [usize],
+        plan: &PlanText<'_>,
+        shape: &Shape,
+    ) -> Result<Option<Cause>, Memory>
+        requires form { FormTree (plan_view plan.now) }
+        requires shape { IsShape (plan_view plan.now) (shape_view shape.now) }
+        requires said { IsSaid (world_view self.now.world.now) (plan_view plan.now) (shape_view shape.now) self.now.said }
+        requires sizes { AreSizes (world_view self.now.world.now) self.now.sizes.tasks self.now.sizes.actions }
+        requires size { length counts.old ≡ self.now.sizes.tasks + self.now.sizes.actions }
+        requires empty { (n : ℕ) → get_or counts.old n 0 ≡ 0 }
+        ensures { IfOk result (λ o. IsEarliest (ChildFaultIn (world_view self.now.world.now) (plan_view plan.now) (map line_parent (plan_view plan.now).decompositions)) o) }
+    {
+        let mut cause = None;
+        for place in 0..plan.decompositions.len() {
+            let found = self.place_cause(alloc, counts, plan, shape, place)?;
+            cause = earlier(cause, found);
+        }
+        Ok(cause)
+    }
+}
+
+// As many zeros.
+fn zeros(alloc: Global, count: usize) -> Result<Vec<usize>, Memory>
+    ensures { IfOk result (λ v. (length v.items ≡ count) × ((n : ℕ) → get_or v.items n 0 ≡ 0)) }
+{
+    let mut counts = Vec::new(alloc);
+    for _ in 0..count {
+        counts.push(0)?;
+    }
+    Ok(counts)
+}
+
+// The cause that is reported of those for which the children of a line are not as the subtasks of
+// its method, where there are so many tasks and actions.
+fn children_cause(
+    alloc: Global,
+    methods: &Methods<'_, '_>,
+    plan: &PlanText<'_>,
+    shape: &Shape,
+) -> Result<Option<Cause>, Memory>
+    requires form { FormTree (plan_view plan.now) }
+    requires shape { IsShape (plan_view plan.now) (shape_view shape.now) }
+    requires said { IsSaid (world_view methods.now.world.now) (plan_view plan.now) (shape_view shape.now) methods.now.said }
+    requires sizes { AreSizes (world_view methods.now.world.now) methods.now.sizes.tasks methods.now.sizes.actions }
+    ensures { IfOk result (λ o. IsEarliest (ChildFaultIn (world_view methods.now.world.now) (plan_view plan.now) (parents (plan_view plan.now))) o) }
+{
+    let mut counts = zeros(alloc, methods.sizes.tasks + methods.sizes.actions)?;
+    let children = &shape.children[shape.lines.len()];
+    let top = methods.world.top();
+    let root = methods.method_cause(alloc, &mut counts, plan.root_line, top, children)?;
+    let lines = methods.lines_cause(alloc, &mut counts, plan, shape)?;
+    Ok(earlier(root, lines))
+}
+
+// Whether the children of each line are as the subtasks of its method.
+fn check_children<'s>(
+    alloc: Global,
+    world: &World<'s>,
+    plan: &PlanText<'s>,
+    shape: &Shape,
+    fits: &Fits,
+) -> Result<(), TreeFault>
+    requires form { FormTree (plan_view plan.now) }
+    requires shape { IsShape (plan_view plan.now) (shape_view shape.now) }
+    requires actions { AllZip (IsActionOf (world_view world.now)) (plan_view plan.now).actions (map ground_action_view fits.now.actions.items) }
+    requires lines { AllZip (IsDecomposed (world_view world.now)) (plan_view plan.now).decompositions fits.now.lines.items }
+    ensures ok { OnOk result (FitWorld (world_view world.now) (plan_view plan.now)) }
+    ensures err { IfErr result (IsTreeFault (world_view world.now) (plan_view plan.now)) }
+{
+    let Some(sizes) = Sizes::of(world) else {
+        return Err(TreeFault::Memory);
+    };
+    let said = Said {
+        actions: &fits.actions,
+        lines: &fits.lines,
+        places: &shape.lines,
+    };
+    let methods = Methods { world, sizes, said };
+    match children_cause(alloc, &methods, plan, shape)? {
+        Some(cause) => Err(TreeFault::Cause(cause)),
+        None => Ok(()),
+    }
+}
+
+// The tree of a plan of this shape.
+fn build_shaped<'s>(
+    alloc: Global,
+    world: &World<'s>,
+    plan: &PlanText<'s>,
+    shape: Shape,
+) -> Result<Tree, TreeFault>
+    requires form { FormTree (plan_view plan.now) }
+    requires shape { IsShape (plan_view plan.now) (shape_view shape) }
+    ensures ok { IfOk result (λ t. FitWorld (world_view world.now) (plan_view plan.now) × IsTreeOf (world_view world.now) (plan_view plan.now) (tree_view t)) }
+    ensures err { IfErr result (IsTreeFault (world_view world.now) (plan_view plan.now)) }
+{
+    let fits = fit(alloc, world, plan)?;
+    check_children(alloc, world, plan, &shape, &fits)?;
+    let Fits { actions, lines } = fits;
+    let nodes = nodes_of(alloc, plan, shape, lines)?;
+    let tree = tree_of(alloc, plan, actions, nodes)?;
+    Ok(tree)
+}
+
+impl Tree {
+    /// The tree that the lines of a plan form.
+    ///
+    /// # Errors
+    ///
+    /// The cause of the smallest number that a line qualifies for, at the first such line; or want
+    /// of memory, where a growth was refused.
+    pub fn build<'s>(
+        alloc: Global,
+        world: &World<'s>,
+        plan: &PlanText<'s>,
+    ) -> Result<Tree, TreeFault>
+        requires { IsInTextOrder (plan_view plan.now) }
+        ensures ok { IfOk result (λ t. FormTree (plan_view plan.now) × FitWorld (world_view world.now) (plan_view plan.now) × IsTreeOf (world_view world.now) (plan_view plan.now) (tree_view t)) }
+        ensures err { IfErr result (IsTreeFault (world_view world.now) (plan_view plan.now)) }
+    {
+        let shape = shape_of(alloc, plan)?;
+        build_shaped(alloc, world, plan, shape)
+    }
+}

@@ -1,0 +1,116 @@
+//! What all lines of a plan say, or the cause that is reported of those for which a line is at fault by itself.
+
+ghost use Rattle.std.specs.Prelude.{◌≡◌, ◌++◌, map, IfOk, IfErr, OnOk};
+ghost use Rattle.std.specs.List.{AllZip};
+ghost use Rattle.hv_world.specs.Bindings.{ground_action_view};
+ghost use Rattle.hv_world.specs.WorldViews.{world_view};
+ghost use Rattle.hv_plan.specs.Causes.{IsTreeFault};
+ghost use Rattle.hv_plan.specs.FitViews.{IsDecomposed, AreFitted, kept, cause_at};
+ghost use Rattle.hv_plan.specs.LineFaults.{action_entry, line_entry, earlier};
+ghost use Rattle.hv_plan.specs.LineViews.{action_view, decomposition_view, plan_view};
+ghost use Rattle.hv_plan.specs.PlanTrees.{IsActionOf};
+ghost use Rattle.hv_plan.specs.Shapes.{FormTree};
+
+use crate::cause::{Cause, CauseKind, TreeFault, earlier};
+use crate::fit::{Decomposed, fit_action, fit_line};
+use crate::plan::{ActionLine, DecompositionLine, PlanText};
+use hv_text::Memory;
+use hv_world::{GroundAction, World};
+use std::alloc::Global;
+
+/// What the lines of a plan say: the action of each action line, and what each decomposition line says.
+#[derive(Drop)]
+pub(crate) struct Fits {
+    pub(crate) actions: Vec<GroundAction>,
+    pub(crate) lines: Vec<Decomposed>,
+}
+
+// What action lines say, and the cause that is reported of them.
+#[derive(Drop)]
+struct FittedActions {
+    actions: Vec<GroundAction>,
+    cause: Option<Cause>,
+}
+
+// What decomposition lines say, and the cause that is reported of them.
+#[derive(Drop)]
+struct FittedLines {
+    lines: Vec<Decomposed>,
+    cause: Option<Cause>,
+}
+
+// Notes what a line says, or the cause where it comes before the one that was found.
+fn note<T: Drop>(
+    items: &mut Vec<T>,
+    cause: &mut Option<Cause>,
+    fit: Result<T, CauseKind>,
+    line: u32,
+) -> Result<(), Memory>
+    ensures items { OnOk result (items.new.items ≡ items.old.items ++ kept fit) }
+    ensures cause { OnOk result (cause.new ≡ earlier cause.old (cause_at fit line)) }
+{
+    match fit {
+        Ok(item) => items.push(item)?,
+        Err(kind) => *cause = earlier(*cause, Some(Cause { kind, line })),
+    }
+    Ok(())
+}
+
+// What action lines say.
+fn fit_actions<'s>(
+    alloc: Global,
+    world: &World<'s>,
+    lines: &[ActionLine<'s>],
+) -> Result<FittedActions, Memory>
+    ensures { IfOk result (λ f. AreFitted (world_view world.now) action_entry (IsActionOf (world_view world.now)) (map action_view lines.now) (map ground_action_view f.actions.items) f.cause) }
+{
+    let mut actions = Vec::with_capacity(alloc, lines.len())?;
+    let mut cause = None;
+    for line in lines {
+        let fit = fit_action(alloc, world, line)?;
+        note(&mut actions, &mut cause, fit, line.line)?;
+    }
+    Ok(FittedActions { actions, cause })
+}
+
+// What decomposition lines say.
+fn fit_lines<'s>(
+    alloc: Global,
+    world: &World<'s>,
+    decompositions: &[DecompositionLine<'s>],
+) -> Result<FittedLines, Memory>
+    ensures { IfOk result (λ f. AreFitted (world_view world.now) line_entry (IsDecomposed (world_view world.now)) (map decomposition_view decompositions.now) f.lines.items f.cause) }
+{
+    let mut lines = Vec::with_capacity(alloc, decompositions.len())?;
+    let mut cause = None;
+    for line in decompositions {
+        let fit = fit_line(alloc, world, line)?;
+        note(&mut lines, &mut cause, fit, line.line)?;
+    }
+    Ok(FittedLines { lines, cause })
+}
+
+/// What the lines of a plan say.
+///
+/// # Errors
+///
+/// The cause of the smallest number for which a line is at fault by itself, at the first such line;
+/// `Memory` where a growth was refused.
+pub(crate) fn fit<'s>(
+    alloc: Global,
+    world: &World<'s>,
+    plan: &PlanText<'s>,
+) -> Result<Fits, TreeFault>
+    requires { FormTree (plan_view plan.now) }
+    ensures actions { IfOk result (λ f. AllZip (IsActionOf (world_view world.now)) (plan_view plan.now).actions (map ground_action_view f.actions.items)) }
+    ensures lines { IfOk result (λ f. AllZip (IsDecomposed (world_view world.now)) (plan_view plan.now).decompositions f.lines.items) }
+    ensures err { IfErr result (IsTreeFault (world_view world.now) (plan_view plan.now)) }
+{
+    let FittedActions { actions, cause } = fit_actions(alloc, world, &plan.actions)?;
+    let of_actions = cause;
+    let FittedLines { lines, cause } = fit_lines(alloc, world, &plan.decompositions)?;
+    match earlier(of_actions, cause) {
+        Some(cause) => Err(TreeFault::Cause(cause)),
+        None => Ok(Fits { actions, lines }),
+    }
+}

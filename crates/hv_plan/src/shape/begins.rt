@@ -1,0 +1,151 @@
+//! Ids and lines, one after another.
+
+ghost use Rattle.std.specs.Prelude.{◌≡◌, ◌++◌, map, length, IfOk, OnOk};
+ghost use Rattle.std.specs.List.{flat_map};
+ghost use Rattle.hv_plan.specs.LineViews.{action_view, decomposition_view, plan_view};
+ghost use Rattle.hv_plan.specs.Shapes.{ids, heads, all_children, line_parent};
+ghost use Rattle.hv_plan.specs.Shaping.{lines_of_heads, lines_of_children, child_lines};
+
+use crate::plan::{ActionLine, DecompositionLine, PlanText};
+use hv_text::Memory;
+use std::alloc::Global;
+
+/// Ids, and the line on which each of them stands.
+#[derive(Drop)]
+pub(super) struct Placed {
+    pub(super) ids: Vec<u64>,
+    pub(super) lines: Vec<u32>,
+}
+
+// How many lines there are, the root line aside.
+fn line_count(plan: &PlanText<'_>) -> usize {
+    plan.actions.len().saturating_add(plan.decompositions.len())
+}
+
+// The ids of action lines and then of decomposition lines.
+fn line_ids(alloc: Global, plan: &PlanText<'_>) -> Result<Vec<u64>, Memory>
+    ensures { IfOk result (λ v. v.items ≡ ids (plan_view plan.now)) }
+{
+    let mut ids = Vec::with_capacity(alloc, line_count(plan))?;
+    push_action_ids(&mut ids, &plan.actions)?;
+    push_decomposition_ids(&mut ids, &plan.decompositions)?;
+    Ok(ids)
+}
+
+fn push_action_ids(ids: &mut Vec<u64>, actions: &[ActionLine<'_>]) -> Result<(), Memory>
+    ensures { OnOk result (ids.new.items ≡ ids.old.items ++ map (λ a. a.id) (map action_view actions.now)) }
+{
+    for action in actions {
+        ids.push(action.id)?;
+    }
+    Ok(())
+}
+
+fn push_decomposition_ids(ids: &mut Vec<u64>, lines: &[DecompositionLine<'_>]) -> Result<(), Memory>
+    ensures { OnOk result (ids.new.items ≡ ids.old.items ++ map (λ d. d.id) (map decomposition_view lines.now)) }
+{
+    for line in lines {
+        ids.push(line.id)?;
+    }
+    Ok(())
+}
+
+// The numbers of action lines and then of decomposition lines.
+fn line_numbers(alloc: Global, plan: &PlanText<'_>) -> Result<Vec<u32>, Memory>
+    ensures { IfOk result (λ v. v.items ≡ lines_of_heads (plan_view plan.now)) }
+{
+    let mut lines = Vec::with_capacity(alloc, line_count(plan))?;
+    push_action_numbers(&mut lines, &plan.actions)?;
+    push_decomposition_numbers(&mut lines, &plan.decompositions)?;
+    Ok(lines)
+}
+
+fn push_action_numbers(numbers: &mut Vec<u32>, actions: &[ActionLine<'_>]) -> Result<(), Memory>
+    ensures { OnOk result (numbers.new.items ≡ numbers.old.items ++ map (λ a. a.line) (map action_view actions.now)) }
+{
+    for action in actions {
+        numbers.push(action.line)?;
+    }
+    Ok(())
+}
+
+fn push_decomposition_numbers(
+    numbers: &mut Vec<u32>,
+    lines: &[DecompositionLine<'_>],
+) -> Result<(), Memory>
+    ensures { OnOk result (numbers.new.items ≡ numbers.old.items ++ map (λ d. d.line) (map decomposition_view lines.now)) }
+{
+    for line in lines {
+        numbers.push(line.line)?;
+    }
+    Ok(())
+}
+
+/// What begins the lines, the root line aside: the action lines, and then the decomposition lines. The
+/// place of a line is its place here.
+pub(super) fn begins(alloc: Global, plan: &PlanText<'_>) -> Result<Placed, Memory>
+    ensures ids { IfOk result (λ b. b.ids.items ≡ ids (plan_view plan.now)) }
+    ensures lines { IfOk result (λ b. b.lines.items ≡ lines_of_heads (plan_view plan.now)) }
+{
+    let ids = line_ids(alloc, plan)?;
+    let lines = line_numbers(alloc, plan)?;
+    Ok(Placed { ids, lines })
+}
+
+// All children, those of the root line first.
+fn child_ids(alloc: Global, plan: &PlanText<'_>) -> Result<Vec<u64>, Memory>
+    ensures { IfOk result (λ v. v.items ≡ all_children (plan_view plan.now)) }
+{
+    let mut ids = Vec::new(alloc);
+    ids.extend_from_slice(&plan.root)?;
+    push_child_ids(&mut ids, &plan.decompositions)?;
+    Ok(ids)
+}
+
+fn push_child_ids(ids: &mut Vec<u64>, lines: &[DecompositionLine<'_>]) -> Result<(), Memory>
+    ensures { OnOk result (ids.new.items ≡ ids.old.items ++ flat_map (λ q. q.children) (map line_parent (map decomposition_view lines.now))) }
+{
+    for line in lines {
+        ids.extend_from_slice(&line.children)?;
+    }
+    Ok(())
+}
+
+// The number of the line of each child.
+fn child_numbers(alloc: Global, plan: &PlanText<'_>) -> Result<Vec<u32>, Memory>
+    ensures { IfOk result (λ v. v.items ≡ lines_of_children (plan_view plan.now)) }
+{
+    let mut lines = Vec::new(alloc);
+    push_number(&mut lines, plan.root_line, &plan.root)?;
+    push_child_numbers(&mut lines, &plan.decompositions)?;
+    Ok(lines)
+}
+
+fn push_child_numbers(numbers: &mut Vec<u32>, lines: &[DecompositionLine<'_>]) -> Result<(), Memory>
+    ensures { OnOk result (numbers.new.items ≡ numbers.old.items ++ flat_map child_lines (map line_parent (map decomposition_view lines.now))) }
+{
+    for line in lines {
+        push_number(numbers, line.line, &line.children)?;
+    }
+    Ok(())
+}
+
+// The number of a line, once for each of its children.
+fn push_number(numbers: &mut Vec<u32>, line: u32, children: &[u64]) -> Result<(), Memory>
+    ensures { OnOk result (numbers.new.items ≡ numbers.old.items ++ map (λ _. line) children.now) }
+{
+    for _child in children {
+        numbers.push(line)?;
+    }
+    Ok(())
+}
+
+/// All children, those of the root line first, and the line that names each.
+pub(super) fn children(alloc: Global, plan: &PlanText<'_>) -> Result<Placed, Memory>
+    ensures ids { IfOk result (λ b. b.ids.items ≡ all_children (plan_view plan.now)) }
+    ensures lines { IfOk result (λ b. b.lines.items ≡ lines_of_children (plan_view plan.now)) }
+{
+    let ids = child_ids(alloc, plan)?;
+    let lines = child_numbers(alloc, plan)?;
+    Ok(Placed { ids, lines })
+}

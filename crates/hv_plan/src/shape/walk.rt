@@ -1,0 +1,90 @@
+//! A walk from the root line down.
+
+ghost use Rattle.std.specs.Prelude.{◌≡◌, ℕ, ◌<◌, ◌∷◌, [], length, slice_index_or, Contains, IfOk, OnOk};
+ghost use Rattle.hv_plan.specs.Shaping.{lists_of, kids, IsMeeting, Grows, IsWalk};
+
+use hv_text::Memory;
+use std::alloc::Global;
+
+/// The places that a walk has met, in its order, and for each place whether it was met.
+#[derive(Drop)]
+pub(super) struct Walk {
+    pub(super) met: Vec<usize>,
+    pub(super) is_met: Vec<bool>,
+}
+
+// Meets a place; each place is met once.
+fn meet(walk: &mut Walk, place: usize) -> Result<(), Memory>
+    requires within { place < length walk.old.is_met.items }
+    requires walk { IsMeeting walk.old.met.items walk.old.is_met.items }
+    ensures walk { OnOk result (IsMeeting walk.new.met.items walk.new.is_met.items) }
+    ensures count { OnOk result (length walk.new.is_met.items ≡ length walk.old.is_met.items) }
+    ensures grows { OnOk result (Grows walk.old.met.items (place ∷ []) walk.new.met.items) }
+{
+    if !walk.is_met[place] {
+        walk.met.push(place)?;
+        walk.is_met[place] = true;
+    }
+    Ok(())
+}
+
+// Meets places.
+fn meet_all(walk: &mut Walk, places: &[usize]) -> Result<(), Memory>
+    requires within { (c : ℕ) → Contains places.now c → c < length walk.old.is_met.items }
+    requires walk { IsMeeting walk.old.met.items walk.old.is_met.items }
+    ensures walk { OnOk result (IsMeeting walk.new.met.items walk.new.is_met.items) }
+    ensures count { OnOk result (length walk.new.is_met.items ≡ length walk.old.is_met.items) }
+    ensures grows { OnOk result (Grows walk.old.met.items places.now walk.new.met.items) }
+{
+    for place in places {
+        meet(walk, *place)?;
+    }
+    Ok(())
+}
+
+/// The places of the children of a place: an action line has none.
+fn kids(lists: &[Vec<usize>], actions: usize, place: usize) -> &[usize]
+    ensures { result.now ≡ kids (lists_of lists.now) actions place }
+{
+    match place.checked_sub(actions) {
+        Some(line) => list_at(lists, line),
+        None => &[],
+    }
+}
+
+/// The list of a line; an empty one where there is none.
+pub(super) fn list_at(lists: &[Vec<usize>], line: usize) -> &[usize]
+    ensures { result.now ≡ slice_index_or (lists_of lists.now) line [] }
+{
+    match lists.get(line) {
+        Some(list) => list,
+        None => &[],
+    }
+}
+
+/// The walk from the children of the root line to all that stands below them, among so many places.
+pub(super) fn walk_from(
+    alloc: Global,
+    actions: usize,
+    count: usize,
+    root: &[usize],
+    lists: &[Vec<usize>],
+) -> Result<Walk, Memory>
+    requires root { (c : ℕ) → Contains root.now c → c < count }
+    requires lists { (v c : ℕ) → Contains (kids (lists_of lists.now) actions v) c → c < count }
+    ensures walk { IfOk result (λ w. IsWalk root.now (kids (lists_of lists.now) actions) w.met.items w.is_met.items) }
+    ensures count { IfOk result (λ w. length w.is_met.items ≡ count) }
+{
+    let mut walk = Walk {
+        met: Vec::with_capacity(alloc, count)?,
+        is_met: vec![in alloc; false; count]?,
+    };
+    meet_all(&mut walk, root)?;
+    let mut at = 0;
+    'met: while at < walk.met.len() {
+        let place = walk.met[at];
+        meet_all(&mut walk, kids(lists, actions, place))?;
+        at += 1;
+    }
+    Ok(walk)
+}

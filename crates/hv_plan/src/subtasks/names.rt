@@ -1,0 +1,150 @@
+//! The names of children and of subtasks, and a number for each.
+
+ghost use Rattle.std.specs.Prelude.{◌≡◌, ◌+◌, ◌<◌, ◌^◌, length, map, option_map, IfOk, IfSome};
+ghost use Rattle.hv_world.specs.Bindings.{ground_action_view};
+ghost use Rattle.hv_world.specs.Views.{name_view, subtask_view};
+ghost use Rattle.hv_world.specs.WorldViews.{world_view};
+ghost use Rattle.hv_plan.specs.Fits.{names_of};
+ghost use Rattle.hv_plan.specs.FitViews.{item_name};
+ghost use Rattle.hv_plan.specs.Forms.{every};
+ghost use Rattle.hv_plan.specs.Tallies.{number_in};
+ghost use Rattle.hv_plan.specs.Trees as items;
+ghost use Rattle.hv_plan.specs.TreeViews.{child_view};
+
+use crate::fit::Decomposed;
+use crate::tree::Child;
+use hv_text::Memory;
+use hv_world::{GroundAction, Subtask, TaskName, World};
+use std::alloc::Global;
+
+/// How many tasks and actions a world has. Each has a number: the tasks come first.
+#[derive(Clone, Copy)]
+pub(crate) struct Sizes {
+    pub(crate) tasks: usize,
+    pub(crate) actions: usize,
+    ghost sum: { tasks + actions < 2 ^ 64 },
+}
+
+/// What names the children of nodes: the actions, what the decomposition lines say, and the line of
+/// each node.
+#[derive(Clone, Copy)]
+pub(crate) struct Said<'a> {
+    pub(crate) actions: &'a [GroundAction],
+    pub(crate) lines: &'a [Decomposed],
+    pub(crate) places: &'a [usize],
+}
+
+impl Sizes {
+    /// The sizes of a world; None where there would be too many numbers.
+    pub(crate) fn of(world: &World<'_>) -> Option<Sizes>
+        ensures { IfSome result (λ s. (s.tasks ≡ length (world_view world.now).tasks) × (s.actions ≡ length (world_view world.now).actions)) }
+    {
+        let tasks = world.tasks().len();
+        let actions = world.actions().len();
+        if actions <= usize::MAX - tasks {
+            Some(Sizes { tasks, actions })
+        } else {
+            None
+        }
+    }
+
+    // The number of a task or an action, where there is one.
+    fn number(self, name: TaskName) -> Option<usize>
+        ensures { result ≡ number_in self.tasks self.actions (name_view name) }
+    {
+        match name {
+            TaskName::Compound(task) => {
+                if task.0 < self.tasks {
+                    Some(task.0)
+                } else {
+                    None
+                }
+            }
+            TaskName::Primitive(action) => {
+                if action.0 < self.actions {
+                    Some(self.tasks + action.0)
+                } else {
+                    None
+                }
+            }
+        }
+    }
+}
+
+/// The numbers of names; None where one of them has none.
+pub(crate) fn numbers_of(
+    alloc: Global,
+    sizes: Sizes,
+    names: &[TaskName],
+) -> Result<Option<Vec<usize>>, Memory>
+    ensures { IfOk result (λ o. option_map (λ v. v.items) o ≡ every (number_in sizes.tasks sizes.actions) (map name_view names.now)) }
+{
+    let mut numbers = Vec::new(alloc);
+    for name in names {
+        let Some(number) = sizes.number(*name) else {
+            return Ok(None);
+        };
+        numbers.push(number)?;
+    }
+    Ok(Some(numbers))
+}
+
+/// The numbers of the names of subtasks; None where one of them has none.
+pub(crate) fn numbers_of_subtasks(
+    alloc: Global,
+    sizes: Sizes,
+    subtasks: &[Subtask],
+) -> Result<Option<Vec<usize>>, Memory>
+    ensures { IfOk result (λ o. option_map (λ v. v.items) o ≡ every (number_in sizes.tasks sizes.actions) (names_of (map subtask_view subtasks.now))) }
+{
+    let mut numbers = Vec::new(alloc);
+    for subtask in subtasks {
+        let Some(number) = sizes.number(subtask.name) else {
+            return Ok(None);
+        };
+        numbers.push(number)?;
+    }
+    Ok(Some(numbers))
+}
+
+impl Said<'_> {
+    // The task of a node, where there is one.
+    fn task_name(&self, node: usize) -> Option<TaskName>
+        ensures { option_map name_view result ≡ item_name (map ground_action_view self.now.actions.now) self.now.lines.now self.now.places.now (items.Task node) }
+    {
+        let place = *self.places.get(node)?;
+        let line = self.lines.get(place)?;
+        Some(TaskName::Compound(line.task))
+    }
+
+    // The name of a child, where there is one.
+    fn name(&self, child: Child) -> Option<TaskName>
+        ensures { option_map name_view result ≡ item_name (map ground_action_view self.now.actions.now) self.now.lines.now self.now.places.now (child_view child) }
+    {
+        match child {
+            Child::Action(action) => match self.actions.get(action) {
+                Some(action) => Some(TaskName::Primitive(action.action)),
+                None => None,
+            },
+            Child::Node(node) => self.task_name(node),
+        }
+    }
+
+    /// The names of children; None where one of them has none.
+    pub(crate) fn names(
+        &self,
+        alloc: Global,
+        children: &[Child],
+    ) -> Result<Option<Vec<TaskName>>, Memory>
+        ensures { IfOk result (λ o. option_map (λ v. map name_view v.items) o ≡ every (item_name (map ground_action_view self.now.actions.now) self.now.lines.now self.now.places.now) (map child_view children.now)) }
+    {
+        let mut names = Vec::new(alloc);
+        for child in children {
+            let Some(name) = self.name(*child) else {
+                return Ok(None);
+            };
+            names.push(name)?;
+        }
+        Ok(Some(names))
+    }
+}
