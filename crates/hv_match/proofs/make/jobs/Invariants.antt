@@ -1,0 +1,9 @@
+use Rattle.std.proofs.Common.{◌≡◌, map, take, option_map}
+use Rattle.hv_plan.specs.TreeViews.{child_view, tree_view}
+use Rattle.hv_match.specs.Candidates.{child_task}
+use Rattle.hv_match.specs.Tables.{job_view}
+use Rattle.hv_match.specs.Ranges.{as_subtask}
+use Rattle.hv_match.proofs.make.jobs.Given as goal
+
+abbrev pub invariant-loop-child : goal.invariant-loop-child
+invariant-loop-child l = map (option_map as_subtask) (map (option_map job_view) l.jobs.items) ≡ map (child_task (tree_view l.tree)) (map child_view (take l.child-index l.children))

@@ -1,0 +1,65 @@
+-- How the children of a node of a plan's tree can stand for the subtasks of its method.
+use Rattle.std.specs.Prelude.{◌≡◌, ◌↔◌, ◌<◌, ℕ, true, List, map, length, slice_get, slice_index, Option, Some, None, option_map, option_and_then, IsSome, MatchOption, All}
+use Rattle.std.specs.List.{AllZip}
+use Rattle.hv_world.specs.Values.{object, Subtask, subtask, Constraint, compound, primitive}
+use Rattle.hv_world.specs.Alike.{instance, subtask_instance}
+use Rattle.hv_world.specs.Bindings.{GroundAction}
+use Rattle.hv_world.specs.Lists.{Once}
+use Rattle.hv_world.specs.Worlds.{World, Method, terms_of}
+use Rattle.hv_plan.specs.Fits.{AreOf}
+use Rattle.hv_plan.specs.Trees.{Item, Act, Task, Pre}
+use Rattle.hv_plan.specs.PlanTrees.{Node, PlanTree}
+
+-- what an action and a node do: a subtask with objects for terms
+abbrev pub action_task : GroundAction → Subtask
+action_task a = subtask (primitive a.action) (map object a.objects)
+
+abbrev pub node_task : Node → Option Subtask
+node_task n = option_map (λ k. subtask (compound k) (map object n.objects)) n.task
+
+-- what a child does, where the tree has it
+abbrev pub child_task : PlanTree → Item → Option Subtask
+child_task t (Act k) = option_map action_task (slice_get t.actions k)
+child_task t (Task v) = option_and_then node_task (slice_get t.nodes v)
+child_task t (Pre v) = None
+
+-- what the children of a node do
+abbrev pub child_tasks : PlanTree → Node → List (Option Subtask)
+child_tasks t n = map (child_task t) n.children
+
+-- a constraint holds under B
+abbrev pub Holds : List ℕ → Constraint → Type 0
+Holds B c = (instance (slice_index B) c.left ≡ instance (slice_index B) c.right) ↔ (c.is_equal ≡ true)
+
+-- the child at place x does what the subtask says under B
+abbrev pub Does : List (Option Subtask) → List ℕ → ℕ → Subtask → Type 0
+Does children B x s = slice_get children x ≡ Some (Some (subtask_instance (slice_index B) s))
+
+-- M gives to each subtask of the method, in written order, the place of a child, to each another, and none is left
+-- out; B gives to each parameter an object of its type. Under B the method's task has the objects of the node's, each
+-- child does its subtask, and the constraints hold. The initial network has no task, and its node no objects
+pub record IsCandidate (w : World) (m : Method) (objects : List ℕ) (children : List (Option Subtask)) (M B : List ℕ) : Type 0 where
+  pub once : Once M
+  pub within : All (λ x. x < length children) M
+  pub all : length M ≡ length children
+  pub typed : AreOf w B m.parameters
+  pub task : map (instance (slice_index B)) (terms_of m.task) ≡ map object objects
+  pub done : AllZip (Does children B) M m.network.subtasks
+  pub constraints : All (Holds B) m.network.constraints
+
+-- the method of a node, which for the root line's is the initial network
+abbrev pub node_method : World → Node → Option Method
+node_method w n = elim n.method [ None ↦ Some w.top | Some k ↦ slice_get w.methods k ]
+
+-- the method of the node of a number
+abbrev pub method_at : World → PlanTree → ℕ → Option Method
+method_at w t v = option_and_then (node_method w) (slice_get t.nodes v)
+
+-- the tree has a node of the number, and the world its method
+abbrev pub IsNode : World → PlanTree → ℕ → Type 0
+IsNode w t v = IsSome (method_at w t v)
+
+-- a candidate of the node of a number
+abbrev pub IsCandidateAt : World → PlanTree → ℕ → List ℕ → List ℕ → Type 0
+IsCandidateAt w t v M B =
+    MatchOption (slice_get t.nodes v) ⊥ (λ n. MatchOption (node_method w n) ⊥ (λ m. IsCandidate w m n.objects (child_tasks t n) M B))

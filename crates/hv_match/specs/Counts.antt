@@ -1,0 +1,43 @@
+-- How many candidates a node may have at most, by its method alone.
+use Rattle.std.specs.Prelude.{◌≡◌, ◌↔◌, ℕ, zero, suc, ◌*◌, List, [], ◌∷◌, map, length, slice_index, Contains, MatchOption}
+use Rattle.std.specs.List.{AllZip}
+use Rattle.hv_world.specs.Alike.{class_sizes, free_parameters}
+use Rattle.hv_world.specs.Lists.{Once}
+use Rattle.hv_world.specs.Types.{Of}
+use Rattle.hv_world.specs.Worlds.{World, Method, terms_of}
+use Rattle.hv_plan.specs.PlanTrees.{PlanTree}
+use Rattle.hv_match.specs.Candidates.{method_at}
+
+abbrev pub factorial : ℕ → ℕ
+factorial zero = 1
+factorial (suc n) = suc n * factorial n
+
+abbrev pub product : List ℕ → ℕ
+product [] = 1
+product (n ∷ ns) = n * product ns
+
+-- so many objects are of the type
+pub record AreSoMany (w : World) (t n : ℕ) : Type 0 where
+  pub objects : List ℕ
+  pub exact : (o : ℕ) → Contains objects o ↔ Of w.typing o t
+  pub once : Once objects
+  pub many : length objects ≡ n
+
+-- the parameters that are arguments neither of the method's task nor of a subtask
+abbrev pub free : Method → List ℕ
+free m = free_parameters (length m.parameters) (terms_of m.task) m.network.subtasks
+
+-- the numbers of objects of the types of these parameters
+abbrev pub AreChoices : World → Method → List ℕ → List ℕ → Type 0
+AreChoices w m is ns = AllZip (λ i n. AreSoMany w (slice_index m.parameters i) n) is ns
+
+-- The count: the product of the factorials of the sizes of the classes of alike subtasks, and of the numbers of objects
+-- that the free parameters may have
+pub record IsCount (w : World) (m : Method) (k : ℕ) : Type 0 where
+  pub choices : List ℕ
+  pub are_choices : AreChoices w m (free m) choices
+  pub is : k ≡ product (map factorial (class_sizes m.network.subtasks)) * product choices
+
+-- the count of the node of a number
+abbrev pub IsCountAt : World → PlanTree → ℕ → ℕ → Type 0
+IsCountAt w t v k = MatchOption (method_at w t v) ⊥ (λ m. IsCount w m k)

@@ -1,0 +1,181 @@
+-- What the search for the candidates of a node works on, and what it tests.
+use Rattle.std.specs.Prelude.{◌≡◌, ◌<◌, ◌*◌, ℕ, ◌+◌, ◌-◌, Bool, true, false, not, ◌&&◌, List, [], ◌∷◌, map, length, take, drop, nat_eq, slice_get, slice_index, slice_index_or, Option, Some, None, if◌then◌else◌}
+use Rattle.std.specs.List.{AllZip}
+use Rattle.hv_world.specs.Values.{Term, object, variable, TaskName, Subtask, Constraint}
+use Rattle.hv_world.specs.Alike.{same_name, is_variable, is_free, keys}
+use Rattle.hv_match.specs.Lists.{Mem, Once}
+use Rattle.hv_match.specs.Counts.{product}
+use Rattle.hv_match.specs.Counting.{rising}
+
+-- what a child does
+pub record Work : Type 0 where
+  pub name : TaskName
+  pub objects : List ℕ
+
+abbrev pub work : TaskName → List ℕ → Work
+work n os = record { name = n; objects = os }
+
+-- the objects that each parameter may have, the terms of the task and the objects that stand for them, the subtasks, the
+-- constraints, and what the children do
+pub record Puzzle : Type 0 where
+  pub ranges : List (List ℕ)
+  pub task : List Term
+  pub objects : List ℕ
+  pub subtasks : List Subtask
+  pub constraints : List Constraint
+  pub children : List (Option Work)
+
+-- the object of a term under B
+abbrev pub object_of : List ℕ → Term → ℕ
+object_of B (object o) = o
+object_of B (variable v) = slice_index B v
+
+-- the child at a place, and its objects
+abbrev pub child_at : List (Option Work) → ℕ → Option Work
+child_at cs x = slice_index_or cs x None
+
+abbrev pub objects_of : Option Work → List ℕ
+objects_of None = []
+objects_of (Some c) = c.objects
+
+-- what may be chosen next: for a subtask a child, and then for a parameter an object
+
+-- the place at which the i-th parameter is first among these terms of the subtask j, or of the task, the first of them at
+-- position k; or the other
+abbrev pub first_in : Option ℕ → ℕ → ℕ → List Term → Option (Option ℕ × ℕ) → Option (Option ℕ × ℕ)
+first_in j i k [] other = other
+first_in j i k (t ∷ ts) other = if is_variable i t then Some (j, k) else first_in j i (k + 1) ts other
+
+-- the same for these subtasks, the first of them of number j
+abbrev pub first_of : ℕ → ℕ → List Subtask → Option (Option ℕ × ℕ) → Option (Option ℕ × ℕ)
+first_of i j [] other = other
+first_of i j (s ∷ ss) other = first_in (Some j) i 0 s.terms (first_of i (j + 1) ss other)
+
+-- the place from which the i-th parameter has its object
+abbrev pub source_of : List Term → List Subtask → ℕ → Option (Option ℕ × ℕ)
+source_of ts ss i = first_in None i 0 ts (first_of i 0 ss None)
+
+-- the object at a place, where q are the children chosen
+abbrev pub look : Puzzle → List ℕ → Option (Option ℕ × ℕ) → Option ℕ
+look p q None = None
+look p q (Some (None, k)) = slice_get p.objects k
+look p q (Some (Some j, k)) = elim (slice_get q j) [ None ↦ None | Some x ↦ slice_get (objects_of (child_at p.children x)) k ]
+
+-- what the task and the children chosen say of the i-th parameter
+abbrev pub bound : Puzzle → List ℕ → ℕ → Option ℕ
+bound p q i = look p q (source_of p.task p.subtasks i)
+
+abbrev pub pick : Option ℕ → List ℕ → List ℕ
+pick (Some o) os = o ∷ []
+pick None os = os
+
+abbrev pub range_of : Puzzle → ℕ → List ℕ
+range_of p i = slice_index_or p.ranges i []
+
+-- whether a child does what has this name
+abbrev pub has_name : TaskName → Option Work → Bool
+has_name n None = false
+has_name n (Some c) = same_name c.name n
+
+-- the places of the children that do, the first of the children at place k
+abbrev pub places_of : TaskName → ℕ → List (Option Work) → List ℕ
+places_of n k [] = []
+places_of n k (c ∷ cs) = if has_name n c then k ∷ places_of n (k + 1) cs else places_of n (k + 1) cs
+
+abbrev pub options : Puzzle → List ℕ → List ℕ
+options p q = elim (slice_get p.subtasks (length q)) [
+  | Some s ↦ places_of s.name 0 p.children
+  | None ↦ pick (bound p q (length q - length p.subtasks)) (range_of p (length q - length p.subtasks))
+]
+
+-- so many are chosen
+abbrev pub levels : Puzzle → ℕ
+levels p = length p.subtasks + length p.ranges
+
+-- what a whole choice is tested for
+
+abbrev pub has : ℕ → List ℕ → Bool
+has x [] = false
+has x (y ∷ ys) = if nat_eq y x then true else has x ys
+
+-- no number stands twice
+abbrev pub is_once : List ℕ → Bool
+is_once [] = true
+is_once (x ∷ xs) = not (has x xs) && is_once xs
+
+-- each parameter has an object that it may have
+abbrev pub are_in : List ℕ → List (List ℕ) → Bool
+are_in [] [] = true
+are_in (o ∷ os) (r ∷ rs) = has o r && are_in os rs
+are_in _ _ = false
+
+-- the objects are those of the terms under B
+abbrev pub same_values : List ℕ → List Term → List ℕ → Bool
+same_values B [] [] = true
+same_values B (t ∷ ts) (o ∷ os) = nat_eq (object_of B t) o && same_values B ts os
+same_values B _ _ = false
+
+abbrev pub does : Option Work → List ℕ → Subtask → Bool
+does None B s = false
+does (Some c) B s = same_name c.name s.name && same_values B s.terms c.objects
+
+abbrev pub all_do : List (Option Work) → List ℕ → List ℕ → List Subtask → Bool
+all_do cs B [] [] = true
+all_do cs B (x ∷ xs) (s ∷ ss) = does (child_at cs x) B s && all_do cs B xs ss
+all_do cs B _ _ = false
+
+abbrev pub same_bool : Bool → Bool → Bool
+same_bool true b = b
+same_bool false b = not b
+
+abbrev pub holds : List ℕ → Constraint → Bool
+holds B c = same_bool (nat_eq (object_of B c.left) (object_of B c.right)) c.is_equal
+
+abbrev pub all_hold : List ℕ → List Constraint → Bool
+all_hold B [] = true
+all_hold B (c ∷ cs) = holds B c && all_hold B cs
+
+-- the children at M do the subtasks under B, and all else holds under B
+abbrev pub suits : Puzzle → List ℕ → List ℕ → Bool
+suits p M B = are_in B p.ranges && (same_values B p.task p.objects && (all_do p.children B M p.subtasks && all_hold B p.constraints))
+
+-- M and B are a candidate
+abbrev pub fits : Puzzle → List ℕ → List ℕ → Bool
+fits p M B = is_once M && suits p M B
+
+-- the children and the objects of a whole choice
+abbrev pub places : Puzzle → List ℕ → List ℕ
+places p q = take (length p.subtasks) q
+
+abbrev pub values : Puzzle → List ℕ → List ℕ
+values p q = drop (length p.subtasks) q
+
+abbrev pub is_good : Puzzle → List ℕ → Bool
+is_good p q = nat_eq (length p.subtasks) (length p.children) && fits p (places p q) (values p q)
+
+-- the child at place x does what the subtask says under B
+abbrev pub Done : List (Option Work) → List ℕ → ℕ → Subtask → Type 0
+Done cs B x s = child_at cs x ≡ Some (work s.name (map (object_of B) s.terms))
+
+-- what the tests are for
+pub record IsMatch (p : Puzzle) (M B : List ℕ) : Type 0 where
+  pub once : Once M
+  pub within : (x : ℕ) → Mem M x → x < length p.children
+  pub all : length M ≡ length p.children
+  pub typed : AllZip (λ o r. Mem r o) B p.ranges
+  pub task : map (object_of B) p.task ≡ p.objects
+  pub done : AllZip (Done p.children B) M p.subtasks
+  pub constraints : all_hold B p.constraints ≡ true
+
+-- how many objects the i-th parameter and those after it may have, apart from the arguments
+abbrev pub widths : Puzzle → ℕ → List (List ℕ) → List ℕ
+widths p i [] = []
+widths p i (r ∷ rs) = (if is_free p.task p.subtasks i then length r else 1) ∷ widths p (i + 1) rs
+
+-- in how many ways there may be candidates
+abbrev pub ways : Puzzle → ℕ
+ways p = rising (keys p.subtasks) * product (widths p 0 p.ranges)
+
+-- B has what the task and the children chosen say of parameters
+abbrev pub Agrees : Puzzle → List ℕ → List ℕ → Type 0
+Agrees p q B = (v o : ℕ) → bound p q v ≡ Some o → slice_index B v ≡ o

@@ -1,0 +1,70 @@
+//! The places from which parameters have their objects.
+
+ghost use Rattle.std.specs.Prelude.{◌≡◌, ◌<◌, ℕ, Some, length, map, IfOk, if◌then◌else◌};
+ghost use Rattle.hv_world.specs.Alike.{is_variable};
+ghost use Rattle.hv_world.specs.Views.{term_view, subtask_view};
+ghost use Rattle.hv_match.specs.Puzzles.{first_in, first_of};
+ghost use Rattle.hv_match.specs.Tables.{source_at, source_view, AreSources};
+
+use hv_text::Memory;
+use hv_world::{Subtask, Term};
+use std::alloc::Global;
+
+/// A position among the terms of the subtask of a number, or of the task.
+#[derive(Clone, Copy)]
+pub(crate) struct Source {
+    pub(crate) subtask: Option<usize>,
+    pub(crate) position: usize,
+}
+
+// Writes down a source for the parameter that a term is, if it is one.
+fn write(sources: &mut [Option<Source>], term: Term, source: Source)
+    ensures size { length sources.new ≡ length sources.old }
+    ensures sources { (i : ℕ) → i < length sources.old → source_at sources.new i ≡ (if is_variable i (term_view term) then Some (source_view source) else source_at sources.old i) }
+{
+    if let Term::Variable(variable) = term
+        && variable < sources.len()
+    {
+        sources[variable] = Some(source);
+    }
+}
+
+// Writes down a source for each parameter among the terms of a subtask or of the task, from the last to the first, so
+// that the first stays.
+fn write_terms(sources: &mut [Option<Source>], subtask: Option<usize>, terms: &[Term])
+    ensures size { length sources.new ≡ length sources.old }
+    ensures sources { (i : ℕ) → i < length sources.old → source_at sources.new i ≡ first_in subtask i 0 (map term_view terms.now) (source_at sources.old i) }
+{
+    let mut position = terms.len();
+    while position > 0 {
+        position -= 1;
+        write(sources, terms[position], Source { subtask, position });
+    }
+}
+
+// The same for all subtasks.
+fn write_subtasks(sources: &mut [Option<Source>], subtasks: &[Subtask])
+    ensures size { length sources.new ≡ length sources.old }
+    ensures sources { (i : ℕ) → i < length sources.old → source_at sources.new i ≡ first_of i 0 (map subtask_view subtasks.now) (source_at sources.old i) }
+{
+    let mut number = subtasks.len();
+    while number > 0 {
+        number -= 1;
+        write_terms(sources, Some(number), &subtasks[number].terms);
+    }
+}
+
+/// For each parameter the first of its places, first in the task, and then in the subtasks.
+pub(crate) fn sources(
+    alloc: Global,
+    parameters: usize,
+    task: &[Term],
+    subtasks: &[Subtask],
+) -> Result<Vec<Option<Source>>, Memory>
+    ensures { IfOk result (λ v. AreSources parameters (map term_view task.now) (map subtask_view subtasks.now) v.items) }
+{
+    let mut sources = vec![in alloc; None; parameters]?;
+    write_subtasks(&mut sources, subtasks);
+    write_terms(&mut sources, None, task);
+    Ok(sources)
+}
