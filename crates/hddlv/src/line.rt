@@ -1,13 +1,12 @@
 //! The command line.
 
-ghost use Rattle.std.specs.Prelude.{◌≡◌, ◌↔◌, codes, map, IfOk, IfSome, Some, true, false, string_bytes};
+ghost use Rattle.std.specs.Prelude.{◌≡◌, ◌↔◌, ◌∷◌, [], codes, map, IfOk, IfSome, Some, true, false, string_bytes};
 ghost use Rattle.clap.specs.Words.{app_of, subcommand_of, rule_of, rows_of, found_of, first_of, with_rule, with_subcommand};
 ghost use Rattle.clap.specs.declared.builder.command.Command.TheViews.{out-Command};
-ghost use Rattle.hddlv.specs.Line.{line, judge_line, print_line, print_name, limit_rule, explain_rule, file_rule, HasLimit, HasOptions, IsJobOf};
+ghost use Rattle.hddlv.specs.Line.{line, judge_line, print_line, limit_rule, explain_rule, file_rule, command_of, file_arguments, HasFiles, HasLimit, HasOptions, IsJobOf};
 
-use crate::task::{Job, JobFault, JudgeJob};
+use crate::task::{Job, JobFault, Mode};
 use clap::{Arg, ArgAction, ArgMatches, Command};
-use hv_judge::Which;
 use std::alloc::{AllocError, Global};
 
 fn limit_arg<'a>(alloc: Global) -> Arg<'a>
@@ -93,6 +92,7 @@ fn command<'a>(alloc: Global) -> Result<Command<'a>, AllocError>
     Ok(command)
 }
 
+// A value that the definition of the command asks for is never missing; nothing here proves that, and `Memory` is answered in its place.
 fn text_of(alloc: Global, matches: &ArgMatches<'_>, id: &str) -> Result<String, JobFault>
     ensures { IfOk result (λ s. first_of id.now (rows_of (found_of matches.now)) ≡ Some (string_bytes s)) }
 {
@@ -120,37 +120,52 @@ fn is_explained(matches: &ArgMatches<'_>) -> bool
     }
 }
 
-fn judge_job(alloc: Global, matches: &ArgMatches<'_>) -> Result<JudgeJob, JobFault>
-    ensures { IfOk result (HasOptions (rows_of (found_of matches.now))) }
+fn judge_job(alloc: Global, matches: &ArgMatches<'_>) -> Result<Job, JobFault>
+    ensures named { IfOk result (λ job. command_of job.mode ≡ codes "judge") }
+    ensures files { IfOk result (λ job. HasFiles (file_arguments job.mode) (rows_of (found_of matches.now)) job) }
+    ensures options { IfOk result (λ job. HasOptions job.mode (rows_of (found_of matches.now)) job) }
 {
     let domain = text_of(alloc, matches, "domain")?;
     let problem = text_of(alloc, matches, "problem")?;
     let plan = text_of(alloc, matches, "plan")?;
+    let files = vec![in alloc; domain, problem, plan]?;
     let limit = limit_of(matches)?;
     let explain = is_explained(matches);
-    Ok(JudgeJob {
-        domain,
-        problem,
-        plan,
+    Ok(Job {
+        mode: Mode::Judge,
+        files,
         limit,
         explain,
     })
 }
 
-// What kind of text the command of this name prints.
-fn printed_by(name: &str) -> Option<Which>
-    ensures { IfSome result (λ which. name.now ≡ print_name which) }
+// The job of a command that prints a text, which has neither a limit nor a certificate.
+fn print_job(alloc: Global, mode: Mode, matches: &ArgMatches<'_>) -> Result<Job, JobFault>
+    ensures named { IfOk result (λ job. job.mode ≡ mode) }
+    ensures files { IfOk result (HasFiles (codes "file" ∷ []) (rows_of (found_of matches.now))) }
+    ensures options { IfOk result (λ job. (job.limit ≡ 1000000) × (job.explain ≡ false)) }
 {
-    if name == "print-domain" {
-        return Some(Which::Domain);
+    let file = text_of(alloc, matches, "file")?;
+    let files = vec![in alloc; file]?;
+    Ok(Job {
+        mode,
+        files,
+        limit: 1_000_000,
+        explain: false,
+    })
+}
+
+// The mode that the command of this name stands for.
+fn mode_of(name: &str) -> Option<Mode>
+    ensures { IfSome result (λ mode. name.now ≡ command_of mode) }
+{
+    match name {
+        "judge" => Some(Mode::Judge),
+        "print-domain" => Some(Mode::PrintDomain),
+        "print-problem" => Some(Mode::PrintProblem),
+        "print-plan" => Some(Mode::PrintPlan),
+        _ => None,
     }
-    if name == "print-problem" {
-        return Some(Which::Problem);
-    }
-    if name == "print-plan" {
-        return Some(Which::Plan);
-    }
-    None
 }
 
 /// The job that the words name: what the definition of the command reads in them. The first word is the program's own.
@@ -163,14 +178,13 @@ pub fn job<'a>(alloc: Global, words: &'a [&'a str]) -> Result<Job, JobFault>
 {
     let command = command(alloc)?;
     let matches = command.try_get_matches_from(words)?;
+    // nor is one of the defined commands ever missing
     let Some((name, inner)) = matches.subcommand() else {
         return Err(JobFault::Memory);
     };
-    if name == "judge" {
-        return Ok(Job::Judge(judge_job(alloc, inner)?));
-    }
-    match printed_by(name) {
-        Some(which) => Ok(Job::Print(which, text_of(alloc, inner, "file")?)),
+    match mode_of(name) {
+        Some(Mode::Judge) => Ok(judge_job(alloc, inner)?),
+        Some(mode) => Ok(print_job(alloc, mode, inner)?),
         None => Err(JobFault::Memory),
     }
 }

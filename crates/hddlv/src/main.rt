@@ -7,8 +7,11 @@ mod task;
 #[cfg(test)]
 mod tests;
 
+ghost use Rattle.std.specs.Prelude.{◌≡◌, IfOk, length};
+ghost use Rattle.hddlv.specs.Line.{file_arguments};
+
 use end::{End, status, write_end};
-use hv_judge::{RunFault, Which, run, run_print};
+use hv_judge::{Kind, RunFault, Which, run, run_print};
 use hv_text::{FromReader, ToWriter};
 use line::job;
 use std::alloc::Global;
@@ -16,57 +19,76 @@ use std::fmt::Display;
 use std::fs::{self, File};
 use std::process::ExitCode;
 use std::{env, io};
-use task::{Job, JobFault, JudgeJob};
-
-// The files of a job, opened in their order, or the first that cannot be opened.
-fn open_files<'a>(rt: &HostRuntime, job: &'a JudgeJob) -> Result<(File, File, File), &'a str> {
-    let domain = open(rt, job.domain.as_str())?;
-    let problem = open(rt, job.problem.as_str())?;
-    let plan = open(rt, job.plan.as_str())?;
-    Ok((domain, problem, plan))
-}
+use task::{Job, JobFault, Mode};
 
 fn open<'a>(rt: &HostRuntime, name: &'a str) -> Result<File, &'a str> {
     fs::open(rt, name).map_err(|_| name)
 }
 
-fn file_of(job: &JudgeJob, which: Which) -> &str {
-    match which {
-        Which::Domain => job.domain.as_str(),
-        Which::Problem => job.problem.as_str(),
-        Which::Plan => job.plan.as_str(),
-    }
+// The three files, opened in this order, or the name of the first that cannot be opened.
+fn open_all<'a>(
+    rt: &HostRuntime,
+    domain: &'a str,
+    problem: &'a str,
+    plan: &'a str,
+) -> Result<(File, File, File), &'a str> {
+    let domain = open(rt, domain)?;
+    let problem = open(rt, problem)?;
+    let plan = open(rt, plan)?;
+    Ok((domain, problem, plan))
 }
 
-// Judges the files of a job and writes the verdict to standard output.
-fn judge_files<'a>(rt: &HostRuntime, job: &'a JudgeJob) -> End<'a> {
-    let (domain, problem, plan) = match open_files(rt, job) {
-        Ok(files) => files,
-        Err(name) => return End::CannotRead(name),
-    };
+// Judges open files and writes the verdict to standard output.
+fn judge_open(
+    rt: &HostRuntime,
+    files: (File, File, File),
+    limit: u64,
+    explain: bool,
+) -> Result<Kind, RunFault> {
+    let (domain, problem, plan) = files;
     let mut domain = FromReader::new(domain);
     let mut problem = FromReader::new(problem);
     let mut plan = FromReader::new(plan);
     let mut out = ToWriter::new(io::writer(rt));
-    match run(
+    run(
         rt.alloc(),
         &mut domain,
         &mut problem,
         &mut plan,
-        job.limit,
-        job.explain,
+        limit,
+        explain,
         &mut out,
-    ) {
+    )
+}
+
+fn judge_files<'a>(rt: &HostRuntime, job: &'a Job) -> End<'a>
+    requires { length job.now.files.items ≡ 3 }
+{
+    let [domain, problem, plan] = job.files.as_slice() else {
+        unreachable!()
+    };
+    let files = match open_all(rt, domain.as_str(), problem.as_str(), plan.as_str()) {
+        Ok(files) => files,
+        Err(name) => return End::CannotRead(name),
+    };
+    match judge_open(rt, files, job.limit, job.explain) {
         Ok(kind) => End::Judged(kind),
-        Err(RunFault::Read(which)) => End::CannotRead(file_of(job, which)),
+        Err(RunFault::Read(Which::Domain)) => End::CannotRead(domain.as_str()),
+        Err(RunFault::Read(Which::Problem)) => End::CannotRead(problem.as_str()),
+        Err(RunFault::Read(Which::Plan)) => End::CannotRead(plan.as_str()),
         Err(RunFault::Memory) => End::OutOfMemory,
         Err(RunFault::Write) => End::CannotWrite,
     }
 }
 
-// Writes the canonical text of a file to standard output.
-fn print_file<'a>(rt: &HostRuntime, which: Which, name: &'a str) -> End<'a> {
-    let file = match open(rt, name) {
+// Writes the canonical text of the one file of a job to standard output.
+fn print_file<'a>(rt: &HostRuntime, which: Which, job: &'a Job) -> End<'a>
+    requires { length job.now.files.items ≡ 1 }
+{
+    let [name] = job.files.as_slice() else {
+        unreachable!()
+    };
+    let file = match open(rt, name.as_str()) {
         Ok(file) => file,
         Err(name) => return End::CannotRead(name),
     };
@@ -74,16 +96,20 @@ fn print_file<'a>(rt: &HostRuntime, which: Which, name: &'a str) -> End<'a> {
     let mut out = ToWriter::new(io::writer(rt));
     match run_print(rt.alloc(), which, &mut reader, &mut out) {
         Ok(printed) => End::Printed(printed),
-        Err(RunFault::Read(_)) => End::CannotRead(name),
+        Err(RunFault::Read(_)) => End::CannotRead(name.as_str()),
         Err(RunFault::Memory) => End::OutOfMemory,
         Err(RunFault::Write) => End::CannotWrite,
     }
 }
 
-fn end_of<'a>(rt: &HostRuntime, job: &'a Job) -> End<'a> {
-    match job {
-        Job::Judge(job) => judge_files(rt, job),
-        Job::Print(which, file) => print_file(rt, *which, file.as_str()),
+fn end_of<'a>(rt: &HostRuntime, job: &'a Job) -> End<'a>
+    requires { length job.now.files.items ≡ length (file_arguments job.now.mode) }
+{
+    match job.mode {
+        Mode::Judge => judge_files(rt, job),
+        Mode::PrintDomain => print_file(rt, Which::Domain, job),
+        Mode::PrintProblem => print_file(rt, Which::Problem, job),
+        Mode::PrintPlan => print_file(rt, Which::Plan, job),
     }
 }
 
@@ -100,7 +126,9 @@ fn refuse_words(rt: &HostRuntime, reason: &impl Display) -> ExitCode {
     conclude(rt, &End::Words)
 }
 
-fn job_of(alloc: Global, words: &[String]) -> Result<Job, JobFault> {
+fn job_of(alloc: Global, words: &[String]) -> Result<Job, JobFault>
+    ensures { IfOk result (λ job. length job.files.items ≡ length (file_arguments job.mode)) }
+{
     let words: Vec<&str> = words.iter().map(|word| word.as_str()).collect(alloc)?;
     job(alloc, &words)
 }

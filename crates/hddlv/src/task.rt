@@ -1,26 +1,31 @@
 //! What the words of the command line ask for.
 
-use hv_judge::Which;
 use std::alloc::{AllocError, AllocFailed};
 use thiserror::Error;
 
-/// What the program is to do.
-#[derive(Drop)]
-pub enum Job {
-    /// To judge three files.
-    Judge(JudgeJob),
-    /// To write the canonical text of one file, by its name as given, which is a text of this kind.
-    Print(Which, String),
+/// What is to be done with the files.
+#[derive(Clone, Copy, Debug, PartialEq, Eq)]
+pub enum Mode {
+    /// To judge a plan.
+    Judge,
+    /// To write the canonical text of a domain.
+    PrintDomain,
+    /// To write the canonical text of a problem.
+    PrintProblem,
+    /// To write the canonical text of a plan.
+    PrintPlan,
 }
 
-/// Three files to be judged, by their names as given, with the limit on the choices of a node that are searched, and whether a
-/// certificate is written.
-#[derive(Drop)]
-pub struct JudgeJob {
-    pub domain: String,
-    pub problem: String,
-    pub plan: String,
+/// What the program is to do.
+#[derive(Debug, Drop, PartialEq, Eq)]
+pub struct Job {
+    /// What is to be done with the files.
+    pub mode: Mode,
+    /// Their names as given: of the domain, the problem and the plan that are to be judged, in this order, or of the one text that is to be printed.
+    pub files: Vec<String>,
+    /// The limit on the choices of a node that are searched; 1,000,000 where none is given.
     pub limit: u64,
+    /// Whether the certificate of a plan that solves its problem is written.
     pub explain: bool,
 }
 

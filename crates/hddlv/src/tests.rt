@@ -1,56 +1,121 @@
 use crate::end::{End, status, write_end};
 use crate::line::job;
-use crate::task::Job;
-use hv_judge::{Kind, Printed, Which};
+use crate::task::{Job, JobFault, Mode};
+use hv_judge::{Kind, Printed};
 use hv_text::ToMemory;
-use std::alloc::Global;
-use std::io;
+use std::alloc::{AllocError, Global};
 use std::test::Fail;
 
-// The limit of the job that the words name, where they ask for a verdict.
-fn limit_in<'a>(alloc: Global, words: &'a [&'a str]) -> Option<u64> {
-    match job(alloc, words) {
-        Ok(Job::Judge(job)) => Some(job.limit),
-        Ok(Job::Print(_, _)) | Err(_) => None,
-    }
+// The job that the words name, if they name one.
+fn named<'a>(alloc: Global, words: &'a [&'a str]) -> Option<Job> {
+    job(alloc, words).ok()
 }
 
-// The kind of text that the words ask to print.
-fn printed_in<'a>(alloc: Global, words: &'a [&'a str]) -> Option<Which> {
-    match job(alloc, words) {
-        Ok(Job::Print(which, _)) => Some(which),
-        Ok(Job::Judge(_)) | Err(_) => None,
+// Whether the words are refused for their own sake.
+fn is_refused<'a>(alloc: Global, words: &'a [&'a str]) -> bool {
+    matches!(job(alloc, words), Err(JobFault::Words(_)))
+}
+
+fn job_with(
+    alloc: Global,
+    mode: Mode,
+    files: &[&str],
+    limit: u64,
+    explain: bool,
+) -> Result<Option<Job>, AllocError> {
+    let mut names = Vec::new(alloc);
+    for file in files {
+        names.push(String::from_str(alloc, file)?)?;
     }
+    Ok(Some(Job {
+        mode,
+        files: names,
+        limit,
+        explain,
+    }))
+}
+
+// A job of words that give no limit and ask for no certificate.
+fn plain(alloc: Global, mode: Mode, files: &[&str]) -> Result<Option<Job>, AllocError> {
+    job_with(alloc, mode, files, 1_000_000, false)
 }
 
 #[test]
-fn reads_the_words(rt: HostRuntime) -> io::Result<()> {
+fn words_that_ask_for_a_verdict(rt: HostRuntime) -> Result<(), Fail> {
     let alloc = rt.alloc();
-    let words = ["hddlv", "judge", "--limit", "9", "--explain", "d", "p", "q"];
-    assert_eq!(rt; limit_in(alloc, &words), Some(9));
+    let files = ["d", "p", "q"];
     assert_eq!(rt;
-        limit_in(alloc, &["hddlv", "judge", "d", "p", "q"]),
-        Some(1_000_000)
-    );
-    assert_eq!(rt; limit_in(alloc, &["hddlv", "judge", "d", "p"]), None);
-    assert_eq!(rt;
-        limit_in(alloc, &["hddlv", "judge", "--limit=-1", "d", "p", "q"]),
-        None
+        named(alloc, &["hddlv", "judge", "d", "p", "q"]),
+        plain(alloc, Mode::Judge, &files)?
     );
     assert_eq!(rt;
-        limit_in(alloc, &["hddlv", "judge", "--limit", "x", "d", "p", "q"]),
-        None
+        named(
+            alloc,
+            &["hddlv", "judge", "--limit", "9", "--explain", "d", "p", "q"]
+        ),
+        job_with(alloc, Mode::Judge, &files, 9, true)?
     );
-    assert_eq!(rt; limit_in(alloc, &["hddlv", "--help"]), None);
-    assert_eq!(rt; limit_in(alloc, &["hddlv"]), None);
-    for (command, which) in [
-        ("print-domain", Which::Domain),
-        ("print-problem", Which::Problem),
-        ("print-plan", Which::Plan),
+    assert_eq!(rt;
+        named(alloc, &["hddlv", "judge", "d", "--limit=5", "p", "q"]),
+        job_with(alloc, Mode::Judge, &files, 5, false)?
+    );
+    assert_eq!(rt;
+        named(alloc, &["hddlv", "judge", "d", "p", "q", "--explain"]),
+        job_with(alloc, Mode::Judge, &files, 1_000_000, true)?
+    );
+    assert_eq!(rt;
+        named(alloc, &["hddlv", "judge", "--limit=+5", "d", "p", "q"]),
+        job_with(alloc, Mode::Judge, &files, 5, false)?
+    );
+    let most = "18446744073709551615";
+    assert_eq!(rt;
+        named(alloc, &["hddlv", "judge", "--limit", most, "d", "p", "q"]),
+        job_with(alloc, Mode::Judge, &files, u64::MAX, false)?
+    );
+    Ok(())
+}
+
+#[test]
+fn words_that_ask_for_a_canonical_text(rt: HostRuntime) -> Result<(), Fail> {
+    let alloc = rt.alloc();
+    for (command, mode) in [
+        ("print-domain", Mode::PrintDomain),
+        ("print-problem", Mode::PrintProblem),
+        ("print-plan", Mode::PrintPlan),
     ] {
-        assert_eq!(rt; printed_in(alloc, &["hddlv", command, "f"]), Some(which));
-        assert_eq!(rt; printed_in(alloc, &["hddlv", command]), None);
+        assert_eq!(rt;
+            named(alloc, &["hddlv", command, "f"]),
+            plain(alloc, mode, &["f"])?
+        );
+        assert!(rt; is_refused(alloc, &["hddlv", command]));
+        assert!(rt; is_refused(alloc, &["hddlv", command, "f", "g"]));
+        assert!(rt; is_refused(alloc, &["hddlv", command, "--explain", "f"]));
+        assert!(rt; is_refused(alloc, &["hddlv", command, "--limit", "9", "f"]));
     }
+    Ok(())
+}
+
+#[test]
+fn words_that_are_refused(rt: HostRuntime) -> Result<(), Fail> {
+    let alloc = rt.alloc();
+    assert!(rt; is_refused(alloc, &[]));
+    assert!(rt; is_refused(alloc, &["hddlv"]));
+    assert!(rt; is_refused(alloc, &["hddlv", "--help"]));
+    assert!(rt; is_refused(alloc, &["hddlv", "solve", "d", "p", "q"]));
+    assert!(rt; is_refused(alloc, &["hddlv", "judge", "d", "p"]));
+    assert!(rt; is_refused(alloc, &["hddlv", "judge", "d", "p", "q", "r"]));
+    for limit in ["x", "", "1.5", "-1", "18446744073709551616"] {
+        assert!(rt; is_refused(alloc, &["hddlv", "judge", "--limit", limit, "d", "p", "q"]));
+    }
+    assert!(rt; is_refused(alloc, &["hddlv", "judge", "--limit=-1", "d", "p", "q"]));
+    assert!(rt;
+        is_refused(
+            alloc,
+            &[
+                "hddlv", "judge", "--limit", "9", "--limit", "9", "d", "p", "q"
+            ]
+        )
+    );
     Ok(())
 }
 

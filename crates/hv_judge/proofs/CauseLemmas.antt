@@ -3,9 +3,8 @@ use Rattle.std.proofs.Common.{◌≡◌, ◌==◌, ◌||◌, ◌&&◌, ◌+◌, 
 use Rattle.std.specs.List.{list_all, find, filter_map, cons_option}
 use Rattle.std.specs.Option.{option_map}
 use Rattle.std.specs.Str.{bytes_eq}
-use Rattle.hv_order.specs.Trees.{Mem, Distinct}
-use Rattle.hv_judge.specs.PlanForms.{Action}
-use Rattle.hv_judge.specs.Plans.{Plan}
+use Rattle.hv_plan.specs.Trees.{Mem, Distinct}
+use Rattle.hv_plan.specs.Values.{Action, Plan}
 use Rattle.hv_judge.specs.Counting.{multiplicity, stands_in}
 use Rattle.hv_judge.specs.declared.answer.Cause.{Cause}
 use Rattle.hv_judge.specs.declared.answer.CauseKind.{CauseKind}

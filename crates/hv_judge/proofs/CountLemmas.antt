@@ -8,9 +8,8 @@ use Rattle.std.proofs.lemmas.Bool.Decides.{nat_tests}
 use Rattle.std.proofs.lemmas.Simd.{splat_is_map}
 use Rattle.std.proofs.lemmas.List.{length-map, length-take}
 use Rattle.std.proofs.Math.Seq.{drop-cons}
-use Rattle.hv_judge.specs.PlanForms.{is_id, greatest}
-use Rattle.hv_judge.specs.PlanViews.{as_number}
-use Rattle.hv_judge.proofs.PlanLemmas.{number_there, number_missing}
+use Rattle.hv_plan.specs.Forms.{is_id, greatest}
+use Rattle.hv_plan.specs.Views.{as_number}
 use Rattle.hv_text.specs.declared.name.Name.{Name}
 use Rattle.hv_text.specs.Names.{text_of}
 use Rattle.hv_judge.specs.Counting.{multiplicity, multiplicities, stands_in, classes, factorial, product, count}
@@ -320,6 +319,22 @@ number_small x h = go (is_id x) refl
     go true e = refl
     go false e = grind (arith, nat_tests, e)
 
+-- a number that is there is the number
+number_there : (x v : ℕ) → Some v ≡ as_number x → v ≡ x
+number_there x v h = go (is_id x) refl h
+  where
+    go : (b : Bool) → is_id x ≡ b → Some v ≡ (if b then Some x else None) → v ≡ x
+    go true e is = cc
+    go false e is = cc
+
+-- a number that is not there is too large
+number_missing : (x : ℕ) → None ≡ as_number x → is_id x ≡ false
+number_missing x h = go (is_id x) refl h
+  where
+    go : (b : Bool) → is_id x ≡ b → None ≡ (if b then Some x else None) → is_id x ≡ false
+    go true e is = cc
+    go false e is = e
+
 -- the next factorial of a product
 next_factor : (sizes : List ℕ) (i c whole : ℕ) → i < length sizes → c * product (map factorial (drop i sizes)) ≡ whole
     → (c * factorial (get_or sizes i 0)) * product (map factorial (drop (i + 1) sizes)) ≡ whole
@@ -332,7 +347,7 @@ pub sizes_more : (sizes : List ℕ) (i c next whole : ℕ) → i < length sizes 
     → Some next ≡ as_number (c * factorial (get_or sizes i 0)) → (0 < next) × (next * product (map factorial (drop (i + 1) sizes)) ≡ whole)
 sizes_more sizes i c next whole h some e n =
     let is = number_there (c * factorial (get_or sizes i 0)) next n in
-    rw is.0 (positive c (factorial (get_or sizes i 0)) some (factorial_positive (get_or sizes i 0)), next_factor sizes i c whole h e)
+    rw is (positive c (factorial (get_or sizes i 0)) some (factorial_positive (get_or sizes i 0)), next_factor sizes i c whole h e)
 
 pub sizes_past : (sizes : List ℕ) (i c limit whole : ℕ) → i < length sizes → 0 < c → limit < 2 ^ 64 → c * product (map factorial (drop i sizes)) ≡ whole
     → None ≡ as_number (c * factorial (get_or sizes i 0)) → true ≡ nat_lt limit whole

@@ -2,13 +2,13 @@
 use Rattle.std.proofs.Common.{◌≡◌, ℕ, List, Option, Some, None, Result, Ok, Err, sym, subst, IfOk, inl, inr}
 use Rattle.hv_text.specs.declared.span.Span.{Span}
 use Rattle.hv_text.specs.declared.refusal.Memory.{Memory}
+use Rattle.hv_plan.specs.Values.{Plan}
 use Rattle.hv_judge.specs.declared.answer.Answer.{Answer}
 use Rattle.hv_judge.specs.declared.answer.Answer.TheVariants.{Solves, Fails, Undecided, Rejected}
 use Rattle.hv_judge.specs.declared.answer.FaultKind.{FaultKind}
 use Rattle.hv_judge.specs.declared.answer.Which.TheVariants as which
 use Rattle.hv_judge.specs.declared.judgement.Unread.{Unread}
 use Rattle.hv_judge.specs.declared.judgement.Unread.TheVariants as unread
-use Rattle.hv_judge.specs.declared.plan.PlanFault.{PlanFault}
 use Rattle.hv_judge.specs.declared.syntax.fault.SyntaxKind.{SyntaxKind}
 use Rattle.hv_judge.specs.declared.world.fault.StaticKind.{StaticKind}
 use Rattle.hv_judge.specs.declared.world.fault.StaticKind.TheVariants as statics
@@ -16,10 +16,8 @@ use Rattle.hv_judge.specs.declared.world.fault.StaticFault.{StaticFault}
 use Rattle.hv_judge.specs.Values.{Domain, Problem}
 use Rattle.hv_judge.specs.Statics.{UnlessMemory, IsFirstFault, IsStaticFault}
 use Rattle.hv_judge.specs.Texts.{IsDomainText, IsDomainFault, IsProblemText, IsProblemFault}
-use Rattle.hv_judge.specs.Plans.{Plan, IsPlanFault}
-use Rattle.hv_judge.specs.PlanSpellings.{IsPlan}
-use Rattle.hv_judge.specs.Rejections.{reported, reported_static, which_of, text_of_side, unread_by, first_too_long, AreRead, by_domain, by_problem, by_statics, IsUnread, by_pair, by_plan}
-use Rattle.hv_judge.specs.Verdicts.{IsVerdict, AreSpelled, Judged, IsUnreadAnswer, IsUnplannedAnswer, IsPlanAnswer}
+use Rattle.hv_judge.specs.Rejections.{reported, reported_static, which_of, text_of_side, unread_by, first_too_long, AreRead, by_domain, by_problem, by_statics, IsUnread, unplanned, unjudged, by_pair, by_plan}
+use Rattle.hv_judge.specs.Verdicts.{IsVerdict, AreSpelled, Judged, IsUnreadAnswer, IsPlanAnswer}
 
 -- a faulty text
 
@@ -62,22 +60,14 @@ verdict_judged domain problem plan limit d p q (Rejected w f) s v = absurd v
 
 planned_judged : (domain problem plan : List ℕ) (limit : ℕ) (d : Domain) (p : Problem) (a : Answer) → first_too_long domain problem plan ≡ None
     → AreRead domain problem d p → IsPlanAnswer d p plan limit a → Judged domain problem plan limit a
-planned_judged domain problem plan limit d p a short read (inl (q, planned, v)) =
-    verdict_judged domain problem plan limit d p q a (record { short = short; read = read; planned = planned }) v
+planned_judged domain problem plan limit d p a short read (inl (q, planned, inl (flat, v))) =
+    verdict_judged domain problem plan limit d p q a (record { short = short; read = read; planned = planned; judged = flat }) v
+planned_judged domain problem plan limit d p a short read (inl (q, planned, inr (r, deep, is))) =
+    subst (Judged domain problem plan limit) (sym is) (by_plan d p r short read (unjudged q r planned deep))
 planned_judged domain problem plan limit d p a short read (inr (f, faulty, (r, e, is))) =
-    subst (Judged domain problem plan limit) (sym is) (by_plan d p f r short read faulty e)
+    subst (Judged domain problem plan limit) (sym is) (by_plan d p r short read (unplanned f r faulty e))
 
 pub plan_judged : (domain problem plan : List ℕ) (limit : ℕ) (d : Domain) (p : Problem) (r : Result Answer Memory) → first_too_long domain problem plan ≡ None
     → AreRead domain problem d p → IfOk r (IsPlanAnswer d p plan limit) → IfOk r (Judged domain problem plan limit)
 plan_judged domain problem plan limit d p (Err e) short read h = tt
 plan_judged domain problem plan limit d p (Ok a) short read h = planned_judged domain problem plan limit d p a short read h
-
-pub as_planned : (d : Domain) (p : Problem) (plan : List ℕ) (limit : ℕ) (q : Plan) (r : Result Answer Memory) → IsPlan plan q → IfOk r (IsVerdict d p q limit)
-    → IfOk r (IsPlanAnswer d p plan limit)
-as_planned d p plan limit q (Err e) h v = tt
-as_planned d p plan limit q (Ok a) h v = inl (q, h, v)
-
-pub as_unplanned : (d : Domain) (p : Problem) (plan : List ℕ) (limit : ℕ) (f : PlanFault) (r : Result Answer Memory) → IsPlanFault plan f → IfOk r (IsUnplannedAnswer f)
-    → IfOk r (IsPlanAnswer d p plan limit)
-as_unplanned d p plan limit f (Err e) h v = tt
-as_unplanned d p plan limit f (Ok a) h v = inr (f, h, v)

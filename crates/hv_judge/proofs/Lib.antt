@@ -5,7 +5,6 @@ pub mod FormulaLemmas
 pub mod FieldLemmas
 pub mod AtomLemmas
 pub mod WriteLemmas
-pub mod PlanLemmas
 pub mod TraceLemmas
 pub mod StaticLemmas
 pub mod NamesSeen
@@ -27,7 +26,6 @@ pub mod RootedPlans
 pub mod SolutionLemmas
 pub mod SpellingLemmas
 pub mod SectionSpellingLemmas
-pub mod PlanSpellingLemmas
 pub mod Members
 pub mod RunLemmas
 pub mod PrintingLemmas

@@ -3,7 +3,7 @@ use Rattle.std.proofs.Common.{◌≡◌, ℕ, ◌≢◌, true, false, List, [], 
 use Rattle.std.specs.Prelude.{◌==◌}
 use Rattle.std.proofs.lemmas.Bool.Decides.{eqb_tells}
 use Rattle.std.proofs.Math.Dec.{eqb}
-use Rattle.hv_order.specs.Trees.{Act, Mem}
+use Rattle.hv_plan.specs.Trees.{Act, Mem}
 
 pub not_true : {P : Type 0} → false ≡ true → P
 not_true clash = absurd (let e : false ≡ true = clash in cc)

@@ -1,6 +1,6 @@
 -- Numbers in lists: which occur, which stand there twice, and what a map makes of them.
 use Rattle.std.proofs.Common.{◌≡◌, ◌==◌, ◌||◌, ℕ, Bool, true, false, List, [], ◌∷◌, map, refl, sym, ap₂, subst, inl, inr}
-use Rattle.hv_order.specs.Trees.{Mem, Distinct}
+use Rattle.hv_plan.specs.Trees.{Mem, Distinct}
 use Rattle.hv_judge.proofs.Members.{SameNumber, equal_numbers, other_numbers, number_cases, number_test, not_true, mem_map_from}
 use Rattle.hv_judge.specs.Trees.{occurs}
 

@@ -1,9 +1,9 @@
 -- The places and the names of the lines that ids begin.
 use Rattle.std.proofs.Common.{◌≡◌, ◌==◌, ◌<◌, ℕ, zero, suc, false, List, [], ◌∷◌, length, map, Some, refl, sym, ap, ap₂, ◌∙◌, subst, inl, inr, ◌⊎◌, arith, one-add}
 use Rattle.std.specs.List.{slice_get}
-use Rattle.hv_order.specs.Trees.{Mem, Distinct}
+use Rattle.hv_plan.specs.Trees.{Mem, Distinct}
 use Rattle.hv_judge.proofs.Members.{SameNumber, equal_numbers, other_numbers, number_cases, number_test}
-use Rattle.hv_judge.specs.PlanForms.{Action}
+use Rattle.hv_plan.specs.Values.{Action}
 use Rattle.hv_judge.specs.Trees.{ids_of, name_of}
 use Rattle.hv_judge.specs.Solutions.{place_of}
 use Rattle.hv_judge.proofs.Occurrences.{map_agree}

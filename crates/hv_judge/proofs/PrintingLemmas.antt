@@ -1,8 +1,5 @@
 -- What is written where a text is printed, from what the parts write.
-use Rattle.std.proofs.Common.{◌≡◌, ℕ, List, [], ◌∷◌, ◌++◌, map, Option, Some, Result, Ok, Err, refl, sym, ap, subst}
-use Rattle.std.specs.List.{flat_map}
-use Rattle.hv_text.specs.Names.{text_of}
-use Rattle.hv_text.specs.declared.name.Name.{Name}
+use Rattle.std.proofs.Common.{◌≡◌, ℕ, List, Option, Result, Ok, Err, sym, subst}
 use Rattle.hv_text.specs.Io.{IsRead, IsReadFault}
 use Rattle.hv_text.specs.declared.fault.TheConstants.{MOST_BYTES}
 use Rattle.hv_text.specs.declared.io.ReadFault.{ReadFault}
@@ -10,19 +7,18 @@ use Rattle.hv_syntax.specs.declared.fault.SyntaxFault.{SyntaxFault}
 use Rattle.hv_syntax.specs.Values.{Domain, Problem}
 use Rattle.hv_syntax.specs.Texts.{IsDomainText, IsDomainFault, IsProblemText, IsProblemFault}
 use Rattle.hv_syntax.specs.CanonicalSections.{canonical_domain, canonical_problem}
+use Rattle.hv_plan.specs.Values.{Plan}
+use Rattle.hv_plan.specs.Spellings.{IsPlan, IsPlanFault}
+use Rattle.hv_plan.specs.Canonical.{plan_text}
+use Rattle.hv_plan.specs.declared.fault.PlanFault.{PlanFault}
 use Rattle.hv_judge.specs.declared.answer.Which.{Which}
 use Rattle.hv_judge.specs.declared.answer.Which.TheVariants as texts
-use Rattle.hv_judge.specs.declared.plan.PlanFault.{PlanFault}
 use Rattle.hv_judge.specs.declared.printing.Printed.{Printed}
 use Rattle.hv_judge.specs.declared.printing.Printed.TheVariants as ends
 use Rattle.hv_judge.specs.declared.running.RunFault.{RunFault}
 use Rattle.hv_judge.specs.declared.running.RunFault.TheVariants as runs
-use Rattle.hv_judge.specs.declared.plan.ActionLine.{ActionLine}
-use Rattle.hv_judge.specs.Plans.{Plan, action_view, IsPlanFault}
-use Rattle.hv_judge.specs.PlanSpellings.{IsPlan}
-use Rattle.hv_judge.specs.Text.{name_text, names_text}
 use Rattle.hv_judge.specs.Rejections.{fault_in}
-use Rattle.hv_judge.specs.Prints.{words_text, action_text, plan_text, rejection, IsPrint, a_domain, a_problem, a_plan, no_domain, no_problem, no_plan, IsPrintOf, text_read, text_too_long, WrotePrint, IsDone, IsRejection, IsTextRejection, IsPlanRejection, IsUnreadRejection}
+use Rattle.hv_judge.specs.Prints.{rejection, IsPrint, a_domain, a_problem, a_plan, no_domain, no_problem, no_plan, IsPrintOf, text_read, text_too_long, WrotePrint, IsDone, IsTextRejection, IsPlanRejection, IsUnreadRejection}
 
 -- what was written is also what a weaker demand allows
 pub print_as : {W : Type 0} (P Q : Printed → List ℕ → Type 0) (taken : W → Option (List ℕ)) (old new : W) (r : Result Printed RunFault)
@@ -44,8 +40,9 @@ pub printed_problem : (text canonical : List ℕ) (p : Problem) → IsProblemTex
     → (end : Printed) (bytes : List ℕ) → IsDone canonical end bytes → IsPrint text texts.Problem end bytes
 printed_problem text canonical p says is end bytes (done, are) = as_print text texts.Problem end ends.Done bytes canonical done are (subst (IsPrint text texts.Problem ends.Done) (sym is) (a_problem p says))
 
-pub printed_plan : (text : List ℕ) (p : Plan) → IsPlan text p → (end : Printed) (bytes : List ℕ) → IsDone (plan_text p) end bytes → IsPrint text texts.Plan end bytes
-printed_plan text p says end bytes (done, are) = as_print text texts.Plan end ends.Done bytes (plan_text p) done are (a_plan p says)
+pub printed_plan : (text canonical : List ℕ) (p : Plan) → IsPlan text p → canonical ≡ plan_text p
+    → (end : Printed) (bytes : List ℕ) → IsDone canonical end bytes → IsPrint text texts.Plan end bytes
+printed_plan text canonical p says is end bytes (done, are) = as_print text texts.Plan end ends.Done bytes canonical done are (subst (IsPrint text texts.Plan ends.Done) (sym is) (a_plan p says))
 
 pub rejected_domain : (text : List ℕ) (f : SyntaxFault) → IsDomainFault text f.kind f.span
     → (end : Printed) (bytes : List ℕ) → IsTextRejection texts.Domain text f end bytes → IsPrint text texts.Domain end bytes
@@ -72,12 +69,3 @@ pub unread_print : {R : Type 0} (w : Which) (left : R → Option (List ℕ)) (ol
 unread_print w left old new fault h end bytes (long, (done, are)) =
     subst (λ x. IsPrintOf w left old new x bytes) (sym done)
     (subst (λ y. IsPrintOf w left old new ends.Rejected y) (sym are) (text_too_long (subst (IsReadFault (left old) (left new) MOST_BYTES) long h)))
-
--- names of the code, and their texts
-pub names_words : (ns : List Name) → names_text ns ≡ words_text (map text_of ns)
-names_words [] = refl
-names_words (n ∷ ns) = ap (λ ys. name_text n ++ ys) (names_words ns)
-
-pub actions_lines : (as' : List ActionLine) → flat_map (λ a. action_text (action_view a)) as' ≡ flat_map action_text (map action_view as')
-actions_lines [] = refl
-actions_lines (a ∷ as') = ap (λ ys. action_text (action_view a) ++ ys) (actions_lines as')

@@ -1,6 +1,6 @@
 -- Rising lists of numbers, and what stands before what in a list.
 use Rattle.std.proofs.Common.{◌≡◌, ◌==◌, ◌+◌, ◌<◌, ◌≤◌, ℕ, zero, suc, true, List, [], ◌∷◌, refl, sym, ap₂, subst, inl, inr, ◌⊎◌, arith, if◌then◌else◌}
-use Rattle.hv_order.specs.Trees.{Mem, Distinct}
+use Rattle.hv_plan.specs.Trees.{Mem, Distinct}
 use Rattle.hv_judge.proofs.Members.{SameNumber, equal_numbers, other_numbers, number_cases, number_test, not_true}
 use Rattle.hv_judge.specs.Trees.{occurs}
 use Rattle.hv_judge.specs.Solutions.{stands_before}

@@ -1,9 +1,8 @@
 -- What the ids of a plan are whose lines form a tree.
 use Rattle.std.proofs.Common.{ℕ, sym, subst}
-use Rattle.hv_order.specs.Trees.{Mem, Distinct}
+use Rattle.hv_plan.specs.Trees.{Mem, Distinct}
 use Rattle.hv_judge.proofs.Members.{mem_map_from}
-use Rattle.hv_judge.specs.PlanForms.{Action}
-use Rattle.hv_judge.specs.Plans.{Plan}
+use Rattle.hv_plan.specs.Values.{Action, Plan}
 use Rattle.hv_judge.specs.Trees.{ids_of}
 use Rattle.hv_judge.specs.Causes.{FormTree}
 

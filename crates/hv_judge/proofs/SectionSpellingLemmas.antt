@@ -2,7 +2,7 @@
 use Rattle.std.proofs.Common.{◌≡◌, ◌&&◌, ◌||◌, ℕ, Bool, true, false, not, List, [], ◌∷◌, ◌++◌, map, Option, Some, None, Result, Ok, Err, ◌↔◌, ◌⊎◌, inl, inr, refl, sym, ap, ◌∙◌, subst, codes, option_map, if◌then◌else◌}
 use Rattle.std.specs.Prelude.{option_and_then}
 use Rattle.std.specs.Option.{is_some}
-use Rattle.hv_order.specs.Trees.{Mem, Distinct}
+use Rattle.hv_plan.specs.Trees.{Mem, Distinct}
 use Rattle.hv_text.specs.Trees.{Tree, word, list, Trees, none, more, place_of}
 use Rattle.hv_text.specs.declared.span.Span.{Span}
 use Rattle.hv_judge.specs.declared.syntax.fault.SyntaxKind.{SyntaxKind}

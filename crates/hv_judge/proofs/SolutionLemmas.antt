@@ -1,11 +1,11 @@
 -- A plan without decomposition lines is a solution exactly where its lines have the names of the subtasks, in their order.
 use Rattle.std.proofs.Common.{◌≡◌, ◌+◌, ◌<◌, ◌≤◌, ℕ, suc, true, List, [], ◌∷◌, length, map, Some, refl, sym, ap, ◌∙◌, subst, inl, inr, arith}
-use Rattle.hv_order.specs.Trees.{Item, Act, Task, Pre, Mem, Distinct, itself, IsSubtask, IsTree, IsWithin, HasActions}
+use Rattle.hv_plan.specs.Trees.{Item, Act, Task, Pre, Mem, Distinct, itself, IsSubtask, IsTree, IsWithin, HasActions}
 use Rattle.hv_order.specs.Candidates.{Candidate, IsOrder, AreCandidates}
 use Rattle.hv_order.specs.Finishes.{FitTogether, RootFitsBy, Fits, FitsAll}
 use Rattle.hv_order.specs.Laws.{SequenceLaw}
 use Rattle.hv_judge.proofs.Members.{MappedFrom, mem_map, mem_map_from, not_true, act_same}
-use Rattle.hv_judge.specs.Plans.{Plan}
+use Rattle.hv_plan.specs.Values.{Plan}
 use Rattle.hv_judge.specs.Trees.{ids_of, name_of}
 use Rattle.hv_judge.specs.Causes.{FormTree}
 use Rattle.hv_judge.specs.Solutions.{place_of, item_of, tree_of, stands_before, orders, candidate_of, IsMatching, IsOrderedBy}

@@ -1,5 +1,5 @@
 -- What the steps of building a tree keep.
-use Rattle.std.proofs.Common.{◌≡◌, ℕ, zero, suc, ◌+◌, ◌<◌, ◌&&◌, ◌==◌, Bool, true, false, not, List, [], ◌∷◌, ◌++◌, append_assoc, length, map, drop, get_or, slice_get, refl, sym, ap, ◌∙◌, arith, nat_eq, nat_lt, Option, None, Some, position, cond, add-one, if◌then◌else◌}
+use Rattle.std.proofs.Common.{◌≡◌, ℕ, suc, ◌+◌, ◌<◌, ◌&&◌, ◌==◌, Bool, true, false, not, List, [], ◌∷◌, ◌++◌, append_assoc, length, map, drop, get_or, slice_get, refl, sym, ap, ◌∙◌, arith, nat_eq, nat_lt, Option, None, Some, position, cond, add-one, if◌then◌else◌}
 use Rattle.std.specs.Str.{bytes_eq}
 use Rattle.std.specs.List.{list_all, find, filter_map, cons_option, position_or_len}
 use Rattle.std.specs.Option.{option_map}
@@ -8,14 +8,12 @@ use Rattle.std.proofs.lemmas.List.{map-append, length-map}
 use Rattle.std.proofs.lemmas.List.Folds.{find_at}
 use Rattle.std.proofs.lemmas.Bool.{eqb-true, eq-eqb, ltb-true}
 use Rattle.std.proofs.lemmas.Bool.Decides.{nat_tests}
-use Rattle.std.proofs.lemmas.Option.{slice_get-get_or, slice_get_past}
+use Rattle.std.proofs.lemmas.Option.{slice_get-get_or, slice_get-map, slice_get_past}
 use Rattle.std.proofs.Math.Seq.{drop-cons}
 use Rattle.hv_text.specs.declared.name.Name.{Name}
 use Rattle.hv_text.specs.Names.{text_of}
-use Rattle.hv_judge.specs.PlanForms.{Action}
-use Rattle.hv_judge.specs.Plans.{action_view}
+use Rattle.hv_plan.specs.Values.{Action}
 use Rattle.hv_judge.specs.Counting.{multiplicity, multiplicities}
-use Rattle.hv_judge.specs.declared.plan.ActionLine.{ActionLine}
 use Rattle.hv_judge.specs.declared.answer.Cause.{Cause}
 use Rattle.hv_judge.specs.declared.tree.TreeFault.{TreeFault}
 use Rattle.hv_judge.specs.declared.tree.TreeFault.TheVariants as faults
@@ -111,36 +109,25 @@ places_hold is (k ∷ ks) (i ∷ root) e =
     let here : slice_get is k ≡ Some i = rw found.0 (number_get i is (rw found.0 at found.1)) in
     rw (here, places_hold is ks root rest) refl
 
-get-map : {A B : Type 0} (v : A → B) (xs : List A) (k : ℕ) → slice_get (map v xs) k ≡ option_map v (slice_get xs k)
-get-map v [] k = refl
-get-map v (x ∷ xs) zero = refl
-get-map v (x ∷ xs) (suc k) = get-map v xs k
-
-named : (o : Option ActionLine) → option_map (λ a. a.name) (option_map action_view o) ≡ option_map (λ a. text_of a.name) o
-named None = refl
-named (Some a) = refl
-
 id_place : (i : ℕ) (ls : List Action) → position_or_len (λ a. i == a.id) ls ≡ position_or_len (nat_eq i) (ids_of ls)
 id_place i [] = refl
 id_place i (l ∷ ls) = rw (id_place i ls) refl
 
-name_at_place : (ls : List ActionLine) (i k : ℕ) → Some k ≡ position (nat_eq i) (ids_of (map action_view ls))
-    → option_map (λ a. text_of a.name) (slice_get ls k) ≡ name_of (map action_view ls) i
+name_at_place : (ls : List Action) (i k : ℕ) → Some k ≡ position (nat_eq i) (ids_of ls) → option_map (λ a. a.name) (slice_get ls k) ≡ name_of ls i
 name_at_place ls i k e =
-    let found = found_at (nat_eq i) (ids_of (map action_view ls)) k (sym e) in
-    let seen : find (λ a. i == a.id) (map action_view ls) ≡ slice_get (map action_view ls) k
-    = find_at (λ a. i == a.id) (map action_view ls) ∙ ap (slice_get (map action_view ls)) (id_place i (map action_view ls) ∙ sym found.0) in
-    sym (ap (option_map (λ a. a.name)) (seen ∙ get-map action_view ls k) ∙ named (slice_get ls k))
+    let found = found_at (nat_eq i) (ids_of ls) k (sym e) in
+    let seen : find (λ a. i == a.id) ls ≡ slice_get ls k = find_at (λ a. i == a.id) ls ∙ ap (slice_get ls) (id_place i ls ∙ sym found.0) in
+    sym (ap (option_map (λ a. a.name)) seen)
 
 -- the names of the lines at the children's places are the names of the children
-pub children_named : (ls : List ActionLine) (ks root : List ℕ) → map Some ks ≡ map (λ i. position (nat_eq i) (ids_of (map action_view ls))) root
-    → filter_map (λ k. option_map (λ a. text_of a.name) (slice_get ls k)) ks ≡ filter_map (name_of (map action_view ls)) root
+pub children_named : (ls : List Action) (ks root : List ℕ) → map Some ks ≡ map (λ i. position (nat_eq i) (ids_of ls)) root
+    → filter_map (λ k. option_map (λ a. a.name) (slice_get ls k)) ks ≡ filter_map (name_of ls) root
 children_named ls [] [] e = refl
 children_named ls [] (i ∷ root) e = cc
 children_named ls (k ∷ ks) [] e = cc
 children_named ls (k ∷ ks) (i ∷ root) e =
-    let first : Some k ≡ position (nat_eq i) (ids_of (map action_view ls)) = cc in
-    let rest : map Some ks ≡ map (λ i. position (nat_eq i) (ids_of (map action_view ls))) root = cc in
+    let first : Some k ≡ position (nat_eq i) (ids_of ls) = cc in
+    let rest : map Some ks ≡ map (λ i. position (nat_eq i) (ids_of ls)) root = cc in
     rw (name_at_place ls i k first, children_named ls ks root rest) refl
 
 -- tables are equal where all their entries are
@@ -149,30 +136,32 @@ same_tables [] vs ws = refl
 same_tables (d ∷ ds) vs ws = ap (λ b. (multiplicity d vs == multiplicity d ws) && b) (same_tables ds vs ws)
 
 -- the names so far, with that of one place more
-pub more_names : (ls : List ActionLine) (places : List ℕ) (i : ℕ) (done whole : List (List ℕ)) → i < length places
-    → done ++ filter_map (λ k. option_map (λ a. text_of a.name) (slice_get ls k)) (drop i places) ≡ whole
-    → done ++ cons_option (option_map (λ a. text_of a.name) (slice_get ls (get_or places i 0))) (filter_map (λ k. option_map (λ a. text_of a.name) (slice_get ls k)) (drop (i + 1) places)) ≡ whole
+more_names : (ls : List Action) (places : List ℕ) (i : ℕ) (done whole : List (List ℕ)) → i < length places
+    → done ++ filter_map (λ k. option_map (λ a. a.name) (slice_get ls k)) (drop i places) ≡ whole
+    → done ++ cons_option (option_map (λ a. a.name) (slice_get ls (get_or places i 0))) (filter_map (λ k. option_map (λ a. a.name) (slice_get ls k)) (drop (i + 1) places)) ≡ whole
 more_names ls places i done whole h e = rw (add-one i) (rw (drop-cons places i 0 h) at e)
 
 -- a line is found at the place, and its name was read
-pub name_found : (ls : List ActionLine) (places : List ℕ) (i : ℕ) (done new : List Name) (a : ActionLine) (whole : List (List ℕ)) → i < length places
-    → true ≡ nat_lt (get_or places i 0) (length ls) → a ≡ get_or ls (get_or places i 0) a → new ≡ done ++ a.name ∷ []
-    → map text_of done ++ filter_map (λ k. option_map (λ a. text_of a.name) (slice_get ls k)) (drop i places) ≡ whole
-    → map text_of new ++ filter_map (λ k. option_map (λ a. text_of a.name) (slice_get ls k)) (drop (i + 1) places) ≡ whole
-name_found ls places i done new a whole h t is n e =
-    let more = more_names ls places i (map text_of done) whole h e in
-    let here : slice_get ls (get_or places i 0) ≡ Some a
-    = slice_get-get_or ls (get_or places i 0) a (ltb-true (get_or places i 0) (length ls) (sym t)) ∙ ap (λ x. Some x) (sym is) in
-    rw (n, map-append text_of done (a.name ∷ []), append_assoc) (rw here at more)
+pub name_found : {A : Type 0} (view : A → Action) (xs : List A) (places : List ℕ) (i : ℕ) (done new : List Name) (x : A) (n : Name) (whole : List (List ℕ)) → i < length places
+    → true ≡ nat_lt (get_or places i 0) (length xs) → x ≡ get_or xs (get_or places i 0) x → text_of n ≡ (view x).name → new ≡ done ++ n ∷ []
+    → map text_of done ++ filter_map (λ k. option_map (λ a. a.name) (slice_get (map view xs) k)) (drop i places) ≡ whole
+    → map text_of new ++ filter_map (λ k. option_map (λ a. a.name) (slice_get (map view xs) k)) (drop (i + 1) places) ≡ whole
+name_found view xs places i done new x n whole h t is named pushed e =
+    let more = more_names (map view xs) places i (map text_of done) whole h e in
+    let here : slice_get xs (get_or places i 0) ≡ Some x
+    = slice_get-get_or xs (get_or places i 0) x (ltb-true (get_or places i 0) (length xs) (sym t)) ∙ ap (λ y. Some y) (sym is) in
+    let seen : slice_get (map view xs) (get_or places i 0) ≡ Some (view x) = slice_get-map view xs (get_or places i 0) ∙ ap (option_map view) here in
+    rw (pushed, map-append text_of done (n ∷ []), append_assoc, named) (rw seen at more)
 
 -- no line is at the place
-pub name_missing : (ls : List ActionLine) (places : List ℕ) (i : ℕ) (done : List Name) (whole : List (List ℕ)) → i < length places
-    → false ≡ nat_lt (get_or places i 0) (length ls)
-    → map text_of done ++ filter_map (λ k. option_map (λ a. text_of a.name) (slice_get ls k)) (drop i places) ≡ whole
-    → map text_of done ++ filter_map (λ k. option_map (λ a. text_of a.name) (slice_get ls k)) (drop (i + 1) places) ≡ whole
-name_missing ls places i done whole h t e =
-    let more = more_names ls places i (map text_of done) whole h e in
-    let none : slice_get ls (get_or places i 0) ≡ None = slice_get_past ls (get_or places i 0) (grind (arith, nat_tests, t)) in
+pub name_missing : {A : Type 0} (view : A → Action) (xs : List A) (places : List ℕ) (i : ℕ) (done : List Name) (whole : List (List ℕ)) → i < length places
+    → false ≡ nat_lt (get_or places i 0) (length xs)
+    → map text_of done ++ filter_map (λ k. option_map (λ a. a.name) (slice_get (map view xs) k)) (drop i places) ≡ whole
+    → map text_of done ++ filter_map (λ k. option_map (λ a. a.name) (slice_get (map view xs) k)) (drop (i + 1) places) ≡ whole
+name_missing view xs places i done whole h t e =
+    let more = more_names (map view xs) places i (map text_of done) whole h e in
+    let past : slice_get xs (get_or places i 0) ≡ None = slice_get_past xs (get_or places i 0) (grind (arith, nat_tests, t)) in
+    let none : slice_get (map view xs) (get_or places i 0) ≡ None = slice_get-map view xs (get_or places i 0) ∙ ap (option_map view) past in
     rw none at more
 
 -- equal numbers make no cause

@@ -1,5 +1,5 @@
 -- Three texts and a limit have one answer.
-use Rattle.std.proofs.Common.{◌≡◌, ◌<◌, ◌≤◌, ℕ, true, false, List, [], ◌∷◌, length, Some, None, Result, Ok, Err, refl, sym, ◌∙◌, ap, subst, arith, inl, inr}
+use Rattle.std.proofs.Common.{◌≡◌, ◌<◌, ◌≤◌, ℕ, List, Some, None, Result, Ok, Err, refl, sym, ◌∙◌, ap, subst, arith, inl, inr}
 use Rattle.std.specs.List.{slice_get}
 use Rattle.std.specs.Option.{option_map}
 use Rattle.hv_text.specs.Words.{pieces}
@@ -9,6 +9,10 @@ use Rattle.hv_text.specs.Sexps.{AreExpressions}
 use Rattle.hv_text.specs.declared.span.Span.{Span}
 use Rattle.hv_text.specs.declared.fault.TextKind.{TextKind}
 use Rattle.hv_text.specs.declared.fault.TextKind.TheVariants as texts
+use Rattle.hv_plan.specs.Values.{Plan}
+use Rattle.hv_plan.specs.Spellings.{IsPlan, IsPlanFault}
+use Rattle.hv_plan.specs.declared.fault.PlanFault.{PlanFault}
+use Rattle.hv_plan.specs.declared.fault.PlanFault.TheVariants as plans
 use Rattle.hv_judge.specs.declared.answer.Answer.{Answer}
 use Rattle.hv_judge.specs.declared.answer.Answer.TheVariants.{Solves, Fails, Undecided, Rejected}
 use Rattle.hv_judge.specs.declared.answer.Cause.{Cause}
@@ -17,26 +21,19 @@ use Rattle.hv_judge.specs.declared.answer.Certificate.{Certificate}
 use Rattle.hv_judge.specs.declared.answer.Fault.{Fault}
 use Rattle.hv_judge.specs.declared.answer.FaultKind.{FaultKind}
 use Rattle.hv_judge.specs.declared.answer.Which.{Which}
-use Rattle.hv_judge.specs.declared.plan.PlanFault.{PlanFault}
-use Rattle.hv_judge.specs.declared.plan.PlanFault.TheVariants as plans
 use Rattle.hv_judge.specs.declared.syntax.fault.SyntaxKind.{SyntaxKind}
 use Rattle.hv_judge.specs.declared.syntax.fault.SyntaxKind.TheVariants as kinds
 use Rattle.hv_judge.specs.declared.world.fault.StaticFault.{StaticFault}
 use Rattle.hv_judge.specs.Values.{Action, Domain, Problem}
 use Rattle.hv_judge.specs.States.{State, AreApplicable, IsFirstInapplicable}
-use Rattle.hv_judge.specs.PlanForms as forms
-use Rattle.hv_judge.specs.PlanSpellings.{IsPlan}
-use Rattle.hv_judge.specs.Plans.{Plan, IsPlanFault, IsFaultWithin, IsBodyFault, fault_from, roots_of}
-use Rattle.hv_judge.specs.PlanLines.{NumberedLine, has_start, has_end, between}
 use Rattle.hv_judge.specs.Statics.{action_names, domain_faults, problem_faults, IsStatic, IsFirstFault}
 use Rattle.hv_judge.specs.Texts.{IsReadAs, IsFaultBy}
 use Rattle.hv_judge.specs.Domains.{domain_of}
 use Rattle.hv_judge.specs.Problems.{problem_of}
-use Rattle.hv_judge.specs.Rejections.{reported, reported_static, reported_plan, fault_in, which_of, text_of_side, AreRead, IsRejectedPair, by_domain, by_problem, by_statics, IsRejected, by_length, by_pair, by_plan}
+use Rattle.hv_judge.specs.Rejections.{reported, reported_static, reported_plan, decomposition_fault, fault_in, which_of, text_of_side, AreRead, IsRejectedPair, by_domain, by_problem, by_statics, IsRejectedPlan, unplanned, unjudged, IsRejected, by_length, by_pair, by_plan}
 use Rattle.hv_judge.specs.Verdicts.{AreSpelled, IsRun, Certifies, IsCauseOf, by_tree, by_action, by_goal, by_order, IsOrdered, IsVerdict, IsJudgement, count_of, first_state, FitsProblem, subtasks_of, actions_of}
 use Rattle.hv_judge.specs.Causes.{IsTreeCause}
 use Rattle.hv_judge.proofs.VerdictLemmas.{no_cause_of_fit, cause_of_tree}
-use Rattle.hv_judge.proofs.PlanSpellingLemmas.{plan_table}
 use Rattle.hv_judge.proofs.TextLemmas.{domain_said, problem_said}
 use Rattle.hv_judge.specs.Answers.{SameAnswer, OneAnswerLaw}
 use Rattle.hv_judge.proofs.StaticPlaces.{SameStatic, one_static, none_first}
@@ -115,99 +112,19 @@ module _ (d : Domain) (p : Problem) (q : Plan) (limit : ℕ) (sound : IsStatic d
 
 -- a plan's text
 
-one_plan : (text : List ℕ) (p q : Plan) → IsPlan text p → IsPlan text q → p ≡ q
-one_plan text p q here there =
-    let body = (plan_table (between text) p).0 here.body in let body' = (plan_table (between text) q).0 there.body in
-    let mine = body.root in let yours = body'.root in
-    let roots : p.root ≡ q.root = cc in
-    let mine' = body.actions in let yours' = body'.actions in
-    let actions : p.actions ≡ q.actions = cc in
-    let same : (xs : List forms.Action) (r : forms.Root) → xs ≡ q.actions → r ≡ q.root → ◌≡◌ {A = Plan} (record { actions = xs; root = r }) q
-    = λ xs r e h. ap (λ ys. record { actions = ys; root = r }) e ∙ ap (λ z. record { actions = q.actions; root = z }) h in
-    same p.actions p.root actions roots
+-- what is reported is no want of memory
+is_reported : (f : PlanFault) (r : Fault) → reported_plan f ≡ Some r → f ≡ plans.Memory → ⊥
+is_reported f r is memory = let bad : None ≡ Some r = subst (λ g. reported_plan g ≡ Some r) memory is in cc
 
-no_body_fault : (ls : List NumberedLine) (p : Plan) (f : PlanFault) (r : Fault) → fault_from false ls ≡ None → roots_of ls ≡ p.root ∷ [] → reported_plan f ≡ Some r
-    → IsBodyFault ls f → ⊥
-no_body_fault ls p (plans.BadByte n) r sound root is h = cc
-no_body_fault ls p (plans.BadLine n) r sound root is h = cc
-no_body_fault ls p (plans.IdTooLarge n) r sound root is h = cc
-no_body_fault ls p (plans.RepeatedRoot n) r sound root is h = cc
-no_body_fault ls p plans.NoRoot r sound root is (none, rootless) = cc
-no_body_fault ls p plans.TooLong r sound root is h = h
-no_body_fault ls p plans.NoStart r sound root is h = h
-no_body_fault ls p plans.NoEnd r sound root is h = h
-no_body_fault ls p plans.Memory r sound root is h = let bad : None ≡ Some r = is in cc
-
--- how a text holds no plan: it is too long, lacks a marker, or its lines are faulty
-data Unplanned (text : List ℕ) (f : PlanFault) : Type 0 where
-  too_long : 268435456 < length text → f ≡ plans.TooLong → Unplanned text f
-  no_start : length text ≤ 268435456 → has_start text ≡ false → f ≡ plans.NoStart → Unplanned text f
-  no_end : length text ≤ 268435456 → has_start text ≡ true → has_end text ≡ false → f ≡ plans.NoEnd → Unplanned text f
-  in_body : IsFaultWithin text f → Unplanned text f
-
-unplanned : (text : List ℕ) (f : PlanFault) (r : Fault) → reported_plan f ≡ Some r → IsPlanFault text f → Unplanned text f
-unplanned text plans.TooLong r is h = too_long h refl
-unplanned text plans.NoStart r is (size, h) = no_start size h refl
-unplanned text plans.NoEnd r is (size, starts, h) = no_end size starts h refl
-unplanned text plans.Memory r is h = let bad : None ≡ Some r = is in absurd (cc)
-unplanned text (plans.BadByte n) r is h = in_body h
-unplanned text (plans.BadLine n) r is h = in_body h
-unplanned text (plans.IdTooLarge n) r is h = in_body h
-unplanned text (plans.RepeatedRoot n) r is h = in_body h
-unplanned text plans.NoRoot r is h = in_body h
-
-planned_or_not : (text : List ℕ) (p : Plan) (f : PlanFault) (r : Fault) → IsPlan text p → reported_plan f ≡ Some r → Unplanned text f → ⊥
-planned_or_not text p f r good is (too_long size e) = let short = good.size in omega arith
-planned_or_not text p f r good is (no_start size h e) = let starts = good.starts in cc
-planned_or_not text p f r good is (no_end size starts h e) = let ends = good.ends in cc
-planned_or_not text p f r good is (in_body (size, starts, ends, h)) =
-    let body = (plan_table (between text) p).0 good.body in no_body_fault (between text) p f r body.sound body.root is h
-
--- the fault of lines, by what stands in them
-data FaultyLines (ls : List NumberedLine) (f : PlanFault) : Type 0 where
-  at_line : fault_from false ls ≡ Some f → FaultyLines ls f
-  rootless : fault_from false ls ≡ None → f ≡ plans.NoRoot → FaultyLines ls f
-
-faulty_lines : (ls : List NumberedLine) (f : PlanFault) (r : Fault) → reported_plan f ≡ Some r → IsBodyFault ls f → FaultyLines ls f
-faulty_lines ls (plans.BadByte n) r is h = at_line h
-faulty_lines ls (plans.BadLine n) r is h = at_line h
-faulty_lines ls (plans.IdTooLarge n) r is h = at_line h
-faulty_lines ls (plans.RepeatedRoot n) r is h = at_line h
-faulty_lines ls plans.NoRoot r is (none, h) = rootless none refl
-faulty_lines ls plans.TooLong r is h = absurd h
-faulty_lines ls plans.NoStart r is h = absurd h
-faulty_lines ls plans.NoEnd r is h = absurd h
-faulty_lines ls plans.Memory r is h = let bad : None ≡ Some r = is in absurd (cc)
-
-one_line_fault : (ls : List NumberedLine) (f g : PlanFault) → FaultyLines ls f → FaultyLines ls g → f ≡ g
-one_line_fault ls f g (at_line h) (at_line h') = cc
-one_line_fault ls f g (at_line h) (rootless h' e) = absurd (cc)
-one_line_fault ls f g (rootless h e) (at_line h') = absurd (cc)
-one_line_fault ls f g (rootless h e) (rootless h' e') = cc
-
-module _ (text : List ℕ) (f g : PlanFault) (r t : Fault) (is : reported_plan f ≡ Some r) (other : reported_plan g ≡ Some t) where
-  one_unplanned : Unplanned text f → Unplanned text g → f ≡ g
-  one_unplanned (too_long size e) (too_long size' e') = cc
-  one_unplanned (too_long size e) (no_start short h e') = absurd (omega arith)
-  one_unplanned (too_long size e) (no_end short starts h e') = absurd (omega arith)
-  one_unplanned (too_long size e) (in_body (short, starts, ends, h)) = absurd (omega arith)
-  one_unplanned (no_start short h e) (too_long size e') = absurd (omega arith)
-  one_unplanned (no_start short h e) (no_start short' h' e') = cc
-  one_unplanned (no_start short h e) (no_end short' starts h' e') = absurd (cc)
-  one_unplanned (no_start short h e) (in_body (short', starts, ends, h')) = absurd (cc)
-  one_unplanned (no_end short starts h e) (too_long size e') = absurd (omega arith)
-  one_unplanned (no_end short starts h e) (no_start short' h' e') = absurd (cc)
-  one_unplanned (no_end short starts h e) (no_end short' starts' h' e') = cc
-  one_unplanned (no_end short starts h e) (in_body (short', starts', ends, h')) = absurd (cc)
-  one_unplanned (in_body (short, starts, ends, h)) (too_long size e') = absurd (omega arith)
-  one_unplanned (in_body (short, starts, ends, h)) (no_start short' h' e') = absurd (cc)
-  one_unplanned (in_body (short, starts, ends, h)) (no_end short' starts' h' e') = absurd (cc)
-  one_unplanned (in_body (short, starts, ends, h)) (in_body (short', starts', ends', h')) =
-      one_line_fault (between text) f g (faulty_lines (between text) f r is h) (faulty_lines (between text) g t other h')
+-- from the laws of plans: a text holds one plan or has one fault, and never both
+pub record LawsOfPlans : Type 0 where
+  pub plan : (text : List ℕ) (p q : Plan) → IsPlan text p → IsPlan text q → p ≡ q
+  pub fault : (text : List ℕ) (f g : PlanFault) → IsPlanFault text f → IsPlanFault text g → (f ≡ plans.Memory → ⊥) → (g ≡ plans.Memory → ⊥) → f ≡ g
+  pub faultless : (text : List ℕ) (p : Plan) (f : PlanFault) → IsPlan text p → IsPlanFault text f → f ≡ plans.Memory
 
 -- from the laws of texts: a text has one reading, and its words stand in order
 module _ (one_reading : (text : List ℕ) (ts us : Trees) → AreExpressions text ts → AreExpressions text us → ts ≡ us)
-    (in_order : (text : List ℕ) → IsInOrder 0 (pieces text)) where
+    (in_order : (text : List ℕ) → IsInOrder 0 (pieces text)) (laws : LawsOfPlans) where
   -- a domain's or a problem's text
 
   module _ {V : Type 0} (reading : Trees → Result V (SyntaxKind × Span)) (text : List ℕ) where
@@ -290,6 +207,22 @@ module _ (one_reading : (text : List ℕ) (ts us : Trees) → AreExpressions tex
 
   -- rejected texts
 
+  module _ (text : List ℕ) where
+    judged_or_rejected_plan : (q : Plan) (f : Fault) → IsPlan text q → decomposition_fault q.decompositions ≡ None → IsRejectedPlan text f → ⊥
+    judged_or_rejected_plan q _ good flat (unplanned f r bad is) = is_reported f r is (laws.faultless text q f good bad)
+    judged_or_rejected_plan q _ good flat (unjudged p r good' deep) =
+        let same : decomposition_fault q.decompositions ≡ Some r = subst (λ x. decomposition_fault x.decompositions ≡ Some r) (laws.plan text p q good' good) deep in
+        let bad : None ≡ Some r = sym flat ∙ same in cc
+
+    one_rejected_plan : (f g : Fault) → IsRejectedPlan text f → IsRejectedPlan text g → f ≡ g
+    one_rejected_plan _ _ (unplanned f r bad is) (unplanned g t bad' is') =
+        let same = laws.fault text f g bad bad' (is_reported f r is) (is_reported g t is') in
+        let there : reported_plan g ≡ Some r = subst (λ m. reported_plan m ≡ Some r) same is in cc
+    one_rejected_plan _ _ (unplanned f r bad is) (unjudged q t good deep) = absurd (is_reported f r is (laws.faultless text q f good bad))
+    one_rejected_plan _ _ (unjudged q r good deep) (unplanned g t bad is) = absurd (is_reported g t is (laws.faultless text q g good bad))
+    one_rejected_plan _ _ (unjudged p r good deep) (unjudged q t good' deep') =
+        let there : decomposition_fault q.decompositions ≡ Some r = subst (λ x. decomposition_fault x.decompositions ≡ Some r) (laws.plan text p q good good') deep in cc
+
   module _ (domain problem : List ℕ) where
     read_or_rejected : (d : Domain) (p : Problem) (w : Which) (f : Fault) → AreRead domain problem d p → IsRejectedPair domain problem w f → ⊥
     read_or_rejected d p _ _ read (by_domain kind s k bad is) = read_or_faulty domain_of domain d kind s k is (domain_said domain d read.says_domain) bad
@@ -318,21 +251,18 @@ module _ (one_reading : (text : List ℕ) (ts us : Trees) → AreExpressions tex
     spelled_or_rejected : (d : Domain) (p : Problem) (q : Plan) (w : Which) (f : Fault) → AreSpelled domain problem plan d p q → IsRejected domain problem plan w f → ⊥
     spelled_or_rejected d p q w _ spelled (by_length v long) = let short = spelled.short in cc
     spelled_or_rejected d p q w f spelled (by_pair v g short bad) = read_or_rejected domain problem d p w f spelled.read bad
-    spelled_or_rejected d p q _ r spelled (by_plan d' p' f g short read bad is) = planned_or_not plan q f r spelled.planned is (unplanned plan f r is bad)
+    spelled_or_rejected d p q _ f spelled (by_plan d' p' g short read bad) = judged_or_rejected_plan plan q f spelled.planned spelled.judged bad
 
     one_rejected : (w v : Which) (f g : Fault) → IsRejected domain problem plan w f → IsRejected domain problem plan v g → SameAnswer (Rejected w f) (Rejected v g)
     one_rejected w v _ _ (by_length w' long) (by_length v' long') = let same : w ≡ v = cc in (same, refl)
     one_rejected w v _ g (by_length w' long) (by_pair v' g' short bad) = absurd (cc)
-    one_rejected w _ _ g (by_length w' long) (by_plan d p f' g' short read bad is) = absurd (cc)
+    one_rejected w _ _ g (by_length w' long) (by_plan d p g' short read bad) = absurd (cc)
     one_rejected w v f _ (by_pair w' f' short bad) (by_length v' long) = absurd (cc)
     one_rejected w v f g (by_pair w' f' short bad) (by_pair v' g' short' bad') = one_pair domain problem w v f g bad bad'
-    one_rejected w _ f g (by_pair w' f' short bad) (by_plan d p h g' short' read bad' is) = absurd (read_or_rejected domain problem d p w f read bad)
-    one_rejected _ v f _ (by_plan d p h f' short read bad is) (by_length v' long) = absurd (cc)
-    one_rejected _ v f g (by_plan d p h f' short read bad is) (by_pair v' g' short' bad') = absurd (read_or_rejected domain problem d p v g read bad')
-    one_rejected _ _ f g (by_plan d p h f' short read bad is) (by_plan d' p' i g' short' read' bad' is') =
-        let same = one_unplanned plan h i f g is is' (unplanned plan h f is bad) (unplanned plan i g is' bad') in
-        let there : reported_plan i ≡ Some f = subst (λ m. reported_plan m ≡ Some f) same is in
-        let faults_agree : f ≡ g = cc in (refl, faults_agree)
+    one_rejected w _ f g (by_pair w' f' short bad) (by_plan d p g' short' read bad') = absurd (read_or_rejected domain problem d p w f read bad)
+    one_rejected _ v f _ (by_plan d p f' short read bad) (by_length v' long) = absurd (cc)
+    one_rejected _ v f g (by_plan d p f' short read bad) (by_pair v' g' short' bad') = absurd (read_or_rejected domain problem d p v g read bad')
+    one_rejected _ _ f g (by_plan d p f' short read bad) (by_plan d' p' g' short' read' bad') = (refl, one_rejected_plan plan f g bad bad')
 
   -- the whole
 
@@ -341,7 +271,7 @@ module _ (one_reading : (text : List ℕ) (ts us : Trees) → AreExpressions tex
     one_judgement a b (d, p, q, spelled, h) (d', p', q', spelled', g) =
         let domains = one_value domain_of domain d d' (domain_said domain d spelled.read.says_domain) (domain_said domain d' spelled'.read.says_domain) in
         let problems = one_value problem_of problem p p' (problem_said problem p spelled.read.says_problem) (problem_said problem p' spelled'.read.says_problem) in
-        let plans_agree = one_plan plan q q' spelled.planned spelled'.planned in
+        let plans_agree = laws.plan plan q q' spelled.planned spelled'.planned in
         let here : IsVerdict d' p' q' limit a = subst (λ x. IsVerdict d' p' x limit a) plans_agree (subst (λ x. IsVerdict d' x q limit a) problems (subst (λ x. IsVerdict x p q limit a) domains h)) in
         one_verdict d' p' q' limit spelled'.read.sound a b here g
 

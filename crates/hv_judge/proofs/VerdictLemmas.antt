@@ -9,16 +9,17 @@ use Rattle.std.specs.Cmp.Lexicographic.{pointwise}
 use Rattle.std.specs.List.{slice_get, filter_map, find, list_all, list_any}
 use Rattle.std.specs.Option.{option_map}
 use Rattle.std.specs.Str.{bytes_eq}
-use Rattle.hv_order.specs.Trees.{Mem}
+use Rattle.hv_plan.specs.Trees.{Mem}
 use Rattle.hv_text.specs.Names.{text_of}
 use Rattle.hv_text.specs.declared.refusal.Memory.{Memory}
+use Rattle.hv_plan.specs.Values as plans
+use Rattle.hv_plan.specs.Values.{Plan}
 use Rattle.hv_judge.specs.declared.answer.Answer.{Answer}
 use Rattle.hv_judge.specs.declared.answer.Cause.{Cause}
 use Rattle.hv_judge.specs.declared.trace.Stop.{Stop}
 use Rattle.hv_judge.specs.declared.trace.Stop.TheVariants as stops
 use Rattle.hv_judge.specs.declared.tree.TreeFault.{TreeFault}
 use Rattle.hv_judge.specs.declared.tree.TreeFault.TheVariants as trees
-use Rattle.hv_judge.specs.declared.plan.ActionLine.{ActionLine}
 use Rattle.hv_judge.specs.declared.syntax.word.Placed.{Placed}
 use Rattle.hv_judge.specs.Values.{WordAt, Literal, Action, Domain, Problem}
 use Rattle.hv_judge.specs.Views.{word_view}
@@ -26,9 +27,7 @@ use Rattle.hv_judge.specs.States.{State, initial_state, is_true, result_of, IsAp
 use Rattle.hv_judge.specs.Traces.{performed, first_stop, IsStop}
 use Rattle.hv_judge.specs.Statics.{names, is_among, undeclared, repeated, action_words, action_names, IsStatic}
 use Rattle.hv_judge.specs.Counting.{subtask_names, stands_in}
-use Rattle.hv_judge.specs.PlanForms as forms
-use Rattle.hv_judge.specs.Plans.{Plan, action_view}
-use Rattle.hv_judge.specs.Trees.{ids_of, cause_of, IsCause, AreNumbers}
+use Rattle.hv_judge.specs.Trees.{cause_of, IsCause, AreNumbers}
 use Rattle.hv_judge.specs.Causes.{IsTreeCause}
 use Rattle.hv_judge.proofs.CauseLemmas.{all_among, none_where_fits, fits_where_none, found_is_cause, cause_is_found}
 use Rattle.hv_judge.specs.Verdicts.{action_named, actions_of, subtasks_of, first_state, FitsProblem, IsVerdict, by_tree, by_action, IsFailedTree, IsStopWithin, IsStopped}
@@ -38,14 +37,6 @@ use Rattle.hv_judge.specs.Verdicts.{action_named, actions_of, subtasks_of, first
 pub subtasks_named : (xs : List Placed) → names (map word_view xs) ≡ subtask_names xs
 subtasks_named [] = refl
 subtasks_named (x ∷ xs) = ap (λ ns. text_of x.name ∷ ns) (subtasks_named xs)
-
-pub lines_named : (xs : List ActionLine) → map (λ a. a.name) (map action_view xs) ≡ map (λ a. text_of a.name) xs
-lines_named [] = refl
-lines_named (x ∷ xs) = ap (λ ns. text_of x.name ∷ ns) (lines_named xs)
-
-pub lines_numbered : (xs : List ActionLine) → ids_of (map action_view xs) ≡ map (λ a. a.id) xs
-lines_numbered [] = refl
-lines_numbered (x ∷ xs) = ap (λ is. x.id ∷ is) (lines_numbered xs)
 
 -- lists that are empty
 
@@ -140,7 +131,7 @@ action_found d p s k n at = found_by (slice_get d.actions k) refl where
       (a, e, subst (λ m. action_named d m ≡ Some a) same (found_at [] d.actions k a (actions_distinct d p s) e))
 
 -- the actions that the numbers lead to are those of the lines
-pub performed_lines : (d : Domain) (p : Problem) → IsStatic d p → (numbers : List ℕ) (lines : List forms.Action)
+pub performed_lines : (d : Domain) (p : Problem) → IsStatic d p → (numbers : List ℕ) (lines : List plans.Action)
     → map (slice_get (action_names d)) numbers ≡ map (λ l. Some l.name) lines
     → performed d.actions numbers ≡ filter_map (λ l. action_named d l.name) lines
 performed_lines d p s [] [] e = refl
@@ -153,7 +144,7 @@ performed_lines d p s (k ∷ numbers) (l ∷ lines) e =
     rw (found.1, found.2) (ap (λ more. found.0 ∷ more) (performed_lines d p s numbers lines tail))
 
 -- each line has an action
-pub as_many : (d : Domain) (p : Problem) → IsStatic d p → (numbers : List ℕ) (lines : List forms.Action)
+pub as_many : (d : Domain) (p : Problem) → IsStatic d p → (numbers : List ℕ) (lines : List plans.Action)
     → map (slice_get (action_names d)) numbers ≡ map (λ l. Some l.name) lines → length (performed d.actions numbers) ≡ length lines
 as_many d p s [] [] e = refl
 as_many d p s [] (l ∷ lines) e = cc
@@ -170,7 +161,7 @@ within_get (y ∷ ys) zero x e = omega arith
 within_get (y ∷ ys) (suc k) x e = let h = within_get ys k x e in omega arith
 
 -- each number is that of a declared action
-pub numbers_within : (d : Domain) (p : Problem) → IsStatic d p → (numbers : List ℕ) (lines : List forms.Action)
+pub numbers_within : (d : Domain) (p : Problem) → IsStatic d p → (numbers : List ℕ) (lines : List plans.Action)
     → map (slice_get (action_names d)) numbers ≡ map (λ l. Some l.name) lines → (k : ℕ) → k < length numbers → get_or numbers k 0 < length d.actions
 numbers_within d p s [] lines e k h = absurd (omega arith)
 numbers_within d p s (n ∷ numbers) [] e k h = cc

@@ -1,9 +1,8 @@
 -- When the lines of a plan form a tree that fits a problem, and for which cause they do not. There are no decomposition
 -- lines, so that each action line is to be a child of `root`.
 use Rattle.std.specs.Prelude.{◌≡◌, ℕ, List, [], ◌∷◌, ◌++◌, length}
-use Rattle.hv_order.specs.Trees.{Mem, Distinct}
-use Rattle.hv_judge.specs.PlanForms.{Action}
-use Rattle.hv_judge.specs.Plans.{Plan}
+use Rattle.hv_plan.specs.Trees.{Mem, Distinct}
+use Rattle.hv_plan.specs.Values.{Action, Plan}
 use Rattle.hv_judge.specs.Counting.{multiplicity}
 use Rattle.hv_judge.specs.Trees.{at_line, ids_of, child_names}
 use Rattle.hv_judge.specs.declared.answer.Cause.{Cause}

@@ -18,11 +18,6 @@ pub mod DomainViews
 pub mod States
 pub mod Atoms
 pub mod ProblemViews
-pub mod PlanLines
-pub mod PlanForms
-pub mod Plans
-pub mod PlanSpellings
-pub mod PlanViews
 pub mod Traces
 pub mod Statics
 pub mod Tables

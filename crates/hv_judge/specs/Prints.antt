@@ -1,6 +1,5 @@
 -- What is written where a text is printed.
-use Rattle.std.specs.Prelude.{◌≡◌, ℕ, Bool, false, List, [], ◌∷◌, ◌++◌, map, Option, Some, None, Result, Ok, Err, codes, decimal}
-use Rattle.std.specs.List.{flat_map}
+use Rattle.std.specs.Prelude.{◌≡◌, ℕ, false, List, Option, Some, None, Result, Ok, Err}
 use Rattle.std.specs.Io.KnownBytes.{Appends}
 use Rattle.hv_text.specs.Io.{IsRead}
 use Rattle.hv_text.specs.declared.fault.TheConstants.{MOST_BYTES}
@@ -14,45 +13,23 @@ use Rattle.hv_syntax.specs.declared.fault.SyntaxKind.TheVariants as kinds
 use Rattle.hv_syntax.specs.Values.{Domain, Problem}
 use Rattle.hv_syntax.specs.Texts.{IsDomainText, IsDomainFault, IsProblemText, IsProblemFault}
 use Rattle.hv_syntax.specs.CanonicalSections.{canonical_domain, canonical_problem}
+use Rattle.hv_plan.specs.Values.{Plan}
+use Rattle.hv_plan.specs.Spellings.{IsPlan, IsPlanFault}
+use Rattle.hv_plan.specs.Canonical.{plan_text}
+use Rattle.hv_plan.specs.declared.fault.PlanFault.{PlanFault}
 use Rattle.hv_judge.specs.declared.answer.Answer.TheVariants as answers
 use Rattle.hv_judge.specs.declared.answer.Fault.{Fault}
 use Rattle.hv_judge.specs.declared.answer.FaultKind.{FaultKind}
 use Rattle.hv_judge.specs.declared.answer.FaultKind.TheVariants as faults
 use Rattle.hv_judge.specs.declared.answer.Which.{Which}
 use Rattle.hv_judge.specs.declared.answer.Which.TheVariants as which
-use Rattle.hv_judge.specs.declared.plan.PlanFault.{PlanFault}
 use Rattle.hv_judge.specs.declared.printing.Printed.{Printed}
 use Rattle.hv_judge.specs.declared.printing.Printed.TheVariants as ends
 use Rattle.hv_judge.specs.declared.running.RunFault.{RunFault}
 use Rattle.hv_judge.specs.declared.running.RunFault.TheVariants as runs
-use Rattle.hv_judge.specs.PlanForms.{Action, Root}
-use Rattle.hv_judge.specs.PlanSpellings.{IsPlan}
-use Rattle.hv_judge.specs.Plans.{Plan, IsPlanFault}
 use Rattle.hv_judge.specs.Rejections.{fault_in, fault_nowhere, reported_plan}
-use Rattle.hv_judge.specs.Text.{joined, ids_text, answer_text, AppendsBeginning}
+use Rattle.hv_judge.specs.Text.{answer_text, AppendsBeginning}
 use Rattle.hv_judge.specs.Runs.{IsTooLong}
-
--- names, each behind a space
-abbrev pub words_text : List (List ℕ) → List ℕ
-words_text ws = flat_map (λ w. codes " " ++ w) ws
-
--- the line of an action: its id, its name and its arguments
-abbrev pub task_text : Action → List ℕ
-task_text a = words_text (a.name ∷ a.arguments)
-
-abbrev pub action_text : Action → List ℕ
-action_text a = (decimal a.id ++ task_text a) ++ codes "\n"
-
--- the line of `root`, without its end
-abbrev pub root_line : Root → List ℕ
-root_line r = codes "root" ++ ids_text r.ids
-
--- the canonical text of a plan: the action lines and `root` with its ids, between the markers
-abbrev pub plan_lines : Plan → List ℕ
-plan_lines p = flat_map action_text p.actions ++ root_line p.root
-
-abbrev pub plan_text : Plan → List ℕ
-plan_text p = (codes "==>\n" ++ plan_lines p) ++ codes "\n<==\n"
 
 -- the kind under which a fault of a domain's or a problem's text is reported; want of memory is reported as no fault
 abbrev pub reported_kind : SyntaxKind → Option FaultKind

@@ -1,9 +1,13 @@
 -- Which texts are rejected, and with which fault at which place.
-use Rattle.std.specs.Prelude.{◌≡◌, ◌==◌, ◌+◌, ℕ, not, nat_lt, List, length, take, count_by, Option, None, Some, if◌then◌else◌}
+use Rattle.std.specs.Prelude.{◌≡◌, ◌==◌, ◌+◌, ℕ, not, nat_lt, List, [], ◌∷◌, length, take, count_by, Option, None, Some, if◌then◌else◌}
 use Rattle.std.specs.List.{suffix_len}
 use Rattle.hv_text.specs.declared.span.Span.{Span}
 use Rattle.hv_text.specs.declared.fault.TextKind.TheVariants as texts
 use Rattle.hv_text.specs.declared.fault.TheConstants.{MOST_BYTES}
+use Rattle.hv_plan.specs.Values.{Decomposition, Plan}
+use Rattle.hv_plan.specs.Spellings.{IsPlan, IsPlanFault}
+use Rattle.hv_plan.specs.declared.fault.PlanFault.{PlanFault}
+use Rattle.hv_plan.specs.declared.fault.PlanFault.TheVariants as plans
 use Rattle.hv_judge.specs.declared.answer.Which.{Which}
 use Rattle.hv_judge.specs.declared.answer.Which.TheVariants as which
 use Rattle.hv_judge.specs.declared.answer.FaultKind.{FaultKind}
@@ -12,8 +16,6 @@ use Rattle.hv_judge.specs.declared.answer.Fault.{Fault}
 use Rattle.hv_judge.specs.declared.answer.Place.TheVariants.{Nowhere, Line, At}
 use Rattle.hv_judge.specs.declared.judgement.Unread.{Unread}
 use Rattle.hv_judge.specs.declared.judgement.Unread.TheVariants as unread
-use Rattle.hv_judge.specs.declared.plan.PlanFault.{PlanFault}
-use Rattle.hv_judge.specs.declared.plan.PlanFault.TheVariants as plans
 use Rattle.hv_judge.specs.declared.syntax.fault.SyntaxKind.{SyntaxKind}
 use Rattle.hv_judge.specs.declared.syntax.fault.SyntaxKind.TheVariants as kinds
 use Rattle.hv_judge.specs.declared.world.fault.Side.{Side}
@@ -24,7 +26,6 @@ use Rattle.hv_judge.specs.declared.world.fault.StaticFault.{StaticFault}
 use Rattle.hv_judge.specs.Values.{Domain, Problem}
 use Rattle.hv_judge.specs.Statics.{IsStatic, IsFirstFault}
 use Rattle.hv_judge.specs.Texts.{IsDomainText, IsDomainFault, IsProblemText, IsProblemFault}
-use Rattle.hv_judge.specs.Plans.{IsPlanFault}
 
 -- the kind under which a fault of a domain's or a problem's text is reported; want of memory is reported as no fault
 abbrev pub reported : SyntaxKind → Option FaultKind
@@ -70,6 +71,11 @@ reported_plan plans.NoRoot = Some (fault_nowhere faults.NoRoot)
 reported_plan (plans.RepeatedRoot line) = Some (fault_on faults.RepeatedRoot line)
 reported_plan plans.Memory = None
 
+-- the fault of a plan with these decomposition lines: as decomposition trees are not judged yet, the first of the lines is a bad one
+abbrev pub decomposition_fault : List Decomposition → Option Fault
+decomposition_fault [] = None
+decomposition_fault (d ∷ ds) = Some (fault_on faults.BadLine d.line)
+
 -- the first text that is too long
 abbrev pub first_too_long : List ℕ → List ℕ → List ℕ → Option Which
 first_too_long domain problem plan =
@@ -100,6 +106,11 @@ pub data IsRejectedPair (domain problem : List ℕ) : Which → Fault → Type 0
   by_statics : (d : Domain) (p : Problem) (f : StaticFault) (k : FaultKind) → IsDomainText domain d → IsProblemText problem p → IsFirstFault d p f
       → reported_static f.kind ≡ Some k → IsRejectedPair domain problem (which_of f.side) (fault_in k (text_of_side domain problem f.side) f.span)
 
+-- a plan's text is rejected: it holds no plan, or one with decomposition lines
+pub data IsRejectedPlan (plan : List ℕ) : Fault → Type 0 where
+  unplanned : (f : PlanFault) (r : Fault) → IsPlanFault plan f → reported_plan f ≡ Some r → IsRejectedPlan plan r
+  unjudged : (q : Plan) (r : Fault) → IsPlan plan q → decomposition_fault q.decompositions ≡ Some r → IsRejectedPlan plan r
+
 -- what the code says where a text is faulty: a fault of this kind at its place, or want of memory where there is no kind
 abbrev pub unread_by : Option FaultKind → Which → List ℕ → Span → Unread
 unread_by None w text s = unread.Memory
@@ -114,5 +125,5 @@ IsUnread domain problem unread.Memory = Unit {0}
 pub data IsRejected (domain problem plan : List ℕ) : Which → Fault → Type 0 where
   by_length : (w : Which) → first_too_long domain problem plan ≡ Some w → IsRejected domain problem plan w (fault_nowhere faults.TooLong)
   by_pair : (w : Which) (f : Fault) → first_too_long domain problem plan ≡ None → IsRejectedPair domain problem w f → IsRejected domain problem plan w f
-  by_plan : (d : Domain) (p : Problem) (f : PlanFault) (r : Fault) → first_too_long domain problem plan ≡ None → AreRead domain problem d p → IsPlanFault plan f
-      → reported_plan f ≡ Some r → IsRejected domain problem plan which.Plan r
+  by_plan : (d : Domain) (p : Problem) (f : Fault) → first_too_long domain problem plan ≡ None → AreRead domain problem d p → IsRejectedPlan plan f
+      → IsRejected domain problem plan which.Plan f

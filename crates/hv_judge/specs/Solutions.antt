@@ -1,11 +1,10 @@
 -- Solutions of a plan without decomposition lines: its tree, the matchings of its root, and the sequences that they have.
 use Rattle.std.specs.Prelude.{◌≡◌, ◌==◌, ℕ, Bool, true, false, List, [], ◌∷◌, length, map, Some, if◌then◌else◌}
 use Rattle.std.specs.List.{position_or_len}
-use Rattle.hv_order.specs.Trees.{Item, Act, Task, Pre, Mem, Distinct, Tree}
+use Rattle.hv_plan.specs.Trees.{Item, Act, Task, Pre, Mem, Distinct, Tree}
 use Rattle.hv_order.specs.Candidates.{Candidate}
 use Rattle.hv_order.specs.Sequences.{HasSolution}
-use Rattle.hv_judge.specs.PlanForms.{Action}
-use Rattle.hv_judge.specs.Plans.{Plan}
+use Rattle.hv_plan.specs.Values.{Action, Plan}
 use Rattle.hv_judge.specs.Trees.{name_of, occurs}
 
 -- the place of the action line that an id begins, counted from 0

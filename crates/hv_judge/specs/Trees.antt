@@ -5,8 +5,7 @@ use Rattle.std.specs.Option.{option_map}
 use Rattle.indexmap.specs.IndexSet.{IndexSet}
 use Rattle.hv_text.specs.Names.{text_of}
 use Rattle.hv_text.specs.declared.name.Name.{Name}
-use Rattle.hv_judge.specs.PlanForms.{Action}
-use Rattle.hv_judge.specs.Plans.{Plan}
+use Rattle.hv_plan.specs.Values.{Action, Plan}
 use Rattle.hv_judge.specs.Counting.{multiplicity, stands_in}
 use Rattle.hv_judge.specs.declared.answer.Cause.{Cause}
 use Rattle.hv_judge.specs.declared.answer.CauseKind.{CauseKind}

@@ -3,6 +3,10 @@ use Rattle.std.specs.Prelude.{◌≡◌, ◌<◌, ◌≤◌, ℕ, Bool, true, fa
 use Rattle.std.specs.List.{filter_map, find}
 use Rattle.std.specs.Option.{option_map}
 use Rattle.std.specs.Str.{bytes_eq}
+use Rattle.hv_plan.specs.Values as plans
+use Rattle.hv_plan.specs.Values.{Plan}
+use Rattle.hv_plan.specs.Spellings.{IsPlan, IsPlanFault}
+use Rattle.hv_plan.specs.declared.fault.PlanFault.{PlanFault}
 use Rattle.hv_judge.specs.declared.answer.Answer.{Answer}
 use Rattle.hv_judge.specs.declared.answer.Answer.TheVariants.{Solves, Fails, Undecided, Rejected}
 use Rattle.hv_judge.specs.declared.answer.Cause.{Cause}
@@ -12,27 +16,24 @@ use Rattle.hv_judge.specs.declared.answer.Fault.{Fault}
 use Rattle.hv_judge.specs.declared.answer.Which.TheVariants as which
 use Rattle.hv_judge.specs.declared.judgement.Unread.{Unread}
 use Rattle.hv_judge.specs.declared.judgement.Unread.TheVariants as unread
-use Rattle.hv_judge.specs.declared.plan.PlanFault.{PlanFault}
 use Rattle.hv_judge.specs.declared.trace.Stop.{Stop}
 use Rattle.hv_judge.specs.declared.trace.Stop.TheVariants as stops
 use Rattle.hv_judge.specs.declared.tree.TreeFault.{TreeFault}
 use Rattle.hv_judge.specs.declared.tree.TreeFault.TheVariants as trees
-use Rattle.hv_judge.specs.PlanForms as forms
 use Rattle.hv_judge.specs.Values.{Formula, Action, Domain, Problem}
 use Rattle.hv_judge.specs.States.{State, is_true, initial_state, state_after, AreApplicable, IsFirstInapplicable}
-use Rattle.hv_judge.specs.Plans.{Plan, IsPlanFault}
-use Rattle.hv_judge.specs.PlanSpellings.{IsPlan}
 use Rattle.hv_judge.specs.Statics.{names, action_names}
 use Rattle.hv_judge.specs.Causes.{Fits, IsTreeCause}
 use Rattle.hv_judge.specs.Counting.{count}
 use Rattle.hv_judge.specs.Solutions.{IsMatching, IsOrderedBy}
-use Rattle.hv_judge.specs.Rejections.{first_too_long, reported_plan, AreRead, IsRejected}
+use Rattle.hv_judge.specs.Rejections.{first_too_long, reported_plan, decomposition_fault, AreRead, IsRejected}
 
--- the three texts spell a domain, a problem and a plan
+-- the three texts spell a domain, a problem and a plan without decomposition lines
 pub record AreSpelled (domain problem plan : List ℕ) (d : Domain) (p : Problem) (q : Plan) : Type 0 where
   pub short : first_too_long domain problem plan ≡ None
   pub read : AreRead domain problem d p
   pub planned : IsPlan plan q
+  pub judged : decomposition_fault q.decompositions ≡ None
 
 -- the action that a domain declares under a name
 abbrev pub action_named : Domain → List ℕ → Option Action
@@ -107,7 +108,7 @@ IsVerdict d p q limit (Fails c) = IsCauseOf d p q limit c
 IsVerdict d p q limit (Undecided line) = IsRun d p q × (limit < count_of p) × (line ≡ q.root.line)
 IsVerdict d p q limit (Rejected w f) = ⊥
 
--- the verdict on three texts that spell a domain, a problem and a plan
+-- the verdict on three texts that spell a domain, a problem and a plan without decomposition lines
 abbrev pub IsJudgement : List ℕ → List ℕ → List ℕ → ℕ → Answer → Type 0
 IsJudgement domain problem plan limit a = (d : Domain) × (p : Problem) × (q : Plan) × AreSpelled domain problem plan d p q × IsVerdict d p q limit a
 
@@ -131,7 +132,7 @@ IsStopWithin n (stops.Inapplicable k) = k < n
 IsStopWithin n stops.Memory = Unit {0}
 
 -- a plan with an action that is not applicable fails at the line of that action
-abbrev pub IsStopped : List forms.Action → Stop → Answer → Type 0
+abbrev pub IsStopped : List plans.Action → Stop → Answer → Type 0
 IsStopped lines (stops.Inapplicable k) a =
     (line : ℕ) × (option_map (λ l. l.line) (slice_get lines k) ≡ Some line) × (a ≡ Fails (record { kind = causes.Inapplicable; line = Some line }))
 IsStopped lines stops.Memory a = ⊥
@@ -141,10 +142,16 @@ abbrev pub IsUnreadAnswer : Unread → Answer → Type 0
 IsUnreadAnswer (unread.Rejected w f) a = a ≡ Rejected w f
 IsUnreadAnswer unread.Memory a = ⊥
 
+-- a plan is judged, or it is rejected for its decomposition lines
+abbrev pub IsJudgedOrRejected : Domain → Problem → Plan → ℕ → Answer → Type 0
+IsJudgedOrRejected d p q limit a =
+    ((decomposition_fault q.decompositions ≡ None) × IsVerdict d p q limit a)
+    ⊎ ((r : Fault) × (decomposition_fault q.decompositions ≡ Some r) × (a ≡ Rejected which.Plan r))
+
 -- a text that holds no plan is rejected
 abbrev pub IsUnplannedAnswer : PlanFault → Answer → Type 0
 IsUnplannedAnswer f a = (r : Fault) × (reported_plan f ≡ Some r) × (a ≡ Rejected which.Plan r)
 
--- the answer to a plan's text in a world: the verdict on its plan, or the plan's fault
+-- the answer to a plan's text in a world: that to its plan, or the fault of a text that holds none
 abbrev pub IsPlanAnswer : Domain → Problem → List ℕ → ℕ → Answer → Type 0
-IsPlanAnswer d p plan limit a = ((q : Plan) × IsPlan plan q × IsVerdict d p q limit a) ⊎ ((f : PlanFault) × IsPlanFault plan f × IsUnplannedAnswer f a)
+IsPlanAnswer d p plan limit a = ((q : Plan) × IsPlan plan q × IsJudgedOrRejected d p q limit a) ⊎ ((f : PlanFault) × IsPlanFault plan f × IsUnplannedAnswer f a)

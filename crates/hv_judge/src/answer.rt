@@ -77,7 +77,8 @@ pub enum FaultKind {
     NoStart,
     /// No line `<==` after the first `==>`.
     NoEnd,
-    /// A line of no form of a plan.
+    /// A line of no form of a plan. Decomposition lines are not judged yet: the first of them is one, where the text of
+    /// the plan has no fault.
     BadLine,
     /// An id past 18,446,744,073,709,551,615.
     IdTooLarge,

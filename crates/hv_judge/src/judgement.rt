@@ -2,17 +2,18 @@
 
 ghost use Rattle.std.specs.Prelude.{◌≡◌, ◌≤◌, length, IfOk, IfErr, Some, None};
 ghost use Rattle.hv_text.specs.declared.fault.TheConstants.{MOST_BYTES};
+ghost use Rattle.hv_plan.specs.LineViews.{plan_view};
 ghost use Rattle.hv_judge.specs.DomainViews.{domain_view};
 ghost use Rattle.hv_judge.specs.ProblemViews.{problem_view};
-ghost use Rattle.hv_judge.specs.Rejections.{fault_in, reported, reported_static, reported_plan, first_too_long, unread_by, which_of, text_of_side, AreRead, IsUnread};
+ghost use Rattle.hv_judge.specs.Rejections.{fault_in, reported, reported_static, reported_plan, decomposition_fault, first_too_long, unread_by, which_of, text_of_side, AreRead, IsUnread};
 ghost use Rattle.hv_judge.specs.Statics.{IsStatic};
-ghost use Rattle.hv_judge.specs.Verdicts.{IsUnreadAnswer, IsUnplannedAnswer, IsPlanAnswer, Judged};
+ghost use Rattle.hv_judge.specs.Verdicts.{IsUnreadAnswer, IsUnplannedAnswer, IsJudgedOrRejected, IsPlanAnswer, Judged};
 
 use crate::answer::{Answer, Fault, FaultKind, Place, Which};
-use crate::plan::{PlanFault, read_plan};
 use crate::syntax::{SyntaxFault, SyntaxKind, read_domain, read_problem};
 use crate::verdict::verdict;
 use crate::world::{Side, StaticFault, StaticKind, World};
+use hv_plan::{PlanFault, PlanText, read_plan};
 use hv_text::{MOST_BYTES, Memory, Span, TextKind, place};
 use std::alloc::Global;
 
@@ -97,6 +98,16 @@ pub(crate) fn reported_plan(fault: PlanFault) -> Option<Fault>
         PlanFault::NoRoot => nowhere(FaultKind::NoRoot),
         PlanFault::RepeatedRoot(line) => at_line(FaultKind::RepeatedRoot, line),
         PlanFault::Memory => None,
+    }
+}
+
+// The fault of a plan with decomposition lines, which are not judged yet.
+fn decomposition_fault(plan: &PlanText<'_>) -> Option<Fault>
+    ensures { result ≡ decomposition_fault (plan_view plan.now).decompositions }
+{
+    match plan.decompositions().first() {
+        Some(line) => at_line(FaultKind::BadLine, line.line()),
+        None => None,
     }
 }
 
@@ -189,8 +200,24 @@ fn unplanned_answer<'s>(fault: PlanFault) -> Result<Answer<'s>, Memory>
     }
 }
 
-// The answer to the text of a plan in a world.
+// The answer to a plan in a world.
 fn judge_plan<'s>(
+    alloc: Global,
+    world: &World<'s>,
+    plan: &PlanText<'s>,
+    limit: u64,
+) -> Result<Answer<'s>, Memory>
+    requires { IsStatic (domain_view world.now.domain) (problem_view world.now.problem) }
+    ensures { IfOk result (IsJudgedOrRejected (domain_view world.now.domain) (problem_view world.now.problem) (plan_view plan.now) limit) }
+{
+    match decomposition_fault(plan) {
+        Some(fault) => Ok(Answer::Rejected(Which::Plan, fault)),
+        None => verdict(alloc, world, plan, limit),
+    }
+}
+
+// The answer to the text of a plan in a world.
+fn judge_plan_text<'s>(
     alloc: Global,
     world: &World<'s>,
     plan: &'s [u8],
@@ -200,7 +227,7 @@ fn judge_plan<'s>(
     ensures { IfOk result (IsPlanAnswer (domain_view world.now.domain) (problem_view world.now.problem) plan.entry.now limit) }
 {
     match read_plan(alloc, plan) {
-        Ok(plan) => verdict(alloc, world, &plan, limit),
+        Ok(plan) => judge_plan(alloc, world, &plan, limit),
         Err(fault) => unplanned_answer(fault),
     }
 }
@@ -217,12 +244,13 @@ fn judge_short<'s>(
     ensures { IfOk result (Judged domain.entry.now problem.entry.now plan.entry.now limit) }
 {
     match read_world(alloc, domain, problem) {
-        Ok(world) => judge_plan(alloc, &world, plan, limit),
+        Ok(world) => judge_plan_text(alloc, &world, plan, limit),
         Err(unread) => unread_answer(unread),
     }
 }
 
 /// Judges whether a plan solves a problem of a domain. A plan whose root has more choices than the limit is left undecided.
+/// Plans with decomposition lines are not judged yet: one is rejected at the first of these.
 ///
 /// # Errors
 ///

@@ -2,6 +2,7 @@
 
 ghost use Rattle.hv_judge.specs.Answers.{OneAnswerLaw};
 
+use hv_plan::a_plan_or_a_fault;
 use hv_text::{a_text_has_one_reading, words_are_in_order};
 
 /// Three texts and a limit have one answer: whatever the judge may answer for them, it is the same text that is
@@ -12,4 +13,5 @@ pub fn one_answer()
 {
     a_text_has_one_reading();
     words_are_in_order();
+    a_plan_or_a_fault();
 }

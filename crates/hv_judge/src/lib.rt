@@ -5,13 +5,10 @@ mod answer;
 mod judgement;
 mod law;
 mod matching;
-mod plan;
 mod printing;
 mod running;
 mod state;
 mod syntax;
-#[cfg(test)]
-mod tests;
 mod trace;
 mod tree;
 mod verdict;

@@ -6,8 +6,8 @@ ghost use Rattle.std.specs.Str.{bytes_eq};
 ghost use Rattle.std.specs.Ordering.{on};
 ghost use Rattle.indexmap.specs.IndexSet.{IsUnique};
 ghost use Rattle.hv_text.specs.Names.{text_of};
+ghost use Rattle.hv_plan.specs.Views.{as_number};
 ghost use Rattle.hv_judge.specs.Counting.{count, factorial, product, multiplicities, stands_in, subtask_names};
-ghost use Rattle.hv_judge.specs.PlanViews.{as_number};
 ghost use Rattle.hv_judge.specs.Trees.{declared_names};
 
 use crate::syntax::word::Placed;
@@ -86,20 +86,4 @@ fn times_factorial(count: u64, size: u64) -> Option<u64>
         product = product.checked_mul(factor + 1)?;
     }
     Some(product)
-}
-
-#[cfg(test)]
-mod tests {
-    use super::*;
-
-    #[test]
-    fn compares_products_of_factorials(rt: HostRuntime) {
-        // The factorial of 20 has at most 64 bits, and that of 21 has more.
-        assert_eq!(rt; are_past(&[20], 2432902008176640000), false);
-        assert_eq!(rt; are_past(&[20], 2432902008176639999), true);
-        assert_eq!(rt; are_past(&[21], 18446744073709551615), true);
-        assert_eq!(rt; are_past(&[3, 0, 2], 12), false);
-        assert_eq!(rt; are_past(&[3, 0, 2], 11), true);
-        assert_eq!(rt; are_past(&[], 0), true);
-    }
 }

@@ -1,24 +1,19 @@
 //! A text printed anew: its canonical text, or the line of its rejection.
 
-ghost use Rattle.std.specs.Prelude.{◌≡◌, ◌<◌, ◌≤◌, ◌+◌, ◌-◌, ◌^◌, ◌++◌, length, codes, decimal, OnOk, OnErr, is_ok, if◌then◌else◌};
-ghost use Rattle.std.specs.List.{flat_map};
-ghost use Rattle.std.specs.Io.KnownBytes.{Appends};
+ghost use Rattle.std.specs.Prelude.{◌≡◌, ◌<◌, ◌≤◌, ◌+◌, ◌-◌, ◌^◌, length};
 ghost use Rattle.hv_text.specs.declared.fault.TheConstants.{MOST_BYTES};
 ghost use Rattle.hv_judge.specs.declared.answer.Which.{Which};
 ghost use Rattle.hv_judge.specs.declared.answer.Which.TheVariants as texts;
-ghost use Rattle.hv_judge.specs.Plans.{action_view, plan_view};
-ghost use Rattle.hv_judge.specs.Text.{AppendsBeginning};
 ghost use Rattle.hv_judge.specs.Runs.{reads_failed, writes_failed, failures_at};
-ghost use Rattle.hv_judge.specs.Prints.{task_text, action_text, root_line, plan_lines, plan_text, reported_kind, IsPrint, IsPrintOf, WrotePrint, IsDone, IsRejection, IsTextRejection, IsPlanRejection, IsUnreadRejection};
+ghost use Rattle.hv_judge.specs.Prints.{reported_kind, IsPrint, IsPrintOf, WrotePrint, IsDone, IsRejection, IsTextRejection, IsPlanRejection, IsUnreadRejection};
 
 use crate::answer::{Answer, Fault, FaultKind, Which};
 use crate::judgement::{fault_in, reported_plan};
-use crate::plan::{ActionLine, PlanFault, PlanText, read_plan};
 use crate::running::RunFault;
-use crate::write::{write_answer, write_ids, write_name, write_names};
+use crate::write::write_answer;
+use hv_plan::{PlanFault, print_plan, read_plan};
 use hv_syntax::{SyntaxFault, SyntaxKind, print_domain, print_problem, read_domain, read_problem};
-use hv_text::{MOST_BYTES, ReadFault, Sink, Source, TextKind, WriteFault, read_all, write_all};
-use itoa::Buffer;
+use hv_text::{MOST_BYTES, ReadFault, Sink, Source, TextKind, read_all, write_all};
 use std::alloc::Global;
 
 /// How a text was printed.
@@ -127,101 +122,6 @@ fn print_problem_text<W: Sink>(alloc: Global, text: &[u8], out: &mut W) -> Resul
     }
 }
 
-// The name of an action and its arguments, each behind a space.
-fn write_task<W: Sink>(out: &mut W, action: &ActionLine<'_>) -> Result<(), WriteFault>
-    requires { W.failures out.old < 2 ^ 64 - 1 }
-    ensures ok { OnOk result (Appends (W.taken out.old) (W.taken out.new) (task_text (action_view action.now))) }
-    ensures err { OnErr result (AppendsBeginning (W.taken out.old) (W.taken out.new) (task_text (action_view action.now))) }
-    ensures failures { W.failures out.new ≡ W.failures out.old + (if is_ok result then 0 else 1) }
-{
-    write_name(out, &action.name)?;
-    write_names(out, &action.arguments)
-}
-
-fn write_id_and_task<W: Sink>(out: &mut W, action: &ActionLine<'_>) -> Result<(), WriteFault>
-    requires { W.failures out.old < 2 ^ 64 - 1 }
-    ensures ok { OnOk result (Appends (W.taken out.old) (W.taken out.new) (decimal action.now.id ++ task_text (action_view action.now))) }
-    ensures err { OnErr result (AppendsBeginning (W.taken out.old) (W.taken out.new) (decimal action.now.id ++ task_text (action_view action.now))) }
-    ensures failures { W.failures out.new ≡ W.failures out.old + (if is_ok result then 0 else 1) }
-{
-    let mut id = Buffer::new();
-    write_all(out, id.format(action.id).as_bytes())?;
-    write_task(out, action)
-}
-
-fn write_action<W: Sink>(out: &mut W, action: &ActionLine<'_>) -> Result<(), WriteFault>
-    requires { W.failures out.old < 2 ^ 64 - 1 }
-    ensures ok { OnOk result (Appends (W.taken out.old) (W.taken out.new) (action_text (action_view action.now))) }
-    ensures err { OnErr result (AppendsBeginning (W.taken out.old) (W.taken out.new) (action_text (action_view action.now))) }
-    ensures failures { W.failures out.new ≡ W.failures out.old + (if is_ok result then 0 else 1) }
-{
-    write_id_and_task(out, action)?;
-    write_all(out, b"\n")
-}
-
-fn write_actions<W: Sink>(out: &mut W, actions: &[ActionLine<'_>]) -> Result<(), WriteFault>
-    requires { W.failures out.old < 2 ^ 64 - 1 }
-    ensures ok { OnOk result (Appends (W.taken out.old) (W.taken out.new) (flat_map (λ a. action_text (action_view a)) actions.now)) }
-    ensures err { OnErr result (AppendsBeginning (W.taken out.old) (W.taken out.new) (flat_map (λ a. action_text (action_view a)) actions.now)) }
-    ensures failures { W.failures out.new ≡ W.failures out.old + (if is_ok result then 0 else 1) }
-{
-    for action in actions {
-        write_action(out, action)?;
-    }
-    Ok(())
-}
-
-fn write_root_line<W: Sink>(out: &mut W, plan: &PlanText<'_>) -> Result<(), WriteFault>
-    requires { W.failures out.old < 2 ^ 64 - 1 }
-    ensures ok { OnOk result (Appends (W.taken out.old) (W.taken out.new) (root_line (plan_view plan.now).root)) }
-    ensures err { OnErr result (AppendsBeginning (W.taken out.old) (W.taken out.new) (root_line (plan_view plan.now).root)) }
-    ensures failures { W.failures out.new ≡ W.failures out.old + (if is_ok result then 0 else 1) }
-{
-    write_all(out, b"root")?;
-    write_ids(out, &plan.root)
-}
-
-fn write_plan_lines<W: Sink>(out: &mut W, plan: &PlanText<'_>) -> Result<(), WriteFault>
-    requires { W.failures out.old < 2 ^ 64 - 1 }
-    ensures ok { OnOk result (Appends (W.taken out.old) (W.taken out.new) (plan_lines (plan_view plan.now))) }
-    ensures err { OnErr result (AppendsBeginning (W.taken out.old) (W.taken out.new) (plan_lines (plan_view plan.now))) }
-    ensures failures { W.failures out.new ≡ W.failures out.old + (if is_ok result then 0 else 1) }
-{
-    write_actions(out, &plan.actions)?;
-    write_root_line(out, plan)
-}
-
-fn write_plan_beginning<W: Sink>(out: &mut W, plan: &PlanText<'_>) -> Result<(), WriteFault>
-    requires { W.failures out.old < 2 ^ 64 - 1 }
-    ensures ok { OnOk result (Appends (W.taken out.old) (W.taken out.new) (codes "==>\n" ++ plan_lines (plan_view plan.now))) }
-    ensures err { OnErr result (AppendsBeginning (W.taken out.old) (W.taken out.new) (codes "==>\n" ++ plan_lines (plan_view plan.now))) }
-    ensures failures { W.failures out.new ≡ W.failures out.old + (if is_ok result then 0 else 1) }
-{
-    write_all(out, b"==>\n")?;
-    write_plan_lines(out, plan)
-}
-
-fn write_plan<W: Sink>(out: &mut W, plan: &PlanText<'_>) -> Result<(), WriteFault>
-    requires { W.failures out.old < 2 ^ 64 - 1 }
-    ensures ok { OnOk result (Appends (W.taken out.old) (W.taken out.new) (plan_text (plan_view plan.now))) }
-    ensures err { OnErr result (AppendsBeginning (W.taken out.old) (W.taken out.new) (plan_text (plan_view plan.now))) }
-    ensures failures { W.failures out.new ≡ W.failures out.old + (if is_ok result then 0 else 1) }
-{
-    write_plan_beginning(out, plan)?;
-    write_all(out, b"\n<==\n")
-}
-
-// Writes the canonical text of a plan.
-fn write_canonical_plan<W: Sink>(plan: &PlanText<'_>, out: &mut W) -> Result<Printed, RunFault>
-    requires { W.failures out.old < 2 ^ 64 - 1 }
-    ensures wrote { WrotePrint (IsDone (plan_text (plan_view plan.now))) W.taken out.old out.new result }
-    ensures reads { (w : Which) → reads_failed w result ≡ 0 }
-    ensures writes { W.failures out.new ≡ W.failures out.old + writes_failed result }
-{
-    write_plan(out, plan)?;
-    Ok(Printed::Done)
-}
-
 // Prints a plan.
 fn print_plan_text<W: Sink>(alloc: Global, text: &[u8], out: &mut W) -> Result<Printed, RunFault>
     requires { W.failures out.old < 2 ^ 64 - 1 }
@@ -230,7 +130,11 @@ fn print_plan_text<W: Sink>(alloc: Global, text: &[u8], out: &mut W) -> Result<P
     ensures writes { W.failures out.new ≡ W.failures out.old + writes_failed result }
 {
     match read_plan(alloc, text) {
-        Ok(plan) => write_canonical_plan(&plan, out),
+        Ok(plan) => {
+            let mut bytes = Vec::new(alloc);
+            print_plan(&plan, &mut bytes)?;
+            write_canonical(&bytes, out)
+        }
         Err(fault) => reject_plan(fault, out),
     }
 }
@@ -283,7 +187,7 @@ fn print_unread<W: Sink>(which: Which, fault: ReadFault, out: &mut W) -> Result<
 }
 
 /// Reads a text of this kind and writes its canonical text; where it says nothing of its kind, it writes the line of its
-/// rejection. Domains and problems are those of the whole language, plans those without decomposition lines.
+/// rejection. Texts of the whole language are printed.
 ///
 /// # Errors
 ///

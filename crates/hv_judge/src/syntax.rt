@@ -18,6 +18,3 @@ pub(crate) use formula::FormulaText;
 pub(crate) use literal::LiteralText;
 pub(crate) use problem::ProblemText;
 pub(crate) use read::{read_domain, read_problem};
-
-#[cfg(test)]
-mod tests;

@@ -4,7 +4,7 @@ ghost use Rattle.std.specs.Prelude.{◌≡◌, ◌==◌, ℕ, [], not, if◌then
 ghost use Rattle.std.specs.List.{list_all, find, filter_map};
 ghost use Rattle.std.specs.Option.{option_map};
 ghost use Rattle.hv_text.specs.Names.{text_of};
-ghost use Rattle.hv_judge.specs.Plans.{action_view, plan_view};
+ghost use Rattle.hv_plan.specs.LineViews.{action_view, plan_view};
 ghost use Rattle.hv_judge.specs.Counting.{multiplicity, stands_in, subtask_names};
 ghost use Rattle.hv_judge.specs.Trees.{declared_names, at_line, at_action, at_root, ids_of, occurs, repeated, has_arguments, tree_cause, fit_cause, children_cause, cause_of, IsCause, AreNumbers, ArePlaces, AreFirstPlaces};
 ghost use Rattle.hv_judge.specs.declared.answer.CauseKind.TheVariants as kinds;
@@ -12,8 +12,8 @@ ghost use Rattle.hv_judge.specs.declared.tree.TreeFault.TheVariants as faults;
 
 use crate::answer::{Cause, CauseKind};
 use crate::matching::{multiplicities, subtask_names};
-use crate::plan::{ActionLine, PlanText};
 use crate::syntax::word::Placed;
+use hv_plan::{ActionLine, PlanText};
 use hv_text::Name;
 use indexmap::IndexSet;
 use std::alloc::{AllocError, AllocFailed, Global};
@@ -107,10 +107,10 @@ fn read_places(alloc: Global, plan: &PlanText<'_>) -> Result<Vec<usize>, TreeFau
     ensures places { IfOk result (λ v. AreFirstPlaces (plan_view plan.now) v.items) }
     ensures err { IfErr result (IsCause (tree_cause (plan_view plan.now))) }
 {
-    let ids = read_ids(alloc, &plan.actions)?;
-    let children = read_children(alloc, &ids, &plan.root, plan.root_line)?;
-    let reached = read_reached(alloc, &plan.root, plan.root_line)?;
-    check_reached(&reached, &plan.actions)?;
+    let ids = read_ids(alloc, plan.actions())?;
+    let children = read_children(alloc, &ids, plan.root(), plan.root_line())?;
+    let reached = read_reached(alloc, plan.root(), plan.root_line())?;
+    check_reached(&reached, plan.actions())?;
     Ok(children)
 }
 
@@ -124,8 +124,8 @@ fn read_actions<'s>(
     ensures numbers { IfOk result (λ v. AreNumbers (declared_names declared.now) (plan_view plan.now) v.items) }
     ensures err { IfErr result (IsCause (fit_cause (declared_names declared.now) (plan_view plan.now))) }
 {
-    let numbers = read_numbers(alloc, declared, &plan.actions)?;
-    check_arguments(&plan.actions)?;
+    let numbers = read_numbers(alloc, declared, plan.actions())?;
+    check_arguments(plan.actions())?;
     Ok(numbers)
 }
 
@@ -141,12 +141,12 @@ fn check_children<'s>(
     ensures sound { OnOk result (children_cause (declared_names declared.now) (subtask_names subtasks.now) (plan_view plan.now) ≡ None) }
     ensures err { IfErr result (IsCause (children_cause (declared_names declared.now) (subtask_names subtasks.now) (plan_view plan.now))) }
 {
-    if plan.root.len() != subtasks.len() {
-        return Err(fault(CauseKind::ChildCount, plan.root_line));
+    if plan.root().len() != subtasks.len() {
+        return Err(fault(CauseKind::ChildCount, plan.root_line()));
     }
-    let names = read_names(alloc, places, &plan.actions)?;
+    let names = read_names(alloc, places, plan.actions())?;
     if !are_same_names(alloc, declared, &names, subtasks)? {
-        return Err(fault(CauseKind::ChildNames, plan.root_line));
+        return Err(fault(CauseKind::ChildNames, plan.root_line()));
     }
     Ok(())
 }
@@ -159,8 +159,8 @@ fn read_ids(alloc: Global, actions: &[ActionLine<'_>]) -> Result<IndexSet<u64>, 
 {
     let mut ids = IndexSet::new(alloc);
     for action in actions {
-        if !ids.insert(action.id)? {
-            return Err(fault(CauseKind::RepeatedId, action.line));
+        if !ids.insert(action.id())? {
+            return Err(fault(CauseKind::RepeatedId, action.line()));
         }
     }
     Ok(ids)
@@ -208,8 +208,8 @@ fn check_reached(reached: &IndexSet<u64>, actions: &[ActionLine<'_>]) -> Result<
     ensures err { IfErr result (IsCause (at_action kinds.Unreached (find (λ a. not (occurs a.id reached.now.keys)) (map action_view actions.now)))) }
 {
     for action in actions {
-        if !reached.contains(&action.id) {
-            return Err(fault(CauseKind::Unreached, action.line));
+        if !reached.contains(&action.id()) {
+            return Err(fault(CauseKind::Unreached, action.line()));
         }
     }
     Ok(())
@@ -227,8 +227,8 @@ fn read_numbers<'s>(
 {
     let mut numbers = Vec::new(alloc);
     for action in actions {
-        let Some(number) = declared.get_index_of(&action.name) else {
-            return Err(fault(CauseKind::UnknownTask, action.line));
+        let Some(number) = declared.get_index_of(&action.name()) else {
+            return Err(fault(CauseKind::UnknownTask, action.line()));
         };
         numbers.push(number)?;
     }
@@ -241,8 +241,8 @@ fn check_arguments(actions: &[ActionLine<'_>]) -> Result<(), TreeFault>
     ensures err { IfErr result (IsCause (at_action kinds.UnknownObject (find has_arguments (map action_view actions.now)))) }
 {
     for action in actions {
-        if !action.arguments.is_empty() {
-            return Err(fault(CauseKind::UnknownObject, action.line));
+        if !action.arguments().is_empty() {
+            return Err(fault(CauseKind::UnknownObject, action.line()));
         }
     }
     Ok(())
@@ -254,13 +254,13 @@ fn read_names<'s>(
     places: &[usize],
     actions: &[ActionLine<'s>],
 ) -> Result<Vec<Name<'s>>, TreeFault>
-    ensures names { IfOk result (λ v. map text_of v.items ≡ filter_map (λ k. option_map (λ a. text_of a.name) (slice_get actions.now k)) places.now) }
+    ensures names { IfOk result (λ v. map text_of v.items ≡ filter_map (λ k. option_map (λ a. a.name) (slice_get (map action_view actions.now) k)) places.now) }
     ensures err { IfErr result (λ f. f ≡ faults.Memory) }
 {
     let mut names = Vec::new(alloc);
     for place in places {
         if let Some(action) = actions.get(*place) {
-            names.push(action.name)?;
+            names.push(action.name())?;
         }
     }
     Ok(names)
@@ -278,81 +278,4 @@ fn are_same_names<'s>(
     let wanted = subtask_names(alloc, subtasks)?;
     let found = multiplicities(alloc, declared, names)?;
     Ok(found == multiplicities(alloc, declared, &wanted)?)
-}
-
-#[cfg(test)]
-mod tests {
-    use super::*;
-    use crate::plan::read_plan;
-    use hv_text::Span;
-    use std::test::Fail;
-
-    // Declares an action, and wants it once.
-    fn declare<'s>(
-        actions: &mut IndexSet<Name<'s>>,
-        subtasks: &mut Vec<Placed<'s>>,
-        word: &'s [u8],
-    ) -> Result<(), Fail> {
-        if let Some(name) = Name::new(word) {
-            let span = Span { start: 0, past: 0 };
-            actions.insert(name)?;
-            subtasks.push(Placed { name, span })?;
-        }
-        Ok(())
-    }
-
-    // The cause of a plan for the actions `go` and `up`, each of them a subtask once.
-    fn cause(rt: &HostRuntime, text: &[u8]) -> Result<Option<(CauseKind, Option<u32>)>, Fail> {
-        let alloc = rt.alloc();
-        let mut actions = IndexSet::new(alloc);
-        let mut subtasks = Vec::new(alloc);
-        declare(&mut actions, &mut subtasks, b"go")?;
-        declare(&mut actions, &mut subtasks, b"up")?;
-        let Ok(plan) = read_plan(alloc, text) else {
-            return Ok(None);
-        };
-        match Tree::build(alloc, &actions, &subtasks, &plan) {
-            Err(TreeFault::Cause(cause)) => Ok(Some((cause.kind, cause.line))),
-            _ => Ok(None),
-        }
-    }
-
-    #[test]
-    fn finds_each_cause(rt: HostRuntime) -> Result<(), Fail> {
-        let at = |kind, line| Some((kind, Some(line)));
-        assert_eq!(rt; cause(&rt, b"==>\n1 UP\n2 go\nroot 1 2\n<==")?, None);
-        assert_eq!(rt;
-            cause(&rt, b"==>\n1 go\n01 up\nroot 1\n<==")?,
-            at(CauseKind::RepeatedId, 3)
-        );
-        assert_eq!(rt;
-            cause(&rt, b"==>\n1 go\nroot 1 2\n<==")?,
-            at(CauseKind::UnknownChild, 3)
-        );
-        assert_eq!(rt;
-            cause(&rt, b"==>\n1 go\nroot 1 1\n<==")?,
-            at(CauseKind::TwoParents, 3)
-        );
-        assert_eq!(rt;
-            cause(&rt, b"==>\n1 go\n2 up\nroot 1\n<==")?,
-            at(CauseKind::Unreached, 3)
-        );
-        assert_eq!(rt;
-            cause(&rt, b"==>\n1 go\n2 fly\nroot 1 2\n<==")?,
-            at(CauseKind::UnknownTask, 3)
-        );
-        assert_eq!(rt;
-            cause(&rt, b"==>\n1 go\n2 up a\nroot 1 2\n<==")?,
-            at(CauseKind::UnknownObject, 3)
-        );
-        assert_eq!(rt;
-            cause(&rt, b"==>\n1 go\nroot 1\n<==")?,
-            at(CauseKind::ChildCount, 3)
-        );
-        assert_eq!(rt;
-            cause(&rt, b"==>\n1 go\n2 go\nroot 1 2\n<==")?,
-            at(CauseKind::ChildNames, 4)
-        );
-        Ok(())
-    }
 }

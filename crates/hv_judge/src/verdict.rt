@@ -4,25 +4,25 @@ ghost use Rattle.std.specs.Prelude.{◌≡◌, [], map, length, IfOk};
 ghost use Rattle.std.specs.Cmp.Lexicographic.{pointwise};
 ghost use Rattle.std.specs.Str.{bytes_eq};
 ghost use Rattle.hv_text.specs.Names.{text_of};
+ghost use Rattle.hv_plan.specs.LineViews.{action_view, plan_view};
 ghost use Rattle.hv_judge.specs.Atoms.{atoms_of};
 ghost use Rattle.hv_judge.specs.Counting.{subtask_names};
 ghost use Rattle.hv_judge.specs.States.{AreApplicable};
 ghost use Rattle.hv_judge.specs.Statics.{action_names, IsStatic};
-ghost use Rattle.hv_judge.specs.Trees.{AreNumbers};
+ghost use Rattle.hv_judge.specs.Trees.{ids_of, AreNumbers};
 ghost use Rattle.hv_judge.specs.Verdicts.{is_goal_true, FitsProblem, first_state, last_state, actions_of, IsVerdict, IsFailedTree, IsStopWithin, IsStopped};
 ghost use Rattle.hv_judge.specs.DomainViews.{domain_view};
 ghost use Rattle.hv_judge.specs.ProblemViews.{problem_view};
-ghost use Rattle.hv_judge.specs.Plans.{action_view, plan_view};
 
 use crate::answer::{Answer, Cause, CauseKind, Certificate, Choice};
 use crate::matching::exceeds;
-use crate::plan::{ActionLine, PlanText};
 use crate::state::{Atoms, is_true};
 use crate::syntax::word::Placed;
 use crate::trace::{Stop, run};
 use crate::tree::{Tree, TreeFault};
 use crate::world::World;
 use hv_order::laws::sequence_law;
+use hv_plan::{ActionLine, PlanText};
 use hv_text::Memory;
 use std::alloc::Global;
 
@@ -38,14 +38,14 @@ fn is_goal_true(world: &World<'_>, state: &Atoms<'_>) -> bool
 
 // Whether a line names a subtask.
 fn is_named(action: &ActionLine<'_>, subtask: &Placed<'_>) -> bool
-    ensures { result ≡ bytes_eq (text_of subtask.now.name) (text_of action.now.name) }
+    ensures { result ≡ bytes_eq (text_of subtask.now.name) (action_view action.now).name }
 {
-    subtask.name == action.name
+    subtask.name == action.name()
 }
 
 // Whether the plan's actions are those of the subtasks, in the same order.
 fn is_in_order(subtasks: &[Placed<'_>], actions: &[ActionLine<'_>]) -> bool
-    ensures { result ≡ pointwise bytes_eq (subtask_names subtasks.now) (map (λ a. text_of a.name) actions.now) }
+    ensures { result ≡ pointwise bytes_eq (subtask_names subtasks.now) (map (λ a. a.name) (map action_view actions.now)) }
 {
     if subtasks.len() != actions.len() {
         return false;
@@ -60,13 +60,13 @@ fn is_in_order(subtasks: &[Placed<'_>], actions: &[ActionLine<'_>]) -> bool
 
 // The certificate of a plan whose actions stand in the order of the subtasks.
 fn certificate<'s>(alloc: Global, actions: &[ActionLine<'s>]) -> Result<Certificate<'s>, Memory>
-    ensures children { IfOk result (λ c. c.root.children.items ≡ map (λ a. a.id) actions.now) }
+    ensures children { IfOk result (λ c. c.root.children.items ≡ ids_of (map action_view actions.now)) }
     ensures objects { IfOk result (λ c. c.root.objects.items ≡ []) }
     ensures lines { IfOk result (λ c. c.lines.items ≡ []) }
 {
     let mut children = Vec::new(alloc);
     for action in actions {
-        children.push(action.id)?;
+        children.push(action.id())?;
     }
     Ok(Certificate {
         root: Choice {
@@ -100,15 +100,15 @@ fn verdict_at_end<'s>(
     }
     let subtasks = world.subtasks();
     if exceeds(alloc, world.actions(), subtasks, limit)? {
-        return Ok(Answer::Undecided(plan.root_line));
+        return Ok(Answer::Undecided(plan.root_line()));
     }
-    if !is_in_order(subtasks, &plan.actions) {
+    if !is_in_order(subtasks, plan.actions()) {
         return Ok(Answer::Fails(Cause {
             kind: CauseKind::OrderBroken,
             line: None,
         }));
     }
-    Ok(Answer::Solves(certificate(alloc, &plan.actions)?))
+    Ok(Answer::Solves(certificate(alloc, plan.actions())?))
 }
 
 // A plan whose lines form no tree that fits the problem fails.
@@ -129,7 +129,7 @@ fn stopped<'s>(stop: Stop, actions: &[ActionLine<'_>]) -> Result<Answer<'s>, Mem
     match stop {
         Stop::Inapplicable(place) => Ok(Answer::Fails(Cause {
             kind: CauseKind::Inapplicable,
-            line: Some(actions[place].line),
+            line: Some(actions[place].line()),
         })),
         Stop::Memory => Err(Memory),
     }
@@ -150,7 +150,7 @@ fn verdict_on_tree<'s>(
 {
     match run(alloc, world.init(), world.action_texts(), tree.actions()) {
         Ok(state) => verdict_at_end(alloc, world, plan, &state, limit),
-        Err(stop) => stopped(stop, &plan.actions),
+        Err(stop) => stopped(stop, plan.actions()),
     }
 }
 

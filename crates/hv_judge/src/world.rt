@@ -35,20 +35,6 @@ pub struct World<'s> {
 }
 
 impl<'s> World<'s> {
-    /// The domain.
-    pub(crate) fn domain(&self) -> &DomainText<'s>
-        ensures { result.now ≡ self.now.domain }
-    {
-        &self.domain
-    }
-
-    /// The problem.
-    pub(crate) fn problem(&self) -> &ProblemText<'s>
-        ensures { result.now ≡ self.now.problem }
-    {
-        &self.problem
-    }
-
     /// The names of the actions of the domain, in their order.
     pub(crate) fn actions(&self) -> &IndexSet<Name<'s>>
         ensures { declared_names result.now ≡ action_names (domain_view self.now.domain) }
@@ -84,13 +70,6 @@ impl<'s> World<'s> {
         self.problem.goal()
     }
 
-    /// The place among the actions of the domain of the one of this name.
-    pub(crate) fn action_number(&self, name: &Name<'_>) -> Option<usize>
-        ensures { result ≡ position (bytes_eq (text_of name.now)) (action_names (domain_view self.now.domain)) }
-    {
-        self.actions.get_index_of(name)
-    }
-
     /// The place among the predicates of the domain of the one of this name.
     pub(crate) fn predicate_number(&self, name: &Name<'_>) -> Option<usize>
         ensures { result ≡ position (bytes_eq (text_of name.now)) (predicate_names (domain_view self.now.domain)) }
@@ -98,6 +77,3 @@ impl<'s> World<'s> {
         self.predicates.get_index_of(name)
     }
 }
-
-#[cfg(test)]
-mod tests;

@@ -65,7 +65,7 @@ fn write_lower<W: Sink>(out: &mut W, bytes: &[u8]) -> Result<(), WriteFault>
     Ok(())
 }
 
-pub(crate) fn write_name<W: Sink>(out: &mut W, name: &Name<'_>) -> Result<(), WriteFault>
+fn write_name<W: Sink>(out: &mut W, name: &Name<'_>) -> Result<(), WriteFault>
     requires { W.failures out.old < 2 ^ 64 - 1 }
     ensures ok { OnOk result (Appends (W.taken out.old) (W.taken out.new) (codes " " ++ text_of name.now)) }
     ensures err { OnErr result (AppendsBeginning (W.taken out.old) (W.taken out.new) (codes " " ++ text_of name.now)) }
@@ -75,7 +75,7 @@ pub(crate) fn write_name<W: Sink>(out: &mut W, name: &Name<'_>) -> Result<(), Wr
     write_lower(out, name.written())
 }
 
-pub(crate) fn write_ids<W: Sink>(out: &mut W, ids: &[u64]) -> Result<(), WriteFault>
+fn write_ids<W: Sink>(out: &mut W, ids: &[u64]) -> Result<(), WriteFault>
     requires { W.failures out.old < 2 ^ 64 - 1 }
     ensures ok { OnOk result (Appends (W.taken out.old) (W.taken out.new) (ids_text ids.now)) }
     ensures err { OnErr result (AppendsBeginning (W.taken out.old) (W.taken out.new) (ids_text ids.now)) }
@@ -88,7 +88,7 @@ pub(crate) fn write_ids<W: Sink>(out: &mut W, ids: &[u64]) -> Result<(), WriteFa
     Ok(())
 }
 
-pub(crate) fn write_names<W: Sink>(out: &mut W, names: &[Name<'_>]) -> Result<(), WriteFault>
+fn write_names<W: Sink>(out: &mut W, names: &[Name<'_>]) -> Result<(), WriteFault>
     requires { W.failures out.old < 2 ^ 64 - 1 }
     ensures ok { OnOk result (Appends (W.taken out.old) (W.taken out.new) (names_text names.now)) }
     ensures err { OnErr result (AppendsBeginning (W.taken out.old) (W.taken out.new) (names_text names.now)) }

@@ -6,7 +6,7 @@ use Rattle.hv_judge.proofs.judgement.judge_short.Goals as goal
 pub returns-in-Ok : goal.returns-in-Ok
 returns-in-Ok c =
     plan_judged c.args.domain.now c.args.problem.now c.args.plan.now c.args.limit (domain_view c.in-Ok.world.domain) (problem_view c.in-Ok.world.problem)
-    c.judge_plan.result c.requires c.in-Ok.ensures.ok c.judge_plan.ensures
+    c.judge_plan_text.result c.requires c.in-Ok.ensures.ok c.judge_plan_text.ensures
 
 pub returns-in-Err : goal.returns-in-Err
 returns-in-Err c =

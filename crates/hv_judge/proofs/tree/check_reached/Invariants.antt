@@ -1,6 +1,6 @@
 use Rattle.std.proofs.Common.{◌≡◌, not, drop, map}
 use Rattle.std.specs.List.{find}
-use Rattle.hv_judge.specs.Plans.{action_view}
+use Rattle.hv_plan.specs.LineViews.{action_view}
 use Rattle.hv_judge.specs.Trees.{occurs}
 use Rattle.hv_judge.proofs.tree.check_reached.Given as goal
 

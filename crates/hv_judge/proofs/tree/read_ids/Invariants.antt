@@ -1,5 +1,5 @@
 use Rattle.std.proofs.Common.{◌≡◌, ◌++◌, [], drop, map}
-use Rattle.hv_judge.specs.Plans.{action_view}
+use Rattle.hv_plan.specs.LineViews.{action_view}
 use Rattle.hv_judge.specs.Trees.{ids_of, repeated}
 use Rattle.hv_judge.proofs.tree.read_ids.Given as goal
 

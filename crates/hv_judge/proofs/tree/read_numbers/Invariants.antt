@@ -1,6 +1,6 @@
 use Rattle.std.proofs.Common.{◌≡◌, ◌++◌, not, drop, map, Some, slice_get}
 use Rattle.std.specs.List.{find}
-use Rattle.hv_judge.specs.Plans.{action_view}
+use Rattle.hv_plan.specs.LineViews.{action_view}
 use Rattle.hv_judge.specs.Counting.{stands_in}
 use Rattle.hv_judge.specs.Trees.{declared_names}
 use Rattle.hv_judge.proofs.tree.read_numbers.Given as goal

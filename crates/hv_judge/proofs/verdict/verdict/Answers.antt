@@ -2,7 +2,7 @@ use Rattle.std.proofs.Common.{◌≡◌, ap, sym, subst, ◌∙◌}
 use Rattle.hv_judge.specs.Counting.{subtask_names}
 use Rattle.hv_judge.specs.DomainViews.{domain_view}
 use Rattle.hv_judge.specs.ProblemViews.{problem_view}
-use Rattle.hv_judge.specs.Plans.{plan_view}
+use Rattle.hv_plan.specs.LineViews.{plan_view}
 use Rattle.hv_judge.specs.Statics.{action_names}
 use Rattle.hv_judge.specs.Trees.{cause_of, declared_names, IsCause}
 use Rattle.hv_judge.specs.Verdicts.{subtasks_of}

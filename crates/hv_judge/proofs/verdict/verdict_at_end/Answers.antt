@@ -1,15 +1,14 @@
 use Rattle.std.proofs.Common.{◌≡◌, false, map, ap, subst, sym, ◌∙◌, nat_lt}
 use Rattle.std.specs.Cmp.Lexicographic.{pointwise}
 use Rattle.std.specs.Str.{bytes_eq}
-use Rattle.hv_text.specs.Names.{text_of}
 use Rattle.hv_judge.specs.DomainViews.{domain_view}
 use Rattle.hv_judge.specs.ProblemViews.{problem_view}
 use Rattle.hv_judge.specs.Counting.{count}
-use Rattle.hv_judge.specs.Plans.{plan_view}
+use Rattle.hv_plan.specs.LineViews.{action_view, plan_view}
 use Rattle.hv_judge.specs.Solutions.{IsMatching, IsOrderedBy}
 use Rattle.hv_judge.specs.Trees.{ids_of}
 use Rattle.hv_judge.specs.Verdicts.{is_goal_true, subtasks_of, count_of, IsRun, by_goal, by_order}
-use Rattle.hv_judge.proofs.VerdictLemmas.{subtasks_declared, lines_named, lines_numbered, not_less, in_order, out_of_order}
+use Rattle.hv_judge.proofs.VerdictLemmas.{subtasks_declared, not_less, in_order, out_of_order}
 use Rattle.hv_judge.proofs.SolutionLemmas.{in_order_solves, solves_in_order}
 use Rattle.hv_judge.proofs.verdict.verdict_at_end.Goals as goal
 
@@ -38,8 +37,8 @@ returns-then-not-is_in_order c =
     ap (λ ns. nat_lt c.args.limit (count ns)) (sym c.subtasks-subtasks.ensures) ∙ (sym c.in_ok-exceeds.ensures ∙ c.if-branch.false) in
     let tested : c.is_in_order.result ≡ pointwise bytes_eq (subtasks_of p) (map (λ a. a.name) q.actions) =
     c.is_in_order.ensures
-    ∙ (ap (λ xs. pointwise bytes_eq xs (map (λ a. text_of a.name) c.deref.result.now)) c.subtasks-subtasks.ensures
-    ∙ ap (pointwise bytes_eq (subtasks_of p)) (ap (map (λ a. text_of a.name)) c.deref.ensures.value ∙ sym (lines_named c.args.plan.now.actions.items))) in
+    ∙ (ap (λ xs. pointwise bytes_eq xs (map (λ a. a.name) (map action_view c.actions-2.result.now))) c.subtasks-subtasks.ensures
+    ∙ ap (λ ls. pointwise bytes_eq (subtasks_of p) (map (λ a. a.name) ls)) c.actions-2.ensures) in
     by_order run (not_less c.args.limit (count_of p) counted)
     (λ (children, matching, ordered).
     out_of_order (subtasks_of p) (map (λ a. a.name) q.actions) c.is_in_order.result tested c.if-not-is_in_order.true
@@ -60,12 +59,11 @@ returns c =
     ap (λ ns. nat_lt c.args.limit (count ns)) (sym c.subtasks-subtasks.ensures) ∙ (sym c.in_ok-exceeds.ensures ∙ c.if-branch.false) in
     let tested : c.is_in_order.result ≡ pointwise bytes_eq (subtasks_of p) (map (λ a. a.name) q.actions) =
     c.is_in_order.ensures
-    ∙ (ap (λ xs. pointwise bytes_eq xs (map (λ a. text_of a.name) c.deref.result.now)) c.subtasks-subtasks.ensures
-    ∙ ap (pointwise bytes_eq (subtasks_of p)) (ap (map (λ a. text_of a.name)) c.deref.ensures.value ∙ sym (lines_named c.args.plan.now.actions.items))) in
+    ∙ (ap (λ xs. pointwise bytes_eq xs (map (λ a. a.name) (map action_view c.actions-2.result.now))) c.subtasks-subtasks.ensures
+    ∙ ap (λ ls. pointwise bytes_eq (subtasks_of p) (map (λ a. a.name) ls)) c.actions-2.ensures) in
     let solved = in_order_solves c.sequence_law.ensures.sequence (subtasks_of p) q c.requires.tree.tree
     (in_order (subtasks_of p) (map (λ a. a.name) q.actions) c.is_in_order.result tested c.if-not-is_in_order.false) in
-    let children : ids_of q.actions ≡ cert.root.children.items =
-    lines_numbered c.args.plan.now.actions.items ∙ (ap (map (λ a. a.id)) (sym c.deref-2.ensures.value) ∙ sym c.in_ok-certificate.ensures.children) in (
+    let children : ids_of q.actions ≡ cert.root.children.items = ap ids_of (sym c.actions-3.ensures) ∙ sym c.in_ok-certificate.ensures.children in (
       not_less c.args.limit (count_of p) counted,
       record {
         run = run;

@@ -1,4 +1,4 @@
-use Rattle.hv_judge.specs.Plans.{plan_view}
+use Rattle.hv_plan.specs.LineViews.{plan_view}
 use Rattle.hv_judge.specs.Trees.{ids_of}
 use Rattle.hv_judge.proofs.TreeLemmas.{places_hold}
 use Rattle.hv_judge.proofs.tree.Tree.build.Goals as goal
