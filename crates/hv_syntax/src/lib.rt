@@ -20,8 +20,6 @@ mod refusal;
 mod section;
 mod task;
 mod term;
-#[cfg(test)]
-mod tests;
 mod typed;
 mod unsupported;
 mod word;
@@ -53,6 +51,3 @@ pub use task::TaskText;
 pub use term::{AtomText, TermText};
 pub use typed::{TypeText, TypedText};
 pub use word::Placed;
-
-#[cfg(test)]
-mod print_tests;

@@ -1,6 +1,8 @@
-//! Texts of domains and problems, and their canonical texts.
+//! Texts of domains, problems and plans, and their canonical texts.
 
-use crate::{print_domain, print_problem, read_domain, read_problem};
+use crate::texts::LINES;
+use hv_plan::{print_plan, read_plan};
+use hv_syntax::{print_domain, print_problem, read_domain, read_problem};
 use std::alloc::Global;
 use std::test::Fail;
 
@@ -15,6 +17,13 @@ fn domain_again(alloc: Global, text: &[u8]) -> Result<Vec<u8>, Fail> {
 fn problem_again(alloc: Global, text: &[u8]) -> Result<Vec<u8>, Fail> {
     let mut out = Vec::new(alloc);
     print_problem(&read_problem(alloc, text)?, &mut out)?;
+    Ok(out)
+}
+
+// The canonical text of a plan's text.
+fn plan_again(alloc: Global, text: &[u8]) -> Result<Vec<u8>, Fail> {
+    let mut out = Vec::new(alloc);
+    print_plan(&read_plan(alloc, text)?, &mut out)?;
     Ok(out)
 }
 
@@ -48,6 +57,15 @@ const PROBLEMS: [(&str, &str); 2] = [
     ),
 ];
 
+const PLANS: [(&[u8], &[u8]); 2] = [
+    (
+        LINES,
+        b"==>\n7 move a b\n1 2 3\nroot 0 7 18446744073709551615\n\
+        0 go b -> m1 7 1\n18446744073709551615 stay -> m2\n<==\n",
+    ),
+    (b"==>\nroot\n<==", b"==>\nroot\n<==\n"),
+];
+
 #[test]
 fn prints_domains(rt: HostRuntime) -> Result<(), Fail> {
     for (text, canonical) in DOMAINS {
@@ -66,6 +84,17 @@ fn prints_problems(rt: HostRuntime) -> Result<(), Fail> {
         assert!(rt; printed.as_slice() == canonical.as_bytes(), "{text}");
         let again = problem_again(rt.alloc(), &printed)?;
         assert!(rt; again.as_slice() == canonical.as_bytes(), "{canonical}");
+    }
+    Ok(())
+}
+
+#[test]
+fn prints_plans(rt: HostRuntime) -> Result<(), Fail> {
+    for (text, canonical) in PLANS {
+        let printed = plan_again(rt.alloc(), text)?;
+        assert!(rt; printed.as_slice() == canonical);
+        let again = plan_again(rt.alloc(), &printed)?;
+        assert!(rt; again.as_slice() == canonical);
     }
     Ok(())
 }

@@ -1,8 +1,13 @@
-use super::*;
-use hv_text::{MOST_BYTES, TextKind, place};
-use std::test::Fail;
+//! What is read of domains and problems, and the first faults of their texts.
 
-mod rows;
+use crate::texts::{DOMAINS, PROBLEMS, negated, place_in};
+use hv_syntax::{
+    DomainText, FormulaText, MethodText, NetworkText, ProblemText, SyntaxKind, read_domain,
+    read_problem,
+};
+use hv_text::TextKind;
+use std::alloc::Global;
+use std::test::Fail;
 
 const FORMS: &[u8] = b"; each form of a domain\n\
     (define (Domain Forms)\n\
@@ -28,71 +33,127 @@ const GIVEN: &[u8] = b"(DEFINE (PROBLEM g) (:goal (p)) (:init (p) (not (at a b))
     (:htn :parameters (?x - place) :subtasks (go ?x)) (:objects a - place b c)\n\
     (:requirements) (:domain when))";
 
-#[test]
-fn reads_each_form_of_a_domain(rt: HostRuntime) -> Result<(), Fail> {
-    let domain = read_domain(rt.alloc(), FORMS)?;
-    assert!(rt; domain.name().name.is(b"forms"));
-    assert_eq!(rt; domain.requirements().len(), 2);
-    assert_eq!(rt; domain.types().len(), 4);
-    assert_eq!(rt; domain.constants().len(), 3);
-    assert_eq!(rt; domain.predicates().len(), 2);
-    assert_eq!(rt; domain.tasks().len(), 2);
-    assert_eq!(rt; domain.methods().len(), 4);
-    assert_eq!(rt; domain.actions().len(), 3);
-    let [method, ordered, ..] = domain.methods() else {
-        assert!(rt; false);
-        return Ok(());
+// How many members each section of a domain has.
+fn sections_of_domain(domain: &DomainText<'_>) -> [usize; 7] {
+    [
+        domain.requirements().len(),
+        domain.types().len(),
+        domain.constants().len(),
+        domain.predicates().len(),
+        domain.tasks().len(),
+        domain.methods().len(),
+        domain.actions().len(),
+    ]
+}
+
+// How many labels the subtasks of a network have.
+fn labels(network: &NetworkText<'_>) -> usize {
+    let mut labels = 0usize;
+    for subtask in network.subtasks() {
+        if subtask.label.is_some() {
+            labels = labels.wrapping_add(1);
+        }
+    }
+    labels
+}
+
+// How many subtasks, labels, pairs and constraints a network has.
+fn parts_of_network(network: &NetworkText<'_>) -> [usize; 4] {
+    [
+        network.subtasks().len(),
+        labels(network),
+        network.pairs().len(),
+        network.constraints().len(),
+    ]
+}
+
+// Where a method stands, and where its task.
+fn places_of(method: &MethodText<'_>) -> [(u32, u32); 2] {
+    [
+        place_in(FORMS, method.span()),
+        place_in(FORMS, method.task().symbol.span),
+    ]
+}
+
+// Whether the first method is read.
+fn is_first(method: &MethodText<'_>) -> bool {
+    places_of(method) == [(3, 1), (4, 39)]
+        && method.parameters().len() == 3
+        && method.task().terms.len() == 2
+        && matches!(method.precondition(), FormulaText::Equal(..))
+        && parts_of_network(method.network()) == [3, 2, 2, 2]
+}
+
+// Whether the first two methods are read, of which the second is ordered.
+fn are_first(methods: &[MethodText<'_>]) -> bool {
+    let [method, ordered, ..] = methods else {
+        return false;
     };
-    assert_eq!(rt; place_in(FORMS, method.span()), (3, 1));
-    assert_eq!(rt; place_in(FORMS, method.task().symbol.span), (4, 39));
-    assert_eq!(rt; method.parameters().len(), 3);
-    assert_eq!(rt; method.task().terms.len(), 2);
-    assert_eq!(rt; method.network().subtasks().len(), 3);
-    assert!(rt; !method.network().is_ordered());
-    assert_eq!(rt; method.network().pairs().len(), 2);
-    assert_eq!(rt; method.network().constraints().len(), 2);
-    let labels = method
-        .network()
-        .subtasks()
-        .iter()
-        .filter(|s| s.label.is_some())
-        .count();
-    assert_eq!(rt; labels, 2);
-    assert!(rt; ordered.network().is_ordered());
-    assert!(rt; matches!(method.precondition(), FormulaText::Equal(..)));
-    Ok(())
+    is_first(method) && !method.network().is_ordered() && ordered.network().is_ordered()
+}
+
+fn reads_domain(alloc: Global) -> Option<bool> {
+    let domain = read_domain(alloc, FORMS).ok()?;
+    let is_read = domain.name().name.is(b"forms")
+        && sections_of_domain(&domain) == [2, 4, 3, 2, 2, 4, 3]
+        && are_first(domain.methods());
+    Some(is_read)
 }
 
 #[test]
-fn reads_each_form_of_a_problem(rt: HostRuntime) -> Result<(), Fail> {
-    let problem = read_problem(rt.alloc(), GIVEN)?;
-    assert!(rt; problem.name().name.is(b"G"));
-    assert!(rt; problem.domain().name.is(b"when"));
-    assert_eq!(rt; problem.requirements().len(), 0);
-    assert_eq!(rt; problem.objects().len(), 3);
-    assert_eq!(rt; problem.init().len(), 2);
-    assert!(rt; problem.goal().is_some());
-    assert_eq!(rt; problem.htn().parameters().len(), 1);
-    assert_eq!(rt; problem.htn().network().subtasks().len(), 1);
-    assert_eq!(rt; place_in(GIVEN, problem.htn().span()), (2, 1));
-    Ok(())
+fn reads_each_form_of_a_domain(rt: HostRuntime) {
+    assert!(rt; reads_domain(rt.alloc()) == Some(true));
+}
+
+// How many members each section of a problem has; the parameters and the subtasks are those of its network.
+fn sections_of_problem(problem: &ProblemText<'_>) -> [usize; 5] {
+    [
+        problem.requirements().len(),
+        problem.objects().len(),
+        problem.htn().parameters().len(),
+        problem.htn().network().subtasks().len(),
+        problem.init().len(),
+    ]
+}
+
+fn reads_problem(alloc: Global) -> Option<bool> {
+    let problem = read_problem(alloc, GIVEN).ok()?;
+    let is_read = problem.name().name.is(b"G")
+        && problem.domain().name.is(b"when")
+        && sections_of_problem(&problem) == [0, 3, 1, 1, 2]
+        && problem.goal().is_some()
+        && place_in(GIVEN, problem.htn().span()) == (2, 1);
+    Some(is_read)
 }
 
 #[test]
-fn reads_the_rows(rt: HostRuntime) {
-    for text in rows::DOMAINS {
+fn reads_each_form_of_a_problem(rt: HostRuntime) {
+    assert!(rt; reads_problem(rt.alloc()) == Some(true));
+}
+
+#[test]
+fn reads_the_worked_domains(rt: HostRuntime) {
+    for text in DOMAINS {
         assert_eq!(rt; domain_fault(&rt, text), None);
     }
-    for text in rows::PROBLEMS {
+}
+
+#[test]
+fn reads_the_worked_problems(rt: HostRuntime) {
+    for text in PROBLEMS {
         assert_eq!(rt; problem_fault(&rt, text), None);
     }
 }
 
-fn place_in(text: &[u8], span: hv_text::Span) -> (u32, u32) {
-    if text.len() > MOST_BYTES {
-        return (0, 0);
-    }
-    place(text, span)
+// One list more is nested too deep.
+#[test]
+fn reads_253_negations_of_a_goal(rt: HostRuntime) -> Result<(), Fail> {
+    let most = negated(rt.alloc(), 253)?;
+    assert_eq!(rt; problem_fault(&rt, &most), None);
+    let more = negated(rt.alloc(), 254)?;
+    let deep = SyntaxKind::Text(TextKind::TooDeep);
+    assert_eq!(rt; problem_fault(&rt, &more), Some((deep, (1, 1332))));
+    Ok(())
 }
 
 // The fault of a domain, and its line and column.

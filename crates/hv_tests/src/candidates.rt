@@ -1,0 +1,253 @@
+//! The candidates of the nodes of plans' trees, and their counts.
+
+ghost use Rattle.std.specs.Prelude.{◌<◌, length, IfSome};
+ghost use Rattle.hv_world.specs.WorldViews.{world_view};
+ghost use Rattle.hv_plan.specs.TreeViews.{tree_view};
+ghost use Rattle.hv_match.specs.Candidates.{IsNode};
+
+mod slow;
+
+use crate::texts::{
+    EMPTY, NO_RELIC, NO_RELIC_FOR_MANY, ONE, ORDERS, PLAN1, THREE, TRANSPORT, TWENTY, TWENTY_ONE,
+    WIDE, WIDE_APART,
+};
+use crate::worlds::{tree_of, world_of};
+use hv_match::{Candidate, Candidates, count, exceeds};
+use hv_plan::Tree;
+use hv_world::World;
+use std::alloc::Global;
+
+// The number of the node of an id, which the root line's has none.
+fn node_of(tree: &Tree, id: Option<u64>) -> Option<usize>
+    ensures { IfSome result (λ v. v < length (tree_view tree.now).nodes) }
+{
+    let nodes = tree.nodes();
+    for number in 0..nodes.len() {
+        if nodes[number].id() == id {
+            return Some(number);
+        }
+    }
+    None
+}
+
+// The candidates of a node, where they are fewer than a thousand.
+fn all(alloc: Global, world: &World<'_>, tree: &Tree, node: usize) -> Option<Vec<Candidate>>
+    requires { IsNode (world_view world.now) (tree_view tree.now) node }
+{
+    let mut candidates = Candidates::new(alloc, world, tree, node).ok()?;
+    let mut all = Vec::new(alloc);
+    for _ in 0..1000 {
+        match candidates.next(alloc).ok()? {
+            Some(candidate) => all.push(candidate).ok()?,
+            None => return Some(all),
+        }
+    }
+    None
+}
+
+// Whether the count of a node is this one.
+fn is_count(world: &World<'_>, tree: &Tree, node: usize, wanted: u64) -> bool
+    requires { IsNode (world_view world.now) (tree_view tree.now) node }
+{
+    if wanted > 0 && !exceeds(world, tree, node, wanted - 1) {
+        return false;
+    }
+    count(world, tree, node) == wanted && !exceeds(world, tree, node, wanted)
+}
+
+// A domain, a problem and a plan, and the id of a node, none for that of the root line.
+type Question = (&'static [u8], &'static [u8], &'static [u8], Option<u64>);
+
+// How many candidates a node has, where its count is this one.
+fn found(alloc: Global, question: Question, wanted: u64) -> Option<usize> {
+    let (domain, problem, plan, id) = question;
+    let world = world_of(alloc, domain, problem)?;
+    let tree = tree_of(alloc, &world, plan)?;
+    let node = node_of(&tree, id)?;
+    if !is_count(&world, &tree, node, wanted) {
+        return None;
+    }
+    Some(all(alloc, &world, &tree, node)?.len())
+}
+
+// Objects of subtasks leave one way for alike children.
+const THREE_TASKS: &[u8] = b"(define (problem three)\n\
+    (:domain transport)\n\
+    (:objects t1 - truck p1 - package a b - location)\n\
+    (:htn :subtasks (and (deliver p1 b) (goto t1 a) (goto t1 b)))\n\
+    (:init))";
+
+const THREE_DONE: &[u8] = b"==>\n\
+    1 load t1 p1 a\n\
+    3 unload t1 p1 b\n\
+    root 13 12 10\n\
+    10 deliver p1 b -> m-deliver 11 1 14 3\n\
+    11 goto t1 a -> m-there\n\
+    12 goto t1 a -> m-there\n\
+    13 goto t1 b -> m-there\n\
+    14 goto t1 b -> m-there\n\
+    <==";
+
+const LINE_5: &[u8] = b"==>\nroot 5\n5 t -> m\n<==";
+
+const TWENTY_ONE_ACTS: &[u8] =
+    b"==>\n1 act\n2 act\n3 act\n4 act\n5 act\n6 act\n7 act\n8 act\n9 act\n10 act\n11 act\n\
+    12 act\n13 act\n14 act\n15 act\n16 act\n17 act\n18 act\n19 act\n20 act\n21 act\n\
+    root 1 2 3 4 5 6 7 8 9 10 11 12 13 14 15 16 17 18 19 20 21\n<==";
+
+#[test]
+fn candidates_are_as_many_as_the_examples_say(rt: HostRuntime) {
+    let questions: [(Question, u64, usize); 8] = [
+        ((TRANSPORT, ONE, PLAN1, Some(10)), 2, 1),
+        ((TRANSPORT, ONE, PLAN1, None), 1, 1),
+        ((TRANSPORT, THREE_TASKS, THREE_DONE, None), 1, 1),
+        ((WIDE, THREE, LINE_5, Some(5)), 9, 9),
+        ((WIDE, THREE, LINE_5, None), 1, 1),
+        // of two parameters that stand in a constraint alone
+        ((WIDE_APART, THREE, LINE_5, Some(5)), 9, 6),
+        // no object of a type
+        ((EMPTY, NO_RELIC, LINE_5, Some(5)), 0, 0),
+        ((EMPTY, NO_RELIC_FOR_MANY, TWENTY_ONE_ACTS, None), 0, 0),
+    ];
+    for (question, wanted, candidates) in questions {
+        assert_eq!(rt; found(rt.alloc(), question, wanted), Some(candidates));
+    }
+}
+
+const TWENTY_DONE: &[u8] =
+    b"==>\n1 act-a\n2 act-a\n3 act-a\n4 act-a\n5 act-a\n6 act-a\n7 act-a\n8 act-a\n9 act-a\n\
+    10 act-a\n11 act-a\n12 act-a\n13 act-a\n14 act-a\n15 act-a\n16 act-a\n17 act-a\n18 act-a\n\
+    19 act-a\n20 act-a\n\
+    root 1 2 3 4 5 6 7 8 9 10 11 12 13 14 15 16 17 18 19 20\n<==";
+
+const TWENTY_ONE_DONE: &[u8] =
+    b"==>\n1 act-a\n2 act-a\n3 act-a\n4 act-a\n5 act-a\n6 act-a\n7 act-a\n8 act-a\n9 act-a\n\
+    10 act-a\n11 act-a\n12 act-a\n13 act-a\n14 act-a\n15 act-a\n16 act-a\n17 act-a\n18 act-a\n\
+    19 act-a\n20 act-a\n21 act-a\n\
+    root 1 2 3 4 5 6 7 8 9 10 11 12 13 14 15 16 17 18 19 20 21\n<==";
+
+// The count of the root line's node, whether it is greater, and whether greater than one less.
+fn root_count(
+    alloc: Global,
+    problem: &'static [u8],
+    plan: &'static [u8],
+) -> Option<(u64, bool, bool)> {
+    let world = world_of(alloc, ORDERS, problem)?;
+    let tree = tree_of(alloc, &world, plan)?;
+    let node = node_of(&tree, None)?;
+    let number = count(&world, &tree, node);
+    let below = number.checked_sub(1)?;
+    Some((
+        number,
+        exceeds(&world, &tree, node, number),
+        exceeds(&world, &tree, node, below),
+    ))
+}
+
+// The factorial of 20 has at most 64 bits, and that of 21 has more.
+#[test]
+fn great_counts_are_compared_exactly(rt: HostRuntime) {
+    let twenty = root_count(rt.alloc(), TWENTY, TWENTY_DONE);
+    assert_eq!(rt; twenty, Some((2432902008176640000, false, true)));
+    let twenty_one = root_count(rt.alloc(), TWENTY_ONE, TWENTY_ONE_DONE);
+    assert_eq!(rt; twenty_one, Some((u64::MAX, true, true)));
+}
+
+// Methods with two to six subtasks.
+const STEPS: &[u8] = b"(define (domain steps) (:constants o1 o2 o3)\n\
+    (:task t :parameters (?x ?y)) (:task u :parameters (?x))\n\
+    (:action a :parameters (?x)) (:action b :parameters (?x ?y)) (:action c)\n\
+    (:method m0 :parameters (?x) :task (u ?x) :subtasks ())\n\
+    (:method m2 :parameters (?p ?q) :task (t ?p o1) :subtasks (and (a ?p) (a ?q)))\n\
+    (:method n2 :parameters (?p ?q) :task (t ?p ?p) :subtasks (and (b ?p ?q) (a ?q)))\n\
+    (:method m3 :parameters (?p ?q ?r) :task (t ?p ?q)\n\
+    :subtasks (and (u ?p) (u ?q) (b ?q ?r)) :constraints (not (= ?p ?r)))\n\
+    (:method m4 :parameters (?p ?q ?f) :task (t ?p ?q)\n\
+    :subtasks (and (a ?p) (a ?q) (c) (c)) :constraints (= ?f ?p))\n\
+    (:method m5 :parameters (?p ?q ?r ?s) :task (t ?p ?p)\n\
+    :subtasks (and (b ?p ?q) (b ?q ?r) (b ?r ?s) (a ?s) (a o2)))\n\
+    (:method m6 :parameters (?p ?q ?r) :task (t ?q ?p)\n\
+    :subtasks (and (c) (c) (a ?p) (a ?q) (a ?r) (u ?r))))";
+
+const STEP: &[u8] = b"(define (problem q) (:domain steps) (:init) (:htn :subtasks (t o1 o1)))";
+
+// Plans, and how many candidates line 10 has.
+const PLANS: [(&[u8], usize); 13] = [
+    (
+        b"==>\n1 a o1\n2 a o2\nroot 10\n10 t o1 o1 -> m2 1 2\n<==",
+        1,
+    ),
+    (
+        b"==>\n1 a o2\n2 a o1\nroot 10\n10 t o1 o1 -> m2 1 2\n<==",
+        1,
+    ),
+    (
+        b"==>\n1 a o1\n2 a o1\nroot 10\n10 t o1 o1 -> m2 1 2\n<==",
+        2,
+    ),
+    (
+        b"==>\n1 a o2\n2 a o3\nroot 10\n10 t o1 o1 -> m2 1 2\n<==",
+        0,
+    ),
+    // the constant of the method's task is another
+    (
+        b"==>\n1 a o1\n2 a o2\nroot 10\n10 t o1 o2 -> m2 1 2\n<==",
+        0,
+    ),
+    // two subtasks bind one parameter
+    (
+        b"==>\n1 b o1 o2\n2 a o2\nroot 10\n10 t o1 o1 -> n2 2 1\n<==",
+        1,
+    ),
+    (
+        b"==>\n1 b o1 o2\n2 a o3\nroot 10\n10 t o1 o1 -> n2 2 1\n<==",
+        0,
+    ),
+    // two terms of the task bind it
+    (
+        b"==>\n1 b o1 o2\n2 a o2\nroot 10\n10 t o1 o2 -> n2 2 1\n<==",
+        0,
+    ),
+    (
+        b"==>\n1 b o2 o3\nroot 10\n10 t o1 o2 -> m3 1 12 11\n11 u o1 -> m0\n12 u o2 -> m0\n<==",
+        1,
+    ),
+    // the constraint does not hold
+    (
+        b"==>\n1 b o2 o1\nroot 10\n10 t o1 o2 -> m3 1 12 11\n11 u o1 -> m0\n12 u o2 -> m0\n<==",
+        0,
+    ),
+    (
+        b"==>\n1 a o1\n2 a o1\n3 c\n4 c\nroot 10\n10 t o1 o1 -> m4 3 1 2 4\n<==",
+        4,
+    ),
+    (
+        b"==>\n1 b o1 o1\n2 b o1 o1\n3 b o1 o1\n4 a o1\n5 a o2\nroot 10\n10 t o1 o1 -> m5 1 4 5 3 2\n<==",
+        6,
+    ),
+    (
+        b"==>\n1 a o1\n2 a o1\n3 a o1\n4 c\n5 c\nroot 10\n10 t o1 o1 -> m6 11 5 1 3 2 4\n11 u o1 -> m0\n<==",
+        12,
+    ),
+];
+
+// How many candidates line 10 has, where they are those of the slow list.
+fn compared(alloc: Global, plan: &'static [u8]) -> Option<usize> {
+    let world = world_of(alloc, STEPS, STEP)?;
+    let tree = tree_of(alloc, &world, plan)?;
+    let node = node_of(&tree, Some(10))?;
+    let found = all(alloc, &world, &tree, node)?;
+    let wanted = slow::candidates(alloc, &world, &tree, node)?;
+    if slow::are_same(&found, &wanted) {
+        Some(found.len())
+    } else {
+        None
+    }
+}
+
+#[test]
+fn candidates_are_those_of_a_slow_list(rt: HostRuntime) {
+    for (plan, candidates) in PLANS {
+        assert_eq!(rt; compared(rt.alloc(), plan), Some(candidates));
+    }
+}

@@ -1,0 +1,23 @@
+//! The tests of the library crates, which call their public items alone. Beside the tests there is nothing here.
+#![tactic(auto)]
+
+#[cfg(test)]
+mod candidates;
+#[cfg(test)]
+mod canonical;
+#[cfg(test)]
+mod judge;
+#[cfg(test)]
+mod plan;
+#[cfg(test)]
+mod state;
+#[cfg(test)]
+mod syntax;
+#[cfg(test)]
+mod texts;
+#[cfg(test)]
+mod tree;
+#[cfg(test)]
+mod world;
+#[cfg(test)]
+mod worlds;

@@ -1,0 +1,376 @@
+//! Truth in states, what actions leave, and the states that a plan passes.
+
+use crate::texts::{
+    EMPTY, FLIP, FLIP_ONCE, NO_RELIC_EXISTS, ONE, RELIC_EXISTS, TRANSPORT, negated,
+};
+use crate::worlds::world_of;
+use hv_state::{AtomView, SortedState, State, Stop, Trace, truth};
+use hv_text::{Word, read_words};
+use hv_world::{
+    ActionId, Atom, Binding, Formula, GroundAction, ObjectId, PredicateId, TaskName, Term, World,
+};
+use std::alloc::Global;
+
+// Two trucks, one object that is none, and no ghost.
+const YARD: &[u8] = b"(define (domain yard)\n\
+    (:types truck ghost)\n\
+    (:predicates (alone) (at ?x) (near ?x ?y))\n\
+    (:action move :parameters (?x ?y)\n\
+    :effect (and (not (alone)) (not (at ?x)) (alone) (at ?y) (at ?y)))\n\
+    (:action leave :parameters (?x) :effect (not (at ?x))))";
+
+// What is true in the yard of these atoms.
+const TRUE: &[u8] = b"(define (problem true) (:domain yard) (:htn :subtasks ())\n\
+    (:objects a b - truck c)\n\
+    (:init (near b b) (at b) (alone) (near a b) (not (at c)) (at a) (at b))\n\
+    (:goal (and\n\
+    () (alone) (at b) (near a b) (near b b) (= a a)\n\
+    (and) (and (at a) (at b))\n\
+    (or (at c) (at b)) (or (alone) (at c))\n\
+    (not (at c)) (not (not (at a)))\n\
+    (imply (at a) (at b)) (imply (at c) (at a)) (imply (at c) (at c))\n\
+    (forall (?x - truck) (at ?x)) (forall (?x - ghost) (= a b))\n\
+    (exists (?x) (near ?x b)) (exists (?x) (not (at ?x)))\n\
+    (exists (?x ?y - truck) (and (near ?x ?y) (= ?x a)))\n\
+    (exists (?x - truck) (forall (?y - truck) (near ?y ?x)))\n\
+    (forall (?x - truck) (exists (?x) (not (at ?x))))\n\
+    (exists (?x) (and (forall (?x - truck) (at ?x)) (= ?x c)))\n\
+    (exists (?x ?y) (and (exists (?x) (and (= ?x c) (= ?y b))) (= ?x a))))))";
+
+// And what is not.
+const FALSE: &[u8] = b"(define (problem false) (:domain yard) (:htn :subtasks ())\n\
+    (:objects a b - truck c)\n\
+    (:init (near b b) (at b) (alone) (near a b) (not (at c)) (at a) (at b))\n\
+    (:goal (and\n\
+    (at c) (near b a) (= a b)\n\
+    (and (at a) (at c)) (and (at c) (at a))\n\
+    (or) (or (at c) (near b a))\n\
+    (not (at a)) (not (not (at c)))\n\
+    (imply (at a) (at c))\n\
+    (forall (?x) (at ?x)) (forall (?x ?y - truck) (near ?x ?y))\n\
+    (exists (?x - ghost) (= a a)) (exists (?x) (near ?x a)) (exists (?x - truck) (= ?x c))\n\
+    (exists (?x - truck) (forall (?y - truck) (near ?x ?y)))\n\
+    (exists (?x - truck) (and (forall (?x) (= ?x ?x)) (= ?x c)))\n\
+    (forall (?x) (exists (?x - truck) (not (at ?x)))))))";
+
+// Sixteen variables of one quantifier, with two objects for each.
+const SIXTEEN: &[u8] = b"(define (problem sixteen) (:domain yard) (:htn :subtasks ())\n\
+    (:objects a b - truck) (:init (at b)) (:goal\n\
+    (forall (?a ?b ?c ?d ?e ?f ?g ?h ?i ?j ?k ?l ?m ?n ?o ?p - truck)\n\
+    (or (= ?p a) (at ?p)))))";
+
+const ALONE: usize = 0;
+
+const AT: usize = 1;
+
+const NEAR: usize = 2;
+
+const LEFT: Term = Term::Object(ObjectId(0));
+
+const RIGHT: Term = Term::Object(ObjectId(1));
+
+const OTHER: Term = Term::Object(ObjectId(2));
+
+const NONE: Binding<'static> = Binding::Given(&[]);
+
+// The state that the world of these texts begins with.
+fn state_of(alloc: Global, domain: &[u8], problem: &[u8]) -> Option<SortedState> {
+    let world = world_of(alloc, domain, problem)?;
+    SortedState::initial(alloc, &world).ok()
+}
+
+fn atom(alloc: Global, predicate: usize, terms: &[Term]) -> Option<Atom> {
+    let terms = Vec::from_slice(alloc, terms).ok()?;
+    Some(Atom {
+        predicate: PredicateId(predicate),
+        terms,
+    })
+}
+
+// Atoms, and whether each is true.
+type Atoms = &'static [(usize, &'static [Term], bool)];
+
+// Whether atoms are true in a state, or not, as said.
+fn are_as_said(state: &SortedState, alloc: Global, atoms: Atoms) -> Option<bool> {
+    for (predicate, terms, wanted) in atoms {
+        let atom = atom(alloc, *predicate, terms)?;
+        if state.holds(&AtomView::new(&atom, &NONE)) != *wanted {
+            return Some(false);
+        }
+    }
+    Some(true)
+}
+
+const INITIAL: Atoms = &[
+    (ALONE, &[], true),
+    (AT, &[LEFT], true),
+    (AT, &[RIGHT], true),
+    (NEAR, &[LEFT, RIGHT], true),
+    (NEAR, &[RIGHT, RIGHT], true),
+    (ALONE, &[LEFT], false),
+    (AT, &[], false),
+    (AT, &[OTHER], false),
+    (NEAR, &[LEFT], false),
+    (NEAR, &[RIGHT, LEFT], false),
+    (NEAR, &[RIGHT, RIGHT, RIGHT], false),
+    (3, &[], false),
+];
+
+fn begins(alloc: Global) -> Option<bool> {
+    are_as_said(&state_of(alloc, YARD, TRUE)?, alloc, INITIAL)
+}
+
+#[test]
+fn halving_finds_each_atom_and_no_other(rt: HostRuntime) {
+    assert!(rt; begins(rt.alloc()) == Some(true));
+}
+
+// The state after the first action of the yard, with these objects.
+fn moved(alloc: Global, objects: &[ObjectId]) -> Option<SortedState> {
+    let world = world_of(alloc, YARD, TRUE)?;
+    let mut state = SortedState::initial(alloc, &world).ok()?;
+    let action = world.action(ActionId(0))?;
+    let binding = Binding::Given(objects);
+    state.apply(action.deletes(), action.adds(), &binding).ok()?;
+    Some(state)
+}
+
+const MOVED: Atoms = &[
+    (ALONE, &[], true),
+    (AT, &[LEFT], true),
+    (AT, &[RIGHT], false),
+    (AT, &[OTHER], true),
+];
+
+fn moves(alloc: Global) -> Option<bool> {
+    are_as_said(&moved(alloc, &[ObjectId(1), ObjectId(2)])?, alloc, MOVED)
+}
+
+// One atom is deleted and added, and another is added twice.
+#[test]
+fn adds_come_after_deletes(rt: HostRuntime) {
+    assert!(rt; moves(rt.alloc()) == Some(true));
+}
+
+// The same state once more, without (at LEFT).
+fn without(state: &SortedState, alloc: Global) -> Option<SortedState> {
+    let mut other = state.copy(alloc).ok()?;
+    let atom = atom(alloc, AT, &[LEFT])?;
+    other.apply(&[atom], &[], &NONE).ok()?;
+    Some(other)
+}
+
+const LEFT_OUT: Atoms = &[(AT, &[LEFT], false), (AT, &[RIGHT], true)];
+
+fn copies(alloc: Global) -> Option<bool> {
+    let state = state_of(alloc, YARD, TRUE)?;
+    let other = without(&state, alloc)?;
+    Some(are_as_said(&state, alloc, INITIAL)? && are_as_said(&other, alloc, LEFT_OUT)?)
+}
+
+#[test]
+fn a_copy_changes_alone(rt: HostRuntime) {
+    assert!(rt; copies(rt.alloc()) == Some(true));
+}
+
+// How many of the formulas are true in the world's first state.
+fn true_ones(alloc: Global, world: &World<'_>, formulas: &[Formula]) -> Option<usize> {
+    let state = SortedState::initial(alloc, world).ok()?;
+    let mut count = 0usize;
+    for formula in formulas {
+        if truth(world, &state, formula, &NONE) {
+            count = count.wrapping_add(1);
+        }
+    }
+    Some(count)
+}
+
+// Of the parts of a goal, how many there are, and how many are true.
+fn counted(alloc: Global, problem: &[u8]) -> Option<(usize, usize)> {
+    let world = world_of(alloc, YARD, problem)?;
+    match world.goal()? {
+        Formula::And(parts) => Some((parts.len(), true_ones(alloc, &world, parts)?)),
+        _ => None,
+    }
+}
+
+#[test]
+fn formulas_are_true_and_false(rt: HostRuntime) {
+    assert!(rt; counted(rt.alloc(), TRUE) == Some((24, 24)));
+    assert!(rt; counted(rt.alloc(), FALSE) == Some((18, 0)));
+}
+
+// Whether the goal of a problem is true at the start.
+fn begins_with_its_goal(alloc: Global, domain: &[u8], problem: &[u8]) -> Option<bool> {
+    let world = world_of(alloc, domain, problem)?;
+    let state = SortedState::initial(alloc, &world).ok()?;
+    Some(truth(&world, &state, world.goal()?, &NONE))
+}
+
+#[test]
+fn sixteen_variables_of_two_objects(rt: HostRuntime) {
+    assert!(rt; begins_with_its_goal(rt.alloc(), YARD, SIXTEEN) == Some(true));
+}
+
+// Whether an atom that is true is so within so many negations.
+fn is_true_within(alloc: Global, count: usize) -> Option<bool> {
+    let text = negated(alloc, count).ok()?;
+    begins_with_its_goal(alloc, FLIP, &text)
+}
+
+#[test]
+fn negations_nest(rt: HostRuntime) {
+    assert!(rt; is_true_within(rt.alloc(), 0) == Some(true));
+    assert!(rt; is_true_within(rt.alloc(), 1) == Some(false));
+    assert!(rt; is_true_within(rt.alloc(), 252) == Some(true));
+    assert!(rt; is_true_within(rt.alloc(), 253) == Some(false));
+}
+
+// The ground action of a line: the action's name, and those of its objects.
+fn ground<'s>(alloc: Global, world: &World<'s>, line: &'s [u8]) -> Option<GroundAction> {
+    let words = read_words(alloc, line).ok()?;
+    let mut action = None;
+    let mut objects = Vec::new(alloc);
+    for word in &words {
+        let Word::Name(name, _) = word else {
+            return None;
+        };
+        match action {
+            None => action = world.task_named(*name),
+            Some(_) => objects.push(world.object_named(*name)?).ok()?,
+        }
+    }
+    match action? {
+        TaskName::Primitive(action) => world.ground(action, objects),
+        TaskName::Compound(_) => None,
+    }
+}
+
+// These ground actions, and then that of a line.
+fn then<'s>(
+    alloc: Global,
+    world: &World<'s>,
+    mut actions: Vec<GroundAction>,
+    line: &'s [u8],
+) -> Option<Vec<GroundAction>> {
+    let action = ground(alloc, world, line)?;
+    actions.push(action).ok()?;
+    Some(actions)
+}
+
+// The ground actions of three lines of the transport.
+fn three<'s>(
+    alloc: Global,
+    world: &World<'s>,
+    first: &'s [u8],
+    second: &'s [u8],
+    third: &'s [u8],
+) -> Option<Vec<GroundAction>> {
+    let one = then(alloc, world, Vec::new(alloc), first)?;
+    let two = then(alloc, world, one, second)?;
+    then(alloc, world, two, third)
+}
+
+// Whether three actions run, and the truck is where it began at first, then not, and the goal holds.
+fn delivers(alloc: Global, world: &World<'_>, actions: &[GroundAction]) -> Option<bool> {
+    if actions.len() != 3 {
+        return None;
+    }
+    let there = Formula::Holds(atom(alloc, 0, &[LEFT, OTHER])?);
+    let trace: Trace<SortedState> = Trace::run(alloc, world, actions).ok()?;
+    let at_first = trace.holds_at(0, &there, &NONE) && trace.holds_at(1, &there, &NONE);
+    let at_last = trace.holds_at(2, &there, &NONE) || trace.holds_at(3, &there, &NONE);
+    Some(at_first && !at_last && trace.goal_holds())
+}
+
+// Whether a truck loads, drives and unloads.
+fn brings_a_package(alloc: Global) -> Option<bool> {
+    let world = world_of(alloc, TRANSPORT, ONE)?;
+    let actions = three(
+        alloc,
+        &world,
+        b"load t1 p1 a",
+        b"drive t1 a b",
+        b"unload t1 p1 b",
+    )?;
+    delivers(alloc, &world, &actions)
+}
+
+#[test]
+fn a_truck_brings_a_package(rt: HostRuntime) {
+    assert!(rt; brings_a_package(rt.alloc()) == Some(true));
+}
+
+// Why the actions of these lines do not run.
+fn stop_of(
+    alloc: Global,
+    first: &'static [u8],
+    second: &'static [u8],
+    third: &'static [u8],
+) -> Option<Stop> {
+    let world = world_of(alloc, TRANSPORT, ONE)?;
+    let actions = three(alloc, &world, first, second, third)?;
+    let trace: Result<Trace<SortedState>, Stop> = Trace::run(alloc, &world, &actions);
+    trace.err()
+}
+
+#[test]
+fn a_plan_stops_at_the_first_action_that_is_not_applicable(rt: HostRuntime) {
+    let load = b"load t1 p1 a";
+    let drive = b"drive t1 a b";
+    let unload = b"unload t1 p1 b";
+    assert!(rt; stop_of(rt.alloc(), drive, load, unload) == Some(Stop::Inapplicable(1)));
+    assert!(rt; stop_of(rt.alloc(), load, drive, drive) == Some(Stop::Inapplicable(2)));
+    assert!(rt; stop_of(rt.alloc(), unload, load, drive) == Some(Stop::Inapplicable(0)));
+}
+
+// Whether an atom is false at first, and true after one action, and the goal is so too.
+fn flips(alloc: Global, world: &World<'_>, actions: &[GroundAction]) -> Option<bool> {
+    if actions.len() != 1 {
+        return None;
+    }
+    let flipped = Formula::Holds(atom(alloc, 0, &[])?);
+    let trace: Trace<SortedState> = Trace::run(alloc, world, actions).ok()?;
+    let at_first = trace.holds_at(0, &flipped, &NONE);
+    Some(!at_first && trace.holds_at(1, &flipped, &NONE) && trace.goal_holds())
+}
+
+fn flip(alloc: Global) -> Option<bool> {
+    let world = world_of(alloc, FLIP, FLIP_ONCE)?;
+    let actions = then(alloc, &world, Vec::new(alloc), b"flip")?;
+    flips(alloc, &world, &actions)
+}
+
+#[test]
+fn an_atom_deleted_and_added_is_true(rt: HostRuntime) {
+    assert!(rt; flip(rt.alloc()) == Some(true));
+}
+
+// Whether the goal holds where nothing is done.
+fn holds_at_once(alloc: Global, domain: &[u8], problem: &[u8]) -> Option<bool> {
+    let world = world_of(alloc, domain, problem)?;
+    let trace: Trace<SortedState> = Trace::run(alloc, &world, &[]).ok()?;
+    Some(trace.goal_holds())
+}
+
+#[test]
+fn goals_of_plans_without_actions(rt: HostRuntime) {
+    let no_goal = b"(define (problem q) (:domain flip) (:htn) (:init))";
+    assert!(rt; holds_at_once(rt.alloc(), FLIP, FLIP_ONCE) == Some(false));
+    assert!(rt; holds_at_once(rt.alloc(), FLIP, no_goal) == Some(true));
+    assert!(rt; holds_at_once(rt.alloc(), EMPTY, NO_RELIC_EXISTS) == Some(true));
+    assert!(rt; holds_at_once(rt.alloc(), EMPTY, RELIC_EXISTS) == Some(false));
+}
+
+// Whether the precondition of the first action is true at the start.
+fn is_applicable_at_once(alloc: Global, domain: &[u8], problem: &[u8]) -> Option<bool> {
+    let world = world_of(alloc, domain, problem)?;
+    let action = world.action(ActionId(0))?;
+    let trace: Trace<SortedState> = Trace::run(alloc, &world, &[]).ok()?;
+    Some(trace.holds_at(0, action.precondition(), &NONE))
+}
+
+#[test]
+fn all_of_no_objects(rt: HostRuntime) {
+    assert!(rt; is_applicable_at_once(rt.alloc(), EMPTY, NO_RELIC_EXISTS) == Some(true));
+}

@@ -1,0 +1,471 @@
+//! Trees of plans in a world, and why the lines of a plan form none.
+
+use crate::texts::{ONE, PLAN1, TRANSPORT};
+use crate::worlds::{tree_of, world_of};
+use hv_plan::{Child, Node, Tree, TreeFault, read_plan};
+use hv_world::{ObjectId, World};
+use std::alloc::Global;
+
+// The number of the cause for which a plan has no tree in a world, and the line; both 0 where it has one.
+fn cause(alloc: Global, world: &World<'static>, text: &'static [u8]) -> (u32, u32) {
+    match read_plan(alloc, text) {
+        Err(_) => (1, 0),
+        Ok(plan) => match Tree::build(alloc, world, &plan) {
+            Ok(_) => (0, 0),
+            Err(TreeFault::Memory) => (2, 0),
+            Err(TreeFault::Cause(cause)) => (cause.kind.number(), cause.line),
+        },
+    }
+}
+
+// The tree of the plan for the package.
+fn delivery(alloc: Global) -> Option<Tree> {
+    let world = world_of(alloc, TRANSPORT, ONE)?;
+    tree_of(alloc, &world, PLAN1)
+}
+
+// Whether the actions are those of the plan, in its order.
+fn has_actions(tree: &Tree) -> bool {
+    let [load, drive, unload] = tree.actions() else {
+        return false;
+    };
+    (load.action.0, drive.action.0, unload.action.0) == (1, 0, 2)
+        && load.objects.as_slice() == [ObjectId(0), ObjectId(1), ObjectId(2)].as_slice()
+}
+
+fn has_action_ids(tree: &Tree) -> bool {
+    tree.action_id(0) == Some(1) && tree.action_id(2) == Some(3) && tree.action_id(3).is_none()
+}
+
+fn lists_actions(alloc: Global) -> Option<bool> {
+    let tree = delivery(alloc)?;
+    Some(has_actions(&tree) && has_action_ids(&tree))
+}
+
+#[test]
+fn the_actions_stand_in_plan_order(rt: HostRuntime) {
+    assert!(rt; lists_actions(rt.alloc()) == Some(true));
+}
+
+// The id of a node, its line, and the numbers of its task and its method.
+fn says(node: &Node) -> (Option<u64>, u32, Option<usize>, Option<usize>) {
+    let task = match node.task() {
+        Some(task) => Some(task.0),
+        None => None,
+    };
+    let method = match node.method() {
+        Some(method) => Some(method.0),
+        None => None,
+    };
+    (node.id(), node.line(), task, method)
+}
+
+fn has_root(tree: &Tree) -> Option<bool> {
+    let root = tree.node(3)?;
+    Some(says(root) == (None, 5, None, None) && root.children().len() == 1)
+}
+
+fn begins_with_root(alloc: Global) -> Option<bool> {
+    let tree = delivery(alloc)?;
+    let is_last = tree.nodes().len() == 4 && tree.node_at(0) == Some(3);
+    Some(is_last && tree.node_at(4).is_none() && has_root(&tree)?)
+}
+
+#[test]
+fn the_root_line_comes_first_and_has_the_last_number(rt: HostRuntime) {
+    assert!(rt; begins_with_root(rt.alloc()) == Some(true));
+}
+
+// The k-th node in the order of nodes.
+fn nth(tree: &Tree, k: usize) -> Option<&Node> {
+    tree.node(tree.node_at(k)?)
+}
+
+// Whether the node of the delivery says what its line says, and its children stand in the order of the line.
+fn is_delivery(tree: &Tree) -> Option<bool> {
+    let node = nth(tree, 1)?;
+    let children = [
+        Child::Node(tree.node_at(2)?),
+        Child::Action(0),
+        Child::Node(tree.node_at(3)?),
+        Child::Action(2),
+    ];
+    let is_said = says(node) == (Some(10), 6, Some(0), Some(0));
+    let has_objects = node.objects() == [ObjectId(1), ObjectId(3)].as_slice();
+    Some(is_said && has_objects && node.children() == children.as_slice())
+}
+
+// Whether the last node says what its line says.
+fn is_drive(tree: &Tree) -> Option<bool> {
+    let node = nth(tree, 3)?;
+    let is_said = says(node) == (Some(12), 8, Some(1), Some(1));
+    Some(is_said && node.children() == [Child::Action(1)].as_slice())
+}
+
+fn says_lines(alloc: Global) -> Option<bool> {
+    let tree = delivery(alloc)?;
+    Some(is_delivery(&tree)? && is_drive(&tree)?)
+}
+
+#[test]
+fn a_node_says_what_its_line_says(rt: HostRuntime) {
+    assert!(rt; says_lines(rt.alloc()) == Some(true));
+}
+
+// Plans for the package, each with the number of its cause and the line.
+const DELIVERIES: [(&[u8], u32, u32); 17] = [
+    // arguments of another type
+    (
+        b"==>\n\
+    1 load p1 t1 a\n\
+    2 drive t1 a b\n\
+    3 unload t1 p1 b\n\
+    root 10\n\
+    10 deliver p1 b -> m-deliver 11 1 12 3\n\
+    11 goto t1 a -> m-there\n\
+    12 goto t1 b -> m-drive 2\n\
+    <==",
+        58,
+        2,
+    ),
+    // fewer arguments
+    (
+        b"==>\n\
+    1 load t1 p1 a\n\
+    2 drive t1 a\n\
+    3 unload t1 p1 b\n\
+    root 10\n\
+    10 deliver p1 b -> m-deliver 11 1 12 3\n\
+    11 goto t1 a -> m-there\n\
+    12 goto t1 b -> m-drive 2\n\
+    <==",
+        57,
+        3,
+    ),
+    // an action line of a task
+    (
+        b"==>\n\
+    1 deliver p1 b\n\
+    2 drive t1 a b\n\
+    3 unload t1 p1 b\n\
+    root 10\n\
+    10 deliver p1 b -> m-deliver 11 1 12 3\n\
+    11 goto t1 a -> m-there\n\
+    12 goto t1 b -> m-drive 2\n\
+    <==",
+        59,
+        2,
+    ),
+    // a decomposition line of an action
+    (
+        b"==>\n\
+    1 load t1 p1 a\n\
+    2 drive t1 a b\n\
+    3 unload t1 p1 b\n\
+    root 10\n\
+    10 deliver p1 b -> m-deliver 11 1 12 3\n\
+    11 drive t1 a b -> m-drive\n\
+    12 goto t1 b -> m-drive 2\n\
+    <==",
+        60,
+        7,
+    ),
+    // a method for another task
+    (
+        b"==>\n\
+    1 load t1 p1 a\n\
+    2 drive t1 a b\n\
+    3 unload t1 p1 b\n\
+    root 10\n\
+    10 deliver p1 b -> m-deliver 11 1 12 3\n\
+    11 goto t1 a -> m-deliver\n\
+    12 goto t1 b -> m-drive 2\n\
+    <==",
+        61,
+        7,
+    ),
+    // fewer children
+    (
+        b"==>\n\
+    1 load t1 p1 a\n\
+    2 drive t1 a b\n\
+    3 unload t1 p1 b\n\
+    root 10\n\
+    10 deliver p1 b -> m-deliver 11 1 12 3\n\
+    11 goto t1 a -> m-drive\n\
+    12 goto t1 b -> m-drive 2\n\
+    <==",
+        62,
+        7,
+    ),
+    // a child of no line
+    (
+        b"==>\n\
+    1 load t1 p1 a\n\
+    2 drive t1 a b\n\
+    3 unload t1 p1 b\n\
+    root 10\n\
+    10 deliver p1 b -> m-deliver 11 1 12 3\n\
+    11 goto t1 a -> m-there\n\
+    12 goto t1 b -> m-drive 7\n\
+    <==",
+        51,
+        8,
+    ),
+    // a child of two lines
+    (
+        b"==>\n\
+    1 load t1 p1 a\n\
+    2 drive t1 a b\n\
+    3 unload t1 p1 b\n\
+    root 10\n\
+    10 deliver p1 b -> m-deliver 11 1 12 3\n\
+    11 goto t1 a -> m-drive 2\n\
+    12 goto t1 b -> m-drive 2\n\
+    <==",
+        52,
+        8,
+    ),
+    // lines that are not reached
+    (
+        b"==>\n\
+    1 load t1 p1 a\n\
+    2 drive t1 a b\n\
+    3 unload t1 p1 b\n\
+    root 10\n\
+    10 deliver p1 b -> m-deliver 11 1 12 3\n\
+    11 goto t1 a -> m-there\n\
+    12 goto t1 b -> m-drive 2\n\
+    20 goto t1 a -> m-drive 21\n\
+    21 goto t1 a -> m-drive 20\n\
+    <==",
+        53,
+        9,
+    ),
+    // children of other names
+    (
+        b"==>\n\
+    1 load t1 p1 a\n\
+    2 drive t1 a b\n\
+    3 unload t1 p1 b\n\
+    root 10\n\
+    10 deliver p1 b -> m-deliver 11 1 12 2\n\
+    11 goto t1 a -> m-there\n\
+    12 goto t1 b -> m-drive 3\n\
+    <==",
+        63,
+        6,
+    ),
+    // an argument that is no object
+    (
+        b"==>\n\
+    1 load t1 p1 a\n\
+    2 drive t1 a c\n\
+    3 unload t1 p1 b\n\
+    root 10\n\
+    10 deliver p1 b -> m-deliver 11 1 12 3\n\
+    11 goto t1 a -> m-there\n\
+    12 goto t1 b -> m-drive 2\n\
+    <==",
+        56,
+        3,
+    ),
+    // an id of two lines
+    (
+        b"==>\n\
+    1 load t1 p1 a\n\
+    2 drive t1 a b\n\
+    1 unload t1 p1 b\n\
+    root 10\n\
+    10 deliver p1 b -> m-deliver 11 1 12 3\n\
+    11 goto t1 a -> m-there\n\
+    12 goto t1 b -> m-drive 2\n\
+    <==",
+        50,
+        4,
+    ),
+    // a name that nothing has
+    (
+        b"==>\n\
+    1 lift t1 p1 a\n\
+    2 drive t1 a b\n\
+    3 unload t1 p1 b\n\
+    root 10\n\
+    10 deliver p1 b -> m-deliver 11 1 12 3\n\
+    11 goto t1 a -> m-there\n\
+    12 goto t1 b -> m-drive 2\n\
+    <==",
+        54,
+        2,
+    ),
+    // a method that nothing has
+    (
+        b"==>\n\
+    1 load t1 p1 a\n\
+    2 drive t1 a b\n\
+    3 unload t1 p1 b\n\
+    root 10\n\
+    10 deliver p1 b -> m-deliver 11 1 12 3\n\
+    11 goto t1 a -> m-fly\n\
+    12 goto t1 b -> m-drive 2\n\
+    <==",
+        55,
+        7,
+    ),
+    // a smaller number on a later line
+    (
+        b"==>\n\
+    1 load t1 p1 a\n\
+    2 drive t1 a c\n\
+    3 unload t1 p1 b\n\
+    root 10\n\
+    10 deliver p1 b -> m-deliver 11 1 12 3\n\
+    11 fly t1 a -> m-there\n\
+    12 goto t1 b -> m-drive 2\n\
+    <==",
+        54,
+        7,
+    ),
+    // an unknown name before an unknown object
+    (
+        b"==>\n\
+    1 lift t1 p1 c\n\
+    2 drive t1 a b\n\
+    3 unload t1 p1 b\n\
+    root 10\n\
+    10 deliver p1 b -> m-deliver 11 1 12 3\n\
+    11 goto t1 a -> m-there\n\
+    12 goto t1 b -> m-drive 2\n\
+    <==",
+        54,
+        2,
+    ),
+    // an unknown object before a wrong count
+    (
+        b"==>\n\
+    1 load p1 c\n\
+    2 drive t1 a b\n\
+    3 unload t1 p1 b\n\
+    root 10\n\
+    10 deliver p1 b -> m-deliver 11 1 12 3\n\
+    11 goto t1 a -> m-there\n\
+    12 goto t1 b -> m-drive 2\n\
+    <==",
+        56,
+        2,
+    ),
+];
+
+// Whether plans have these causes in a world.
+fn have_causes(
+    alloc: Global,
+    domain: &'static [u8],
+    problem: &'static [u8],
+    plans: &[(&'static [u8], u32, u32)],
+) -> Option<bool> {
+    let world = world_of(alloc, domain, problem)?;
+    for (text, number, line) in plans {
+        if cause(alloc, &world, text) != (*number, *line) {
+            return Some(false);
+        }
+    }
+    Some(true)
+}
+
+#[test]
+fn finds_each_cause(rt: HostRuntime) {
+    assert!(rt; have_causes(rt.alloc(), TRANSPORT, ONE, &DELIVERIES) == Some(true));
+}
+
+// A task that does itself and an action, or nothing.
+const STEPS: &[u8] = b"(define (domain d) (:task t) (:action a)\n\
+    (:method m :task (t) :subtasks (and (t) (a))) (:method e :task (t) :subtasks ()))";
+
+const STEP: &[u8] = b"(define (problem q) (:domain d) (:init) (:htn :subtasks (t)))";
+
+// Plans whose lines form no tree, each with the number of its cause and the line.
+const SHAPES: [(&[u8], u32, u32); 18] = [
+    (b"==>\n1 a\n1 b\nroot 1\n<==", 50, 3),
+    (b"==>\nroot 1\n1 t -> m\n1 b\n<==", 50, 4),
+    (b"==>\n1 b\nroot 1\n1 t -> m 9\n<==", 50, 4),
+    (b"==>\nroot 1\n5 t -> m\n5 t -> m\n1 a\n5 a\n<==", 50, 4),
+    (b"==>\n5 t -> m\n1 a\n1 b\n5 a\nroot\n<==", 50, 4),
+    (b"==>\nroot 1\n<==", 51, 2),
+    (b"==>\n1 t -> m 7\nroot 1 8\n<==", 51, 2),
+    (b"==>\nroot 1 8\n1 t -> m 7\n<==", 51, 2),
+    (b"==>\nroot 1 1\n1 t -> m\n2 t -> m 9\n<==", 51, 4),
+    (b"==>\n1 a\nroot 1 1\n<==", 52, 3),
+    (b"==>\n1 a\n2 t -> m 1\nroot 1 2\n<==", 52, 4),
+    (b"==>\n1 a\nroot 1 2\n2 t -> m 1\n<==", 52, 4),
+    (b"==>\n1 a\n2 t -> m 1\n3 t -> m 1 1\nroot 2 3\n<==", 52, 4),
+    (
+        b"==>\n1 a\n2 t -> m 2 2\nroot\n3 t -> m 1\n4 t -> m 1\n<==",
+        52,
+        3,
+    ),
+    (b"==>\n1 a\n2 a\nroot 2\n<==", 53, 2),
+    (b"==>\n1 t -> m 1\n2 a\nroot 2\n<==", 53, 2),
+    (b"==>\nroot 3\n1 t -> m 2\n3 a\n2 t -> m 1\n<==", 53, 3),
+    (b"==>\n5 t -> m 4\nroot 3\n3 a\n4 a\n<==", 53, 2),
+];
+
+#[test]
+fn finds_each_cause_for_which_lines_form_no_tree(rt: HostRuntime) {
+    assert!(rt; have_causes(rt.alloc(), STEPS, STEP, &SHAPES) == Some(true));
+}
+
+// Lines in an order of which none follows from the tree.
+const MIXED: &[u8] = b"==>\n2 t -> m 3 1\n1 a\nroot 0\n3 t -> e\n0 t -> m 2 4\n4 a\n<==";
+
+#[test]
+fn accepts_trees(rt: HostRuntime) {
+    let trees: [(&[u8], &[u8]); 3] = [
+        (
+            b"(define (problem q) (:domain d) (:init) (:htn))",
+            b"==>\nroot\n<==",
+        ),
+        (
+            b"(define (problem q) (:domain d) (:init) (:htn :subtasks (a)))",
+            b"==>\n1 a\nroot 1\n<==",
+        ),
+        (STEP, MIXED),
+    ];
+    for (problem, text) in trees {
+        assert!(rt; have_causes(rt.alloc(), STEPS, problem, &[(text, 0, 0)]) == Some(true));
+    }
+}
+
+// Whether the k-th nodes have these numbers.
+fn are_in_order(tree: &Tree, numbers: &[usize]) -> bool {
+    for (k, number) in numbers.iter().enumerate() {
+        if tree.node_at(k) != Some(*number) {
+            return false;
+        }
+    }
+    true
+}
+
+fn is_node(node: &Node, id: Option<u64>, children: &[Child]) -> bool {
+    node.id() == id && node.children() == children
+}
+
+fn are_nodes(nodes: &[Node]) -> bool {
+    let [three, two, zero, root] = nodes else {
+        return false;
+    };
+    is_node(three, Some(3), &[])
+        && is_node(two, Some(2), &[Child::Node(0), Child::Action(0)])
+        && is_node(zero, Some(0), &[Child::Node(1), Child::Action(1)])
+        && is_node(root, None, &[Child::Node(2)])
+}
+
+fn is_numbered(alloc: Global) -> Option<bool> {
+    let world = world_of(alloc, STEPS, STEP)?;
+    let tree = tree_of(alloc, &world, MIXED)?;
+    Some(are_in_order(&tree, &[3, 1, 0, 2]) && are_nodes(tree.nodes()))
+}
+
+#[test]
+fn numbers_children_before_parents(rt: HostRuntime) {
+    assert!(rt; is_numbered(rt.alloc()) == Some(true));
+}

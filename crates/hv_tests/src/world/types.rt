@@ -1,0 +1,141 @@
+//! Which objects are of which types.
+
+use crate::texts::{ONE, TRANSPORT};
+use crate::worlds::{object, type_of, world_of};
+use hv_world::{ObjectId, TypeId, World};
+use std::alloc::Global;
+
+// Whether an object is of a type just where it is among the objects of the type.
+fn agree(world: &World<'static>, of: TypeId) -> bool {
+    let objects = world.objects_of(of);
+    for object in world.objects_of(TypeId(0)) {
+        if world.is_of(*object, of) != objects.contains(object) {
+            return false;
+        }
+    }
+    true
+}
+
+// Whether these are the objects, in the order of their numbers.
+fn are_named(world: &World<'static>, objects: &[ObjectId], names: &[&'static [u8]]) -> bool {
+    for (found, name) in objects.iter().zip(names) {
+        if object(world, name) != Some(*found) {
+            return false;
+        }
+    }
+    objects.len() == names.len()
+}
+
+// Whether a type has these objects.
+fn has_objects(world: &World<'static>, of: &'static [u8], names: &[&'static [u8]]) -> Option<bool> {
+    let of = type_of(world, of)?;
+    Some(are_named(world, world.objects_of(of), names) && agree(world, of))
+}
+
+// Whether types have these objects.
+fn have_objects(
+    alloc: Global,
+    domain: &'static [u8],
+    problem: &'static [u8],
+    types: &[(&'static [u8], &[&'static [u8]])],
+) -> Option<bool> {
+    let world = world_of(alloc, domain, problem)?;
+    for (of, names) in types {
+        if !has_objects(&world, of, names)? {
+            return Some(false);
+        }
+    }
+    Some(true)
+}
+
+#[test]
+fn chains_of_transport_lead_to_all_types_above(rt: HostRuntime) {
+    let types: [(&[u8], &[&[u8]]); 3] = [
+        (b"thing", &[b"t1", b"p1"]),
+        (b"truck", &[b"t1"]),
+        (b"object", &[b"t1", b"p1", b"a", b"b"]),
+    ];
+    assert!(rt; have_objects(rt.alloc(), TRANSPORT, ONE, &types) == Some(true));
+}
+
+#[test]
+fn an_object_has_all_its_types(rt: HostRuntime) {
+    let domain = b"(define (domain d) (:types a b - b a - c))";
+    let problem = b"(define (problem q) (:domain d) (:objects x - a x - c) (:htn) (:init))";
+    let types: [(&[u8], &[&[u8]]); 4] = [
+        (b"a", &[b"x"]),
+        (b"b", &[b"x"]),
+        (b"c", &[b"x"]),
+        (b"object", &[b"x"]),
+    ];
+    assert!(rt; have_objects(rt.alloc(), domain, problem, &types) == Some(true));
+}
+
+#[test]
+fn a_cycle_of_types_ends(rt: HostRuntime) {
+    let domain = b"(define (domain d) (:types a - b b - a c - object))";
+    let problem = b"(define (problem q) (:domain d) (:objects x - a x - c) (:htn) (:init))";
+    let types: [(&[u8], &[&[u8]]); 4] = [
+        (b"object", &[b"x"]),
+        (b"a", &[b"x"]),
+        (b"b", &[b"x"]),
+        (b"c", &[b"x"]),
+    ];
+    assert!(rt; have_objects(rt.alloc(), domain, problem, &types) == Some(true));
+}
+
+#[test]
+fn a_chain_is_followed_to_its_end(rt: HostRuntime) {
+    let domain = b"(define (domain d) (:types c - b b - a c - b) (:constants x y z))";
+    let problem =
+        b"(define (problem q) (:domain d) (:objects z - b y - c x - a y - c) (:htn) (:init))";
+    let types: [(&[u8], &[&[u8]]); 4] = [
+        (b"object", &[b"x", b"y", b"z"]),
+        (b"a", &[b"x", b"y", b"z"]),
+        (b"b", &[b"y", b"z"]),
+        (b"c", &[b"y"]),
+    ];
+    assert!(rt; have_objects(rt.alloc(), domain, problem, &types) == Some(true));
+}
+
+// The rule that sets `object` above all makes no chain; a declared pair of `object` does.
+#[test]
+fn object_makes_no_chain_by_rule(rt: HostRuntime) {
+    let domain = b"(define (domain d) (:types object - a b - object d - c))";
+    let problem =
+        b"(define (problem q) (:domain d) (:objects x - object y - b z - c) (:htn) (:init))";
+    let types: [(&[u8], &[&[u8]]); 5] = [
+        (b"object", &[b"x", b"y", b"z"]),
+        (b"a", &[b"x", b"y"]),
+        (b"b", &[b"y"]),
+        (b"c", &[b"z"]),
+        (b"d", &[]),
+    ];
+    assert!(rt; have_objects(rt.alloc(), domain, problem, &types) == Some(true));
+}
+
+// Objects and types by number, of two objects and two types, and whether the one is of the other.
+const NUMBERS: [(usize, usize, bool); 5] = [
+    (1, 0, true),
+    (0, 1, false),
+    (1, 1, false),
+    (0, 2, false),
+    (2, 0, false),
+];
+
+fn are_of_types(alloc: Global) -> Option<bool> {
+    let domain = b"(define (domain d) (:types a))";
+    let problem = b"(define (problem q) (:domain d) (:objects x y) (:htn) (:init))";
+    let world = world_of(alloc, domain, problem)?;
+    for (object, of, wanted) in NUMBERS {
+        if world.is_of(ObjectId(object), TypeId(of)) != wanted {
+            return Some(false);
+        }
+    }
+    Some(world.objects_of(TypeId(1)).is_empty() && world.objects_of(TypeId(2)).is_empty())
+}
+
+#[test]
+fn other_numbers_have_nothing(rt: HostRuntime) {
+    assert!(rt; are_of_types(rt.alloc()) == Some(true));
+}

@@ -1,0 +1,50 @@
+//! Worlds and trees of texts, and the numbers of names.
+
+ghost use Rattle.std.specs.Prelude.{◌<◌, ℕ, length, IfSome};
+ghost use Rattle.hv_world.specs.WorldViews.{world_view};
+ghost use Rattle.hv_plan.specs.TreeViews.{tree_view};
+ghost use Rattle.hv_match.specs.Candidates.{IsNode};
+
+use hv_match::nodes_have_methods;
+use hv_plan::{Tree, read_plan};
+use hv_syntax::{read_domain, read_problem};
+use hv_text::Name;
+use hv_world::{ObjectId, TypeId, World};
+use std::alloc::Global;
+
+/// The world of a domain and a problem, where their texts have no fault. It is boxed, so that each
+/// function that owns it proves a short end.
+pub(crate) fn world_of<'s>(
+    alloc: Global,
+    domain: &'s [u8],
+    problem: &'s [u8],
+) -> Option<Box<World<'s>>> {
+    let domain = read_domain(alloc, domain).ok()?;
+    let problem = read_problem(alloc, problem).ok()?;
+    let world = World::build(alloc, &domain, &problem).ok()?;
+    Box::new(alloc, world).ok()
+}
+
+/// The object of a name.
+pub(crate) fn object<'s>(world: &World<'s>, name: &'s [u8]) -> Option<ObjectId> {
+    world.object_named(Name::new(name)?)
+}
+
+/// The type of a name.
+pub(crate) fn type_of<'s>(world: &World<'s>, name: &'s [u8]) -> Option<TypeId> {
+    world.type_named(Name::new(name)?)
+}
+
+/// The tree of a plan in a world.
+pub(crate) fn tree_of<'s>(alloc: Global, world: &World<'s>, text: &'s [u8]) -> Option<Tree>
+    ensures { IfSome result (λ t. (v : ℕ) → v < length (tree_view t).nodes → IsNode (world_view world.now) (tree_view t) v) }
+{
+    nodes_have_methods();
+    match read_plan(alloc, text) {
+        Ok(plan) => match Tree::build(alloc, world, &plan) {
+            Ok(tree) => Some(tree),
+            Err(_) => None,
+        },
+        Err(_) => None,
+    }
+}
