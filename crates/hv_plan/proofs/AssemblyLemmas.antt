@@ -1,15 +1,9 @@
--- The tree that is put together of a shape and of what the lines say is the tree of the plan.
-use Rattle.std.proofs.Common.{◌≡◌, ℕ, zero, suc, ◌+◌, ◌-◌, ◌<◌, ◌≤◌, ◌⊎◌, inl, inr, List, [], ◌∷◌, ◌++◌, map, length, slice_get, Option, Some, None, refl, ap, sym, subst, ◌∙◌, arith}
+-- The tree of a plan's shape and of what its lines say is the tree of the plan.
+use Rattle.std.proofs.Common.{◌≡◌, ℕ, zero, suc, ◌+◌, ◌-◌, ◌<◌, ◌≤◌, inl, inr, List, [], ◌∷◌, map, length, slice_get, Option, Some, None, refl, ap, sym, subst, ◌∙◌, arith}
 use Rattle.std.specs.Prelude.{get_or, option_and_then, MatchOption}
 use Rattle.std.specs.List.{AllZip}
 use Rattle.std.proofs.Math.Path.{fun_ext}
-use Rattle.std.proofs.lemmas.List.{length-append, length-map, map-append}
-use Rattle.std.proofs.Common.{append_assoc, slice_set}
-use Rattle.std.specs.Global.{Vec}
-use Rattle.hv_plan.specs.Shaping.{items_of}
-use Rattle.hv_plan.specs.TreeViews.{child_view}
-use Rattle.hv_plan.specs.declared.tree.Child.{Child}
-use Rattle.std.proofs.lemmas.Option.{get_or_from_slice_get}
+use Rattle.std.proofs.lemmas.Option.{get_or_from_slice_get, slice_get_past}
 use Rattle.hv_world.specs.Bindings.{GroundAction}
 use Rattle.hv_world.specs.Lists.{Once}
 use Rattle.hv_world.specs.Worlds.{World}
@@ -19,32 +13,40 @@ use Rattle.hv_plan.specs.PlanTrees.{Node, PlanTree, children_of, children_at, St
 use Rattle.hv_plan.specs.PlanTrees as trees
 use Rattle.hv_plan.specs.ShapeViews.{Shape, Stands, line_id, IsShape, children_of_node, items_in, root_node, shape_tree}
 use Rattle.hv_plan.specs.FitViews.{IsDecomposed}
-use Rattle.hv_plan.specs.NodeViews.{node_of_line, node_of_root, AreNodes}
-use Rattle.hv_plan.specs.declared.fit.Decomposed.{Decomposed}
-use Rattle.hv_plan.proofs.FitLemmas.{less_or_more, less_or_same, member_at}
+use Rattle.hv_plan.specs.NodeViews.{node_of, node_of_line, node_of_root, nodes_from, nodes_of}
+use Rattle.hv_plan.specs.FitViews.{Decomposed}
+use Rattle.hv_plan.proofs.FitLemmas.{less_or_more, member_at}
 use Rattle.hv_plan.proofs.ChildLemmas.{mapped_at, paired_at, within_here}
 
--- a list with one more at its end
-get_before : {X : Type 0} (xs : List X) (y : X) (k : ℕ) (x : X) → slice_get xs k ≡ Some x → slice_get (xs ++ y ∷ []) k ≡ Some x
-get_before [] y zero x e = cc
-get_before [] y (suc k) x e = cc
-get_before (z ∷ xs) y zero x e = e
-get_before (z ∷ xs) y (suc k) x e = get_before xs y k x e
+-- as many nodes as places, and one more
+many_from : (p : Plan) (s : Shape) (xs : List Decomposed) (v : ℕ) (ks : List ℕ) → length (nodes_from p s xs v ks) ≡ length ks + 1
+many_from p s xs v [] = refl
+many_from p s xs v (k ∷ ks) = let rest = many_from p s xs (v + 1) ks in let more : suc (length (nodes_from p s xs (v + 1) ks)) ≡ suc (length ks) + 1 = omega (arith, rest) in more
 
-get_last : {X : Type 0} (xs : List X) (y : X) (k : ℕ) → k ≡ length xs → slice_get (xs ++ y ∷ []) k ≡ Some y
-get_last [] y zero e = refl
-get_last [] y (suc k) e = absurd (omega (arith, e))
-get_last (x ∷ xs) y zero e = absurd (let z : 0 ≡ suc (length xs) = e in omega (arith, z))
-get_last (x ∷ xs) y (suc k) e = get_last xs y k (let z : suc k ≡ suc (length xs) = e in omega (arith, z))
+-- the node of a number
+node_from : (p : Plan) (s : Shape) (xs : List Decomposed) (v : ℕ) (ks : List ℕ) (j : ℕ) → j ≤ length ks
+    → slice_get (nodes_from p s xs v ks) j
+    ≡ Some (node_of p (option_and_then (slice_get p.decompositions) (slice_get ks j)) (option_and_then (slice_get xs) (slice_get ks j)) (children_of_node s (v + j)))
+node_from p s xs v [] zero le = ap (λ u. Some (node_of p None None (children_of_node s u))) (omega arith)
+node_from p s xs v [] (suc j) le = absurd (omega (arith, le))
+node_from p s xs v (k ∷ ks) zero le = ap (λ u. Some (node_of p (slice_get p.decompositions k) (slice_get xs k) (children_of_node s u))) (omega arith)
+node_from p s xs v (k ∷ ks) (suc j) le =
+    node_from p s xs (v + 1) ks j (omega (arith, le))
+    ∙ ap (λ u. Some (node_of p (option_and_then (slice_get p.decompositions) (slice_get ks j)) (option_and_then (slice_get xs) (slice_get ks j)) (children_of_node s u))) (omega arith)
 
-none_behind : {X : Type 0} (xs : List X) (k : ℕ) → length xs ≤ k → slice_get xs k ≡ None
-none_behind [] zero le = refl
-none_behind [] (suc k) le = refl
-none_behind (x ∷ xs) zero le = absurd (omega (arith, le))
-none_behind (x ∷ xs) (suc k) le = none_behind xs k (omega (arith, le))
+-- how many nodes there are, and which they are
+pub as_many_nodes : (p : Plan) (s : Shape) (xs : List Decomposed) → length (nodes_of p s xs) ≡ length s.lines + 1
+as_many_nodes p s xs = many_from p s xs 0 s.lines
 
-one_longer : {X : Type 0} (xs : List X) (y : X) → length (xs ++ y ∷ []) ≡ length xs + 1
-one_longer xs y = length-append xs (y ∷ [])
+pub node_here : (p : Plan) (s : Shape) (xs : List Decomposed) (v : ℕ) → v ≤ length s.lines
+    → slice_get (nodes_of p s xs) v
+    ≡ Some (node_of p (option_and_then (slice_get p.decompositions) (slice_get s.lines v)) (option_and_then (slice_get xs) (slice_get s.lines v)) (children_of_node s v))
+node_here p s xs v le =
+    node_from p s xs 0 s.lines v le
+    ∙ ap (λ u. Some (node_of p (option_and_then (slice_get p.decompositions) (slice_get s.lines v)) (option_and_then (slice_get xs) (slice_get s.lines v)) (children_of_node s u))) (omega arith)
+
+pub no_node_behind : (p : Plan) (s : Shape) (xs : List Decomposed) (v : ℕ) → length s.lines < v → slice_get (nodes_of p s xs) v ≡ None
+no_node_behind p s xs v lt = slice_get_past (nodes_of p s xs) v (omega (arith, lt, as_many_nodes p s xs))
 
 -- lists that are paired, by places
 zip_at : {A B : Type 0} (R : A → B → Type 0) (xs : List A) (ys : List B) → length xs ≡ length ys
@@ -60,42 +62,14 @@ zip_as R S [] (y ∷ ys) more all = absurd all
 zip_as R S (x ∷ xs) [] more all = absurd all
 zip_as R S (x ∷ xs) (y ∷ ys) more (r, all) = (more x y r, zip_as R S xs ys more all)
 
--- no nodes, and one node more
-pub no_nodes : (ds : List Decomposition) (xs : List Decomposed) (s : Shape) → AreNodes ds xs s 0 []
-no_nodes ds xs s = record { as_many = refl; node = λ v k d x lt at of_line of_said. absurd (omega (arith, lt)) }
-
-pub nodes_step : (ds : List Decomposition) (xs : List Decomposed) (s : Shape) (count : ℕ) (ns : List Node) (k : ℕ) (d : Decomposition) (x : Decomposed) (n : Node)
-    → AreNodes ds xs s count ns → slice_get s.lines count ≡ Some k → slice_get ds k ≡ Some d → slice_get xs k ≡ Some x → n ≡ node_of_line d x (children_of_node s count)
-    → AreNodes ds xs s (count + 1) (ns ++ n ∷ [])
-nodes_step ds xs s count ns k d x n are at of_line of_said is = record { as_many = one_longer ns n ∙ ap (λ c. c + 1) are.as_many; node = node }
-  where
-    here : (k' : ℕ) (d' : Decomposition) (x' : Decomposed) → slice_get s.lines count ≡ Some k' → slice_get ds k' ≡ Some d' → slice_get xs k' ≡ Some x'
-        → n ≡ node_of_line d' x' (children_of_node s count)
-    here k' d' x' at' of_line' of_said' =
-        let places : k ≡ k' = cc in
-        let lines : d ≡ d' = cc in
-        let said : x ≡ x' = cc in
-        is ∙ (λ i. node_of_line (lines i) (said i) (children_of_node s count))
-
-    node : (v k' : ℕ) (d' : Decomposition) (x' : Decomposed) → v < count + 1 → slice_get s.lines v ≡ Some k' → slice_get ds k' ≡ Some d' → slice_get xs k' ≡ Some x'
-        → slice_get (ns ++ n ∷ []) v ≡ Some (node_of_line d' x' (children_of_node s v))
-    node v k' d' x' lt at' of_line' of_said' = go (less_or_same v count lt)
-      where
-        go : (v < count) ⊎ (v ≡ count) → slice_get (ns ++ n ∷ []) v ≡ Some (node_of_line d' x' (children_of_node s v))
-        go (inl below) = get_before ns n v (node_of_line d' x' (children_of_node s v)) (are.node v k' d' x' below at' of_line' of_said')
-        go (inr same) =
-            let last : slice_get (ns ++ n ∷ []) v ≡ Some n = get_last ns n v (same ∙ sym are.as_many) in
-            let there : slice_get s.lines count ≡ Some k' = subst (λ u. slice_get s.lines u ≡ Some k') same at' in
-            last ∙ ap Some (here k' d' x' there of_line' of_said') ∙ ap (λ u. Some (node_of_line d' x' (children_of_node s u))) (sym same)
-
--- a plan of this shape, whose lines say this, and the nodes that were made of them
+-- a plan of this shape, whose lines say this
 module _ (w : World) (p : Plan) (s : Shape) (is : IsShape p s) (as' : List GroundAction) (xs : List Decomposed) (acts : AllZip (IsActionOf w) p.actions as')
-    (says : AllZip (IsDecomposed w) p.decompositions xs) (ns : List Node) (made : AreNodes p.decompositions xs s (length s.lines) ns) where
+    (says : AllZip (IsDecomposed w) p.decompositions xs) where
   abbrev root : Node
   root = node_of_root p.root.line (children_of_node s (root_node p))
 
   abbrev nodes : List Node
-  nodes = ns ++ root ∷ []
+  nodes = nodes_of p s xs
 
   abbrev tree : PlanTree
   tree = record { actions = as'; action_ids = map (λ a. a.id) p.actions; nodes = nodes; order = length s.lines ∷ s.numbers }
@@ -110,16 +84,23 @@ module _ (w : World) (p : Plan) (s : Shape) (is : IsShape p s) (as' : List Groun
   line_of v k d at of_line =
       let (x, of_said, said) = paired_at (IsDecomposed w) p.decompositions xs k d says of_line in
       let below : v < length s.lines = within_here s.lines v k at in
-      record { x = x; said = said; at = get_before ns root v (node_of_line d x (children_of_node s v)) (made.node v k d x below at of_line of_said) }
+      let here = node_here p s xs v (omega (arith, below)) in
+      let is_line : option_and_then (slice_get p.decompositions) (slice_get s.lines v) ≡ Some d = ap (option_and_then (slice_get p.decompositions)) at ∙ of_line in
+      let is_said : option_and_then (slice_get xs) (slice_get s.lines v) ≡ Some x = ap (option_and_then (slice_get xs)) at ∙ of_said in
+      record { x = x; said = said; at = here ∙ (λ i. Some (node_of p (is_line i) (is_said i) (children_of_node s v))) }
 
   line_at : (k v : ℕ) → slice_get s.numbers k ≡ Some v → (d : Decomposition) × (slice_get p.decompositions k ≡ Some d)
   line_at k v at = member_at p.decompositions k (let lt : k < length s.numbers = within_here s.numbers k v at in omega (arith, lt, is.as_many_numbers))
 
   root_at : (v : ℕ) → v ≡ length s.lines → slice_get nodes v ≡ Some root
-  root_at v e = get_last ns root v (e ∙ sym made.as_many)
+  root_at v e =
+      let here = node_here p s xs v (omega (arith, e)) in
+      let behind : slice_get s.lines v ≡ None = slice_get_past s.lines v (omega (arith, e)) in
+      let of_root : children_of_node s v ≡ children_of_node s (root_node p) = ap (children_of_node s) (e ∙ is.as_many_lines) in
+      here ∙ (λ i. Some (node_of p (option_and_then (slice_get p.decompositions) (behind i)) (option_and_then (slice_get xs) (behind i)) (of_root i)))
 
   as_long : length nodes ≡ length s.lines + 1
-  as_long = one_longer ns root ∙ ap (λ c. c + 1) made.as_many
+  as_long = as_many_nodes p s xs
 
   -- the children of each node are those that the shape gives it
   same_children : (v : ℕ) → children_at nodes v ≡ children_of_node s v
@@ -136,8 +117,8 @@ module _ (w : World) (p : Plan) (s : Shape) (is : IsShape p s) (as' : List Groun
 
       none : length s.lines < v → children_at nodes v ≡ children_of_node s v
       none above =
-          let no_node : slice_get nodes v ≡ None = none_behind nodes v (omega (arith, above, as_long)) in
-          let no_list : slice_get s.children v ≡ None = none_behind s.children v (omega (arith, above, is.as_many_nodes, is.as_many_lines)) in
+          let no_node : slice_get nodes v ≡ None = slice_get_past nodes v (omega (arith, above, as_long)) in
+          let no_list : slice_get s.children v ≡ None = slice_get_past s.children v (omega (arith, above, is.as_many_nodes, is.as_many_lines)) in
           ap children_of no_node ∙ sym (ap items_in no_list)
 
   same_tree : shape_tree p s ≡ trees.tree_of tree
@@ -178,7 +159,7 @@ module _ (w : World) (p : Plan) (s : Shape) (is : IsShape p s) (as' : List Groun
       subst (λ o. MatchOption o ⊥ (IsNodeOf w tree d)) (sym line.at) (record {
         id = refl;
         line = refl;
-        number = line.x.task.0;
+        number = line.x.task;
         task = refl;
         says = line.said.says;
         method = sym line.said.named;
@@ -207,8 +188,9 @@ module _ (w : World) (p : Plan) (s : Shape) (is : IsShape p s) (as' : List Groun
           let one : a ≡ b = cc in
           omega (arith, lt, one)
 
-  is_tree : IsTreeOf w p tree
-  is_tree = record {
+  -- the tree of the plan
+  pub is_tree_of : IsTreeOf w p tree
+  is_tree_of = record {
     actions = acts;
     action_ids = refl;
     root = length s.lines;
@@ -223,52 +205,3 @@ module _ (w : World) (p : Plan) (s : Shape) (is : IsShape p s) (as' : List Groun
     reached_lines = λ v lt. subst (λ t. Reached t (Task v)) same_tree (is.reached_lines v (omega (arith, lt, is.as_many_lines)));
     reached_actions = subst (λ t. HasActions t (length p.actions)) same_tree is.reached_actions;
   }
-
-  -- the tree of the plan
-  pub assembled : (action_ids : List ℕ) (all : List Node) (order : List ℕ) → action_ids ≡ map (λ a. a.id) p.actions
-      → all ≡ ns ++ node_of_root p.root.line (children_of_node s (root_node p)) ∷ [] → order ≡ length s.lines ∷ s.numbers
-      → IsTreeOf w p (record { actions = as'; action_ids = action_ids; nodes = all; order = order })
-  assembled action_ids all order of_ids of_nodes of_order =
-      subst (IsTreeOf w p) (λ i. record { actions = as'; action_ids = sym of_ids i; nodes = sym of_nodes i; order = sym of_order i }) is_tree
-
--- the member behind the first of a list
-get_behind : {X : Type 0} (xs : List X) (y : X) (zs : List X) → slice_get (xs ++ y ∷ zs) (length xs) ≡ Some y
-get_behind [] y zs = refl
-get_behind (x ∷ xs) y zs = get_behind xs y zs
-
--- the children of a node are the next list, where as many lists were taken as there are nodes before it
-pub next_children : (s : Shape) (taken : List (Vec Child)) (list : Vec Child) (rest : List (Vec Child)) (last : List Item)
-    → s.children ≡ items_of (taken ++ list ∷ rest) ++ last ∷ [] → children_of_node s (length taken) ≡ map child_view list.items
-next_children s taken list rest last e =
-    let views : items_of (taken ++ list ∷ rest) ≡ items_of taken ++ items_of (list ∷ rest) = map-append (λ v. map child_view v.items) taken (list ∷ rest) in
-    let all : s.children ≡ items_of taken ++ map child_view list.items ∷ (items_of rest ++ last ∷ []) =
-    e ∙ ap (λ xs. xs ++ last ∷ []) views ∙ append_assoc (items_of taken) (items_of (list ∷ rest)) (last ∷ []) in
-    let long : length (items_of taken) ≡ length taken = length-map taken (λ v. map child_view v.items) in
-    let here = get_behind (items_of taken) (map child_view list.items) (items_of rest ++ last ∷ []) in
-    ap items_in (ap (λ xs. slice_get xs (length taken)) all ∙ ap (slice_get (items_of taken ++ map child_view list.items ∷ (items_of rest ++ last ∷ []))) (sym long) ∙ here)
-
--- the children of the node behind all lists but the last
-pub last_children : (s : Shape) (taken : List (Vec Child)) (last : Vec Child) → s.children ≡ items_of (taken ++ last ∷ []) → children_of_node s (length taken) ≡ map child_view last.items
-last_children s taken last e =
-    let views : items_of (taken ++ last ∷ []) ≡ items_of taken ++ map child_view last.items ∷ [] = map-append (λ v. map child_view v.items) taken (last ∷ []) in
-    let long : length (items_of taken) ≡ length taken = length-map taken (λ v. map child_view v.items) in
-    ap items_in (ap (λ xs. slice_get xs (length taken)) (e ∙ views) ∙ ap (slice_get (items_of taken ++ map child_view last.items ∷ [])) (sym long) ∙ get_behind (items_of taken) (map child_view last.items) [])
-
--- the member at a place within a list
-pub get_within : {X : Type 0} (xs : List X) (k : ℕ) (d : X) → k < length xs → slice_get xs k ≡ Some (get_or xs k d)
-get_within [] k d lt = absurd (omega (arith, lt))
-get_within (x ∷ xs) zero d lt = refl
-get_within (x ∷ xs) (suc k) d lt = get_within xs k d (omega (arith, lt))
-
--- a list of no members
-pub nothing_left : {X : Type 0} (xs : List X) → length xs ≡ 0 → xs ≡ []
-nothing_left [] e = refl
-nothing_left (x ∷ xs) e = absurd (omega (arith, e))
-
--- a member is written, and another read
-pub written_elsewhere : {X : Type 0} (xs : List X) (k j : ℕ) (x : X) → (j ≡ k → ⊥) → slice_get (slice_set xs k x) j ≡ slice_get xs j
-written_elsewhere [] k j x other = refl
-written_elsewhere (y ∷ xs) zero zero x other = absurd (other refl)
-written_elsewhere (y ∷ xs) zero (suc j) x other = refl
-written_elsewhere (y ∷ xs) (suc k) zero x other = refl
-written_elsewhere (y ∷ xs) (suc k) (suc j) x other = written_elsewhere xs k j x (λ e. other (ap suc e))

@@ -1,33 +1,34 @@
 -- The names of children, and the causes for which children are not as subtasks.
-use Rattle.std.proofs.Common.{◌≡◌, ℕ, zero, suc, ◌+◌, ◌<◌, ◌≤◌, ◌⊎◌, inl, inr, Bool, true, false, is_some, List, [], ◌∷◌, ◌++◌, map, length, slice_get, Option, Some, None, option_map, refl, ap, sym, subst, ◌∙◌, arith}
-use Rattle.std.specs.Prelude.{Contains, IsSome, option_and_then}
+use Rattle.std.proofs.Common.{◌≡◌, ℕ, zero, suc, ◌+◌, ◌<◌, ◌≤◌, Bool, true, false, List, [], ◌∷◌, ◌++◌, map, length, slice_get, Option, Some, None, option_map, refl, ap, sym, subst, ◌∙◌, arith}
+use Rattle.std.specs.Prelude.{Contains, option_and_then}
 use Rattle.std.specs.List.{AllZip}
 use Rattle.std.proofs.lemmas.List.{length-map}
 use Rattle.std.proofs.lemmas.List.Elements.{Contains-append_left, Contains-append_right}
 use Rattle.hv_world.specs.Values.{TaskName, compound, primitive}
-use Rattle.hv_world.specs.Bindings.{GroundAction}
 use Rattle.hv_world.specs.Worlds.{World, Method, task_names, action_names, task_named}
 use Rattle.hv_plan.specs.Values as text
 use Rattle.hv_plan.specs.Values.{Plan}
-use Rattle.hv_plan.specs.Shapes.{head, heads, Parent, line_parent, FormTree}
+use Rattle.hv_plan.specs.Shapes.{head, Parent, line_parent, FormTree}
 use Rattle.hv_plan.specs.Fits.{IsNamed, multiplicity, names_of, method_of}
 use Rattle.hv_plan.specs.Causes.{number}
 use Rattle.hv_plan.specs.LineFaults.{IsEarliest}
 use Rattle.hv_plan.specs.ChildFaults.{IsChildFault, ChildFaultIn, IsMethodCause, IsSaid, AreSizes, AreNumbered, said_name}
 use Rattle.hv_plan.specs.ShapeViews.{Shape, Stands, line_id, IsShape, children_of_node, items_in}
-use Rattle.hv_plan.specs.declared.fit.Decomposed.{Decomposed}
+use Rattle.hv_plan.specs.FitViews.{Decomposed}
 use Rattle.std.specs.Prelude.{get_or, Result, Ok, Err, IfOk}
 use Rattle.hv_plan.proofs.FitLemmas.{method_of_name, member_at}
 use Rattle.hv_world.specs.Worlds.{method_named}
 use Rattle.hv_plan.specs.Trees.{Item, Act, Task, Pre}
-use Rattle.hv_plan.specs.Forms.{every, both}
-use Rattle.hv_plan.specs.FitViews.{IsDecomposed}
+use Rattle.hv_plan.specs.Forms.{every}
+use Rattle.hv_plan.specs.FitViews.{decomposed_lines, IsDecomposed}
 use Rattle.hv_plan.specs.PlanTrees.{IsActionOf}
 use Rattle.hv_plan.specs.declared.subtasks.names.Said.{Said}
 use Rattle.hv_world.specs.Bindings.{ground_action_view}
 use Rattle.hv_world.specs.Names.{place_in}
 use Rattle.std.proofs.lemmas.Bool.{ltb-false}
-use Rattle.std.specs.Prelude.{nat_lt, if◌then◌else◌}
+use Rattle.std.specs.Prelude.{nat_lt, if◌then◌else◌, slice_index_or}
+use Rattle.hv_plan.specs.TreeViews.{child_view}
+use Rattle.hv_plan.specs.declared.tree.Child.{Child}
 use Rattle.hv_plan.specs.Tallies.{number_in}
 use Rattle.hv_plan.specs.Tallies.{HaveSameNames, IsNamesFault, count, names}
 use Rattle.hv_plan.specs.declared.cause.CauseKind.{CauseKind}
@@ -36,9 +37,8 @@ use Rattle.hv_plan.specs.declared.cause.Cause.{Cause}
 use Rattle.hv_plan.proofs.FitLemmas.{same_length, contains_first, contains_rest, place_within}
 use Rattle.hv_plan.proofs.EarliestLemmas.{earliest_at, earliest_at_none, earliest_of_lists}
 use Rattle.hv_plan.specs.LineFaults.{earlier}
-use Rattle.hv_plan.specs.LineViews.{decomposition_view}
-use Rattle.hv_plan.specs.declared.plan.DecompositionLine.{DecompositionLine}
-use Rattle.std.proofs.lemmas.List.{take_more, map-append}
+use Rattle.std.proofs.lemmas.List.{map-append}
+use Rattle.hv_plan.proofs.HeadLists.{taken_at}
 use Rattle.std.proofs.Common.{take}
 use Rattle.hv_plan.proofs.FormLaws.{names_one, contains_map}
 
@@ -206,12 +206,12 @@ module _ (w : World) (ts as' : ℕ) (sizes : AreSizes w ts as') where
         of_line : (k : ℕ) → slice_get s.lines v ≡ Some k → line_id p k ≡ Some i → ItsName i (Task v)
         of_line k place e =
             let (d, at, same) = mapped_at (λ d. d.id) p.decompositions k i e in
-            let (z, at', says) = paired_at (IsDecomposed w) p.decompositions x.lines.now k d said.lines at in
-            let (j, numbered) = known_number d.name (compound z.task.0) says.says.name in
+            let (z, at', says) = paired_at (IsDecomposed w) p.decompositions (decomposed_lines x.lines.now) k d said.lines at in
+            let (j, numbered) = known_number d.name (compound z.task) says.says.name in
             let own : slice_get x.places.now v ≡ Some k = ap (λ l. slice_get l v) said.places ∙ place in
             record {
-              name = compound z.task.0;
-              found = ap (option_and_then (λ k. option_map (λ d. compound d.task.0) (slice_get x.lines.now k))) own ∙ ap (option_map (λ d. compound d.task.0)) at';
+              name = compound z.task;
+              found = ap (option_and_then (λ k. option_map (λ d. compound d.task) (slice_get (decomposed_lines x.lines.now) k))) own ∙ ap (option_map (λ d. compound d.task)) at';
               named = record { line = head d; begins = Contains-append_right p.actions (map head p.decompositions) (head d) (contains_map head p.decompositions d (contains_at p.decompositions k d at)); id = same; name = says.says.name };
               number = j;
               numbered = numbered;
@@ -251,15 +251,15 @@ module _ (w : World) (ts as' : ℕ) (sizes : AreSizes w ts as') where
 
     -- the children of the decomposition line at a place
     module _ (form : FormTree p) (is : IsShape p s) (k v : ℕ) (d : text.Decomposition) (z : Decomposed) (ys : List Item) (at : slice_get p.decompositions k ≡ Some d)
-        (numbered_at : slice_get s.numbers k ≡ Some v) (below : slice_get s.children v ≡ Some ys) (z_at : slice_get x.lines.now k ≡ Some z) where
+        (numbered_at : slice_get s.numbers k ≡ Some v) (below : slice_get s.children v ≡ Some ys) (z_at : slice_get (decomposed_lines x.lines.now) k ≡ Some z) where
       pub cause_of_children : (l : ℕ) (o : Option Cause) → d.line ≡ l
-          → ((m : Method) (ns : List TaskName) → slice_get w.methods z.method.0 ≡ Some m → every (said_name x) ys ≡ Some ns → IsMethodCause ns (names_of m.network.subtasks) l o)
+          → ((m : Method) (ns : List TaskName) → slice_get w.methods z.method ≡ Some m → every (said_name x) ys ≡ Some ns → IsMethodCause ns (names_of m.network.subtasks) l o)
           → IsEarliest (ChildFaultIn w p (line_parent d ∷ [])) o
       cause_of_children l o line found =
-          let (z', z_at', says) = paired_at (IsDecomposed w) p.decompositions x.lines.now k d said.lines at in
+          let (z', z_at', says) = paired_at (IsDecomposed w) p.decompositions (decomposed_lines x.lines.now) k d said.lines at in
           let same : z' ≡ z = cc in
-          let named : method_named w d.method ≡ Some z.method.0 = subst (λ u. method_named w d.method ≡ Some u.method.0) same says.named in
-          let (m, at_number) = method_of_name w d.method z.method.0 named in
+          let named : method_named w d.method ≡ Some z.method = subst (λ u. method_named w d.method ≡ Some u.method) same says.named in
+          let (m, at_number) = method_of_name w d.method z.method named in
           let their = names_of_items d.children ys (children_stand_at p s is k v d ys at numbered_at below) in
           earliest_of_children w p form (line_parent d) m (ap (option_and_then (slice_get w.methods)) named ∙ at_number) their.names their.named l o line (found m their.names at_number their.found)
 
@@ -274,6 +274,19 @@ mapped_here f [] zero x e = cc
 mapped_here f [] (suc k) x e = cc
 mapped_here f (y ∷ xs) zero x e = (let same : y ≡ x = cc in ap (λ u. Some (f u)) same)
 mapped_here f (y ∷ xs) (suc k) x e = mapped_here f xs k x e
+
+-- a list that the code reads at a place of lists, with each member seen through f
+pub list_here : {X Y : Type 0} (f : X → Y) (xss : List (List X)) (k : ℕ) (xs : List X) → k < length (map (map f) xss) → xs ≡ get_or xss k [] → slice_get (map (map f) xss) k ≡ Some (map f xs)
+list_here f [] k xs lt e = absurd (omega arith)
+list_here f (ys ∷ xss) zero xs lt e = ap (λ zs. Some (map f zs)) (sym e)
+list_here f (ys ∷ xss) (suc k) xs lt e = list_here f xss k xs (omega arith) e
+
+-- the list at a place, where there may be none
+pub list_or_none : (xss : List (List Child)) (k : ℕ) → map child_view (slice_index_or xss k []) ≡ items_in (slice_get (map (map child_view) xss) k)
+list_or_none [] zero = refl
+list_or_none [] (suc k) = refl
+list_or_none (xs ∷ xss) zero = refl
+list_or_none (xs ∷ xss) (suc k) = list_or_none xss k
 
 pub within_here : {X : Type 0} (xs : List X) (k : ℕ) (x : X) → slice_get xs k ≡ Some x → k < length xs
 within_here [] zero x e = cc
@@ -292,30 +305,13 @@ if_ok_more P Q (Ok x) f h = f x h
 if_ok_more P Q (Err e) f h = tt
 
 -- the cause that is reported of one line more
-pub earliest_more : (w : World) (p : Plan) (ds : List DecompositionLine) (k : ℕ) → k < length ds → (c o : Option Cause)
-    → IsEarliest (ChildFaultIn w p (map line_parent (map decomposition_view (take k ds)))) c
-    → ((d : DecompositionLine) → d ≡ get_or ds k d → IsEarliest (ChildFaultIn w p (line_parent (decomposition_view d) ∷ [])) o)
-    → IsEarliest (ChildFaultIn w p (map line_parent (map decomposition_view (take (k + 1) ds)))) (earlier c o)
+pub earliest_more : (w : World) (p : Plan) (ds : List text.Decomposition) (k : ℕ) → k < length ds → (c o : Option Cause)
+    → IsEarliest (ChildFaultIn w p (map line_parent (take k ds))) c
+    → ((d : text.Decomposition) → slice_get ds k ≡ Some d → IsEarliest (ChildFaultIn w p (line_parent d ∷ [])) o)
+    → IsEarliest (ChildFaultIn w p (map line_parent (take (k + 1) ds))) (earlier c o)
 earliest_more w p ds k lt c o before more =
     let (d, at) = member_at ds k lt in
-    let is : d ≡ get_or ds k d = get_here ds k d at in
-    let own : take (k + 1) ds ≡ take k ds ++ d ∷ [] = take_more ds k d lt ∙ ap (λ z. take k ds ++ z ∷ []) (sym is) in
-    let views : map decomposition_view (take (k + 1) ds) ≡ map decomposition_view (take k ds) ++ decomposition_view d ∷ [] = ap (map decomposition_view) own ∙ map-append decomposition_view (take k ds) (d ∷ []) in
-    let lines : map line_parent (map decomposition_view (take (k + 1) ds)) ≡ map line_parent (map decomposition_view (take k ds)) ++ line_parent (decomposition_view d) ∷ [] =
-    ap (map line_parent) views ∙ map-append line_parent (map decomposition_view (take k ds)) (decomposition_view d ∷ []) in
+    let lines : map line_parent (take (k + 1) ds) ≡ map line_parent (take k ds) ++ line_parent d ∷ [] =
+    ap (map line_parent) (taken_at ds k d at) ∙ map-append line_parent (take k ds) (d ∷ []) in
     subst (λ qs. IsEarliest (ChildFaultIn w p qs) (earlier c o)) (sym lines)
-    (earliest_of_lists (IsChildFault w p) (λ q. q.line) (map line_parent (map decomposition_view (take k ds))) (line_parent (decomposition_view d) ∷ []) c o before (more d is))
-  where
-    get_here : {X : Type 0} (xs : List X) (k : ℕ) (x : X) → slice_get xs k ≡ Some x → x ≡ get_or xs k x
-    get_here [] zero x e = cc
-    get_here [] (suc k) x e = cc
-    get_here (y ∷ xs) zero x e = cc
-    get_here (y ∷ xs) (suc k) x e = get_here xs k x e
-
--- two reads at one place give lines of one number
-pub same_line : (ds : List DecompositionLine) (k : ℕ) (d e : DecompositionLine) → d ≡ get_or ds k d → e ≡ get_or ds k e → k < length ds → (decomposition_view d).line ≡ e.line
-same_line ds k d e is is' lt =
-    let one : slice_get ds k ≡ Some d = slice_get_here ds k d lt is in
-    let other : slice_get ds k ≡ Some e = slice_get_here ds k e lt is' in
-    let same : d ≡ e = cc in
-    ap (λ x. x.line) same
+    (earliest_of_lists (IsChildFault w p) (λ q. q.line) (map line_parent (take k ds)) (line_parent d ∷ []) c o before (more d at))

@@ -1,17 +1,21 @@
 -- Which of several causes is reported.
-use Rattle.std.proofs.Common.{◌≡◌, ℕ, ◌+◌, ◌<◌, ◌≤◌, ◌⊎◌, inl, inr, nat_eq, nat_lt, nat_le, Bool, true, false, ◌&&◌, ◌||◌, List, [], ◌∷◌, ◌++◌, map, Option, Some, None, refl, ap, sym, subst, ◌∙◌, arith, take, length, get_or, if◌then◌else◌}
+use Rattle.std.proofs.Common.{◌≡◌, ℕ, ◌+◌, ◌<◌, ◌≤◌, ◌⊎◌, inl, inr, nat_eq, nat_lt, nat_le, Bool, true, false, ◌&&◌, ◌||◌, List, [], ◌∷◌, ◌++◌, map, Option, Some, None, refl, ap, sym, subst, ◌∙◌, arith, take, slice_get, if◌then◌else◌}
 use Rattle.std.specs.Prelude.{Contains, Result, Ok, Err, MatchResult}
 use Rattle.std.specs.List.{AllZip}
-use Rattle.std.proofs.lemmas.List.{map-append, take_more}
+use Rattle.std.proofs.lemmas.List.{map-append}
 use Rattle.std.proofs.lemmas.List.Elements.{Contains-append_cases, Contains-append_left, Contains-append_right}
 use Rattle.std.proofs.lemmas.Bool.{ltb-true, ltb-false, leb-true, leb-false, eqb-true, eqb-false}
 use Rattle.hv_world.specs.Worlds.{World}
 use Rattle.hv_plan.specs.Causes.{number}
-use Rattle.hv_plan.specs.LineFaults.{Entry, IsAtFault, IsSmallest, ComesBefore, comes_before, earlier, IsEarliest, FaultIn}
-use Rattle.hv_plan.specs.FitViews.{kept, cause_at, AreFitted}
+use Rattle.hv_plan.specs.LineFaults.{Entry, line_entry, IsAtFault, IsSmallest, ComesBefore, comes_before, earlier, IsEarliest, FaultIn}
+use Rattle.hv_plan.specs.FitViews.{kept, cause_at, AreFitted, IsDecomposed}
 use Rattle.hv_plan.specs.declared.cause.CauseKind.{CauseKind}
 use Rattle.hv_plan.specs.declared.cause.Cause.{Cause}
-use Rattle.hv_plan.proofs.FitLemmas.{contains_cons, contains_first, less_or_more, less_or_same}
+use Rattle.hv_plan.specs.FitViews.{Decomposed, decomposed_view}
+use Rattle.hv_plan.specs.declared.fit.Decomposed as code
+use Rattle.hv_plan.specs.Values.{Decomposition}
+use Rattle.hv_plan.proofs.FitLemmas.{contains_cons, contains_first, decomposed_has_no_fault, less_or_more, less_or_same}
+use Rattle.hv_plan.proofs.HeadLists.{taken_at}
 
 -- what the test of two causes says
 module _ (m n a b : ℕ) where
@@ -158,19 +162,25 @@ module _ {D N : Type 0} (w : World) (entry : D → Entry) (Is : D → N → Type
       no_cause e = cc
 
   -- the step of a loop over lines
-  pub fitted_step : {L Y : Type 0} (view : Y → N) (seen : L → D) (lines : List L) (i : ℕ) (x : L) (items items' : List Y) (c c' : Option Cause) (r : Result Y CauseKind)
-      → i < length lines → x ≡ get_or lines i x → AreFitted w entry Is (map seen (take i lines)) (map view items) c
-      → MatchResult r (λ y. Is (seen x) (view y)) (IsSmallest w (entry (seen x))) → items' ≡ items ++ kept r
-      → c' ≡ earlier c (cause_at r (entry (seen x)).said.line) → AreFitted w entry Is (map seen (take (i + 1) lines)) (map view items') c'
-  fitted_step {L} {Y} view seen lines i x items items' c c' r lt is before fits more next =
-      let own : take (i + 1) lines ≡ take i lines ++ x ∷ [] = take_more lines i x lt ∙ ap (λ z. take i lines ++ z ∷ []) (sym is) in
-      let lines' : map seen (take (i + 1) lines) ≡ map seen (take i lines) ++ seen x ∷ [] = ap (map seen) own ∙ map-append seen (take i lines) (x ∷ []) in
-      let items'' : map view items' ≡ map view items ++ map view (kept r) = ap (map view) more ∙ map-append view items (kept r) in
-      let step = fitted_more view (map seen (take i lines)) (map view items) c (seen x) r before fits in
-      subst (λ z. AreFitted w entry Is (map seen (take (i + 1) lines)) (map view items') z) (sym next)
-      (subst (λ ns. AreFitted w entry Is (map seen (take (i + 1) lines)) ns (earlier c (cause_at r (entry (seen x)).said.line))) (sym items'')
-      (subst (λ ds. AreFitted w entry Is ds (map view items ++ map view (kept r)) (earlier c (cause_at r (entry (seen x)).said.line))) (sym lines') step))
+  pub fitted_step : {Y : Type 0} (view : Y → N) (ds : List D) (i : ℕ) (d : D) (items items' : List Y) (c c' : Option Cause) (r : Result Y CauseKind)
+      → slice_get ds i ≡ Some d → AreFitted w entry Is (take i ds) (map view items) c
+      → MatchResult r (λ y. Is d (view y)) (IsSmallest w (entry d)) → items' ≡ items ++ kept r
+      → c' ≡ earlier c (cause_at r (entry d).said.line) → AreFitted w entry Is (take (i + 1) ds) (map view items') c'
+  fitted_step view ds i d items items' c c' r there before fits more next =
+      let own : take (i + 1) ds ≡ take i ds ++ d ∷ [] = taken_at ds i d there in
+      let said : map view items' ≡ map view items ++ map view (kept r) = ap (map view) more ∙ map-append view items (kept r) in
+      let step = fitted_more view (take i ds) (map view items) c d r before fits in
+      subst (λ z. AreFitted w entry Is (take (i + 1) ds) (map view items') z) (sym next)
+      (subst (λ ns. AreFitted w entry Is (take (i + 1) ds) ns (earlier c (cause_at r (entry d).said.line))) (sym said)
+      (subst (λ xs. AreFitted w entry Is xs (map view items ++ map view (kept r)) (earlier c (cause_at r (entry d).said.line))) (sym own) step))
 
-pub map-same : {X : Type 0} (xs : List X) → map (λ x. x) xs ≡ xs
-map-same [] = refl
-map-same (x ∷ xs) = ap (λ ys. x ∷ ys) (map-same xs)
+-- the step of the loop over decomposition lines
+pub line_fitted : (w : World) (ds : List Decomposition) (i : ℕ) (d : Decomposition) (items items' : List Decomposed) (c c' : Option Cause) (r : Result code.Decomposed CauseKind)
+    → slice_get ds i ≡ Some d → AreFitted w line_entry (IsDecomposed w) (take i ds) items c → MatchResult r (λ x. IsDecomposed w d (decomposed_view x)) (IsSmallest w (line_entry d))
+    → items' ≡ items ++ map decomposed_view (kept r) → c' ≡ earlier c (cause_at r d.line) → AreFitted w line_entry (IsDecomposed w) (take (i + 1) ds) items' c'
+line_fitted w ds i d items items' c c' r there before fits more next =
+    let own : take (i + 1) ds ≡ take i ds ++ d ∷ [] = taken_at ds i d there in
+    let step = fitted_more w line_entry (IsDecomposed w) (λ e x says k f. decomposed_has_no_fault w e x says k f) decomposed_view (take i ds) items c d r before fits in
+    subst (λ z. AreFitted w line_entry (IsDecomposed w) (take (i + 1) ds) items' z) (sym next)
+    (subst (λ ns. AreFitted w line_entry (IsDecomposed w) (take (i + 1) ds) ns (earlier c (cause_at r d.line))) (sym more)
+    (subst (λ xs. AreFitted w line_entry (IsDecomposed w) xs (items ++ map decomposed_view (kept r)) (earlier c (cause_at r d.line))) (sym own) step))

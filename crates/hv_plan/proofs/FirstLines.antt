@@ -1,12 +1,7 @@
 -- The first of lines, and the lines of ids.
-use Rattle.std.proofs.Common.{◌≡◌, ◌≢◌, ◌+◌, ◌<◌, ◌≤◌, ◌⊎◌, inl, inr, ℕ, Bool, true, false, List, [], ◌∷◌, ◌++◌, Option, Some, None, cond, min, max, nat_eq, nat_lt, refl, sym, ap, ◌∙◌, subst, arith, length, take, get_or, Contains, slice_index, eqb-true, eq-eqb, ltb-true, ltb-false, true≢false}
-use Rattle.std.specs.Cmp.{nat_eq_equiv}
-use Rattle.std.specs.List.{list_any}
+use Rattle.std.proofs.Common.{◌≡◌, ◌≢◌, ◌+◌, ◌<◌, ◌≤◌, ◌⊎◌, inl, inr, ℕ, Bool, true, false, List, Option, Some, None, min, max, nat_eq, nat_lt, refl, sym, ap, ◌∙◌, subst, arith, slice_index, eqb-true, eq-eqb, ltb-true, ltb-false, true≢false}
 use Rattle.std.specs.Map.{update}
-use Rattle.std.proofs.lemmas.List.{take_more, length-take-le, get_or-take}
 use Rattle.std.proofs.lemmas.Map.{update_here, update_apart}
-use Rattle.std.proofs.lemmas.Map.Views.{list_any-from_Contains, Contains-from_any}
-use Rattle.hv_world.specs.Lists.{Once}
 use Rattle.hv_plan.specs.Shaping.{first_of, again_of, earlier, line_unless, IsFirst, IsRepeat, IsMissed}
 
 pub either : (i j : ℕ) → (i ≡ j) ⊎ (i ≢ j)

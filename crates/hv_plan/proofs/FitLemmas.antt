@@ -19,7 +19,7 @@ use Rattle.hv_plan.specs.Forms.{every, both}
 use Rattle.hv_plan.specs.Shapes.{head}
 use Rattle.hv_world.specs.Bindings.{object_number}
 use Rattle.hv_plan.specs.FitViews.{IsDecomposed}
-use Rattle.hv_plan.specs.declared.fit.Decomposed.{Decomposed}
+use Rattle.hv_plan.specs.FitViews.{Decomposed}
 use Rattle.hv_plan.specs.Fits.{parameters_of, AreObjects, AreOf, IsForTask, Says, method_of}
 use Rattle.hv_plan.specs.Causes.{number}
 use Rattle.hv_plan.specs.LineFaults.{Entry, action_entry, line_entry, IsAtFault, IsSmallest, IsObjectFault, count, type, IsArgumentFault, unknown, objects}
@@ -372,8 +372,8 @@ not_for_task w d t v os named method found typed not =
 
 pub decomposed_has_no_fault : (w : World) (d : text.Decomposition) (x : Decomposed) → IsDecomposed w d x → (k : CauseKind) → IsAtFault w (line_entry d) k → ⊥
 decomposed_has_no_fault w d x says =
-    let (m, numbered) = method_of_name w d.method x.method.0 says.named in
-    line_has_no_fault w d x.task.0 x.method.0 m (map object_number x.objects.items) says.says says.named numbered (rw numbered at says.is_for)
+    let (m, numbered) = method_of_name w d.method x.method says.named in
+    line_has_no_fault w d x.task x.method m x.objects says.says says.named numbered (rw numbered at says.is_for)
 
 -- an object that is not of its type, where objects and types are the code's
 pub one_not_of_type : (w : World) (xs : List ObjectId) (ts : List TypeId) (i : ℕ) (d : ObjectId) (e : TypeId) → i < length xs → length xs ≡ length ts

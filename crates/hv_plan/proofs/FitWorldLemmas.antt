@@ -1,11 +1,11 @@
 -- A plan fits a world where each line says what the world has and no children are at fault.
-use Rattle.std.proofs.Common.{◌≡◌, ℕ, Bool, true, false, nat_eq, inl, inr, List, [], ◌∷◌, map, length, Option, Some, None, refl, ap, subst, ◌∙◌}
+use Rattle.std.proofs.Common.{◌≡◌, ℕ, Bool, true, false, nat_eq, inl, inr, List, [], ◌∷◌, map, length, Some, None, refl, ap, subst, ◌∙◌}
 use Rattle.std.specs.Prelude.{Contains, All, get_or, option_and_then, slice_get}
 use Rattle.std.specs.List.{AllZip}
 use Rattle.std.proofs.lemmas.Bool.{eqb-true, eqb-false}
 use Rattle.std.proofs.lemmas.List.Elements.{Contains-get_or, Contains-append_cases}
 use Rattle.hv_world.specs.Values.{TaskName, compound, primitive}
-use Rattle.hv_world.specs.Bindings.{GroundAction, object_number}
+use Rattle.hv_world.specs.Bindings.{GroundAction}
 use Rattle.hv_world.specs.Worlds.{World, Method, task_named}
 use Rattle.hv_plan.specs.Values as text
 use Rattle.hv_plan.specs.Values.{Plan}
@@ -16,7 +16,7 @@ use Rattle.hv_plan.specs.LineFaults.{IsEarliest}
 use Rattle.hv_plan.specs.ChildFaults.{ChildFaultIn}
 use Rattle.hv_plan.specs.PlanTrees.{IsActionOf}
 use Rattle.hv_plan.specs.declared.cause.CauseKind.TheVariants as kinds
-use Rattle.hv_plan.specs.declared.fit.Decomposed.{Decomposed}
+use Rattle.hv_plan.specs.FitViews.{Decomposed}
 use Rattle.hv_plan.proofs.FitLemmas.{contains_cons, contains_first, contains_rest, partner, method_of_name}
 use Rattle.hv_plan.proofs.FormLaws.{contains_of_map, contains_flat}
 
@@ -42,12 +42,12 @@ module _ (w : World) (p : Plan) (form : FormTree p) (gs : List GroundAction) (xs
   line_fits : (d : text.Decomposition) → Contains p.decompositions d → FitsDecomposition w d
   line_fits d x =
       let (z, says) = partner (IsDecomposed w) p.decompositions xs d lines x in
-      let (m, numbered) = method_of_name w d.method z.method.0 says.named in
+      let (m, numbered) = method_of_name w d.method z.method says.named in
       record {
-        task = z.task.0;
-        objects = map object_number z.objects.items;
+        task = z.task;
+        objects = z.objects;
         says = says.says;
-        number = z.method.0;
+        number = z.method;
         method = m;
         named = says.named;
         numbered = numbered;

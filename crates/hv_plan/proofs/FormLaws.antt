@@ -1,20 +1,19 @@
 -- Which lines qualify for which causes, and that a plan that forms a tree and fits a world has none.
-use Rattle.std.proofs.Common.{◌≡◌, ℕ, zero, suc, ◌+◌, ◌<◌, ◌≤◌, ◌⊎◌, inl, inr, List, [], ◌∷◌, ◌++◌, map, length, Option, Some, None, refl, ap, sym, subst, ◌∙◌, arith}
+use Rattle.std.proofs.Common.{◌≡◌, ℕ, suc, ◌<◌, ◌≤◌, ◌⊎◌, inl, inr, List, [], ◌∷◌, ◌++◌, map, length, Some, None, refl, ap, sym, subst, ◌∙◌, arith}
 use Rattle.std.specs.Prelude.{Contains, ◌≢◌, flat_map, get_or}
 use Rattle.std.specs.List.{AllZip}
 use Rattle.std.proofs.lemmas.List.Concat.{flat_map-cons}
 use Rattle.std.proofs.lemmas.List.Kept.{AllPairs-cons}
 use Rattle.std.proofs.lemmas.List.Elements.{All-contains, Contains-get_or, Contains-append_cases, Contains-append_left, Contains-append_right}
-use Rattle.hv_world.specs.Values.{TaskName, compound, primitive}
-use Rattle.hv_world.specs.Names.{place_in}
+use Rattle.hv_world.specs.Values.{TaskName}
 use Rattle.hv_world.specs.Lists.{Once}
-use Rattle.hv_world.specs.Worlds.{World, Method, task_named, method_named}
+use Rattle.hv_world.specs.Worlds.{World, task_named, method_named}
 use Rattle.hv_plan.specs.Values as text
 use Rattle.hv_plan.specs.Values.{Plan}
-use Rattle.hv_plan.specs.Shapes.{head, heads, ids, Parent, line_parent, root_parent, parents, all_children, FormTree}
-use Rattle.hv_plan.specs.Fits.{parameters_of, AreObjects, AreOf, IsForTask, Says, FitsAction, FitsDecomposition, FitsSubtasks, FitWorld, IsNamed, multiplicity, names_of, method_of}
+use Rattle.hv_plan.specs.Shapes.{head, heads, parents, FormTree}
+use Rattle.hv_plan.specs.Fits.{parameters_of, AreObjects, FitsAction, FitsDecomposition, FitsSubtasks, FitWorld, IsNamed, multiplicity, names_of, method_of}
 use Rattle.hv_plan.specs.Causes.{number, Qualifies, repeated_id, unknown_child, child_before, child_twice, unreached, unknown_task, unknown_method, unknown_object, argument_count, argument_type, not_primitive, not_abstract, other_task, child_count, child_names, IsCause}
-use Rattle.hv_plan.specs.LineFaults.{Entry, action_entry, line_entry, entries, IsAtFault, IsEarliest, ComesBefore, FaultIn}
+use Rattle.hv_plan.specs.LineFaults.{Entry, action_entry, line_entry, entries, IsAtFault, IsEarliest, FaultIn}
 use Rattle.hv_plan.specs.declared.cause.CauseKind.{CauseKind}
 use Rattle.hv_plan.specs.declared.cause.CauseKind.TheVariants as kinds
 use Rattle.hv_plan.specs.declared.cause.Cause.{Cause}

@@ -1,8 +1,8 @@
 -- Lists over the lines of a plan, and the steps of loops that make them.
-use Rattle.std.proofs.Common.{◌≡◌, ◌+◌, ◌<◌, ℕ, List, [], ◌∷◌, ◌++◌, map, refl, sym, ap, ◌∙◌, arith, length, drop, get_or, slice_index}
-use Rattle.std.proofs.lemmas.List.{map-append, append_assoc, drop_more}
+use Rattle.std.proofs.Common.{◌≡◌, ◌+◌, ◌<◌, ℕ, zero, suc, List, [], ◌∷◌, ◌++◌, map, refl, sym, ap, ◌∙◌, arith, length, take, drop, get_or, slice_get, slice_index, Some}
+use Rattle.std.proofs.lemmas.List.{map-append, append_assoc, drop_more, take_more}
 use Rattle.hv_plan.specs.Values.{Action, Decomposition, Plan}
-use Rattle.hv_plan.specs.Shapes.{head, heads, ids}
+use Rattle.hv_plan.specs.Shapes.{head, ids}
 use Rattle.hv_plan.specs.Shaping.{lines_of_heads}
 
 -- the ids of actions, and those of decomposition lines behind them; and so with their numbers
@@ -41,3 +41,24 @@ append_next f g cons xs i x old new all lt is appended so_far =
     ap (λ ys. ys ++ f (drop (i + 1) xs)) appended ∙ append_assoc old (g x) (f (drop (i + 1) xs))
     ∙ ap (λ ys. old ++ ys) (sym (cons x (drop (i + 1) xs)))
     ∙ ap (λ ys. old ++ f ys) (sym (drop_more xs i x lt ∙ ap (λ y. y ∷ drop (i + 1) xs) (sym is))) ∙ so_far
+
+-- what stands at a place, by an index
+stands_at : {X : Type 0} (xs : List X) (i : ℕ) (x : X) → slice_get xs i ≡ Some x → (i < length xs) × (x ≡ get_or xs i x)
+stands_at [] zero x e = cc
+stands_at [] (suc i) x e = cc
+stands_at (y ∷ xs) zero x e = let same : y ≡ x = cc in (omega arith, sym same)
+stands_at (y ∷ xs) (suc i) x e = let (lt, is) = stands_at xs i x e in (omega arith, is)
+
+-- the list up to behind a place
+pub taken_at : {X : Type 0} (xs : List X) (i : ℕ) (x : X) → slice_get xs i ≡ Some x → take (i + 1) xs ≡ take i xs ++ x ∷ []
+taken_at xs i x there =
+    let (lt, is) = stands_at xs i x there in
+    take_more xs i x lt ∙ ap (λ z. take i xs ++ z ∷ []) (sym is)
+
+-- the step of a loop over places that appends a list for each
+pub append_at : {X Y : Type 0} (f : List X → List Y) (g : X → List Y) → ((x : X) (xs : List X) → f (x ∷ xs) ≡ g x ++ f xs)
+    → (xs : List X) (i : ℕ) (x : X) (old new all : List Y) → slice_get xs i ≡ Some x → new ≡ old ++ g x
+    → old ++ f (drop i xs) ≡ all → new ++ f (drop (i + 1) xs) ≡ all
+append_at f g cons xs i x old new all there appended so_far =
+    let (lt, is) = stands_at xs i x there in
+    append_next f g cons xs i x old new all lt is appended so_far

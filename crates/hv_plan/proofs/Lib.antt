@@ -1,4 +1,6 @@
 pub mod Lemmas
+pub mod ListLemmas
+pub mod LineLists
 pub mod SpellingLemmas
 pub mod LineTexts
 pub mod FormTexts

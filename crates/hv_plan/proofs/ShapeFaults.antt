@@ -1,6 +1,6 @@
 -- The causes for which lines form no tree, where they are found.
-use Rattle.std.proofs.Common.{◌≡◌, ◌≢◌, ◌+◌, ◌-◌, ◌==◌, ◌<◌, ◌≤◌, ◌⊎◌, inl, inr, ℕ, zero, suc, Bool, true, false, List, [], ◌∷◌, ◌++◌, Option, Some, None, cond, if◌then◌else◌, max, map, nat_eq, nat_lt, slice_get, refl, sym, ap, ◌∙◌, subst, arith, length, get_or, Contains, slice_index, slice_index_or, length-append, true≢false}
-use Rattle.std.specs.List.{flat_map, AllPairs}
+use Rattle.std.proofs.Common.{◌≡◌, ◌≢◌, ◌+◌, ◌-◌, ◌==◌, ◌<◌, ◌≤◌, ◌⊎◌, inl, inr, ℕ, zero, suc, Bool, true, false, List, [], ◌∷◌, ◌++◌, Option, Some, None, if◌then◌else◌, max, map, slice_get, refl, sym, ap, ◌∙◌, subst, arith, length, get_or, Contains, slice_index, length-append, true≢false}
+use Rattle.std.specs.List.{flat_map}
 use Rattle.std.proofs.Math.ListN.{get_or-append}
 use Rattle.std.proofs.lemmas.List.{length-map, get_or-map, get_or-append_right}
 use Rattle.std.proofs.lemmas.List.Elements.{Contains-append_right, Contains-get_or}
@@ -9,10 +9,9 @@ use Rattle.hv_world.specs.Lists.{Once}
 use Rattle.hv_world.specs.Worlds.{World}
 use Rattle.hv_plan.specs.Values.{Action, Decomposition, Plan}
 use Rattle.hv_plan.specs.Shapes.{heads, ids, Parent, line_parent, parents, all_children, line_numbers, IsReached, IsInTextOrder}
-use Rattle.hv_plan.specs.Causes.{number, Qualifies, repeated_id, unknown_child, child_before, child_twice, unreached, IsCause, IsTreeFault}
+use Rattle.hv_plan.specs.Causes.{number, Qualifies, repeated_id, unknown_child, child_before, child_twice, unreached}
 use Rattle.hv_plan.specs.Shaping.{IsFirst, IsRepeat, IsMissed, is_known, is_marked, lines_of_heads, child_lines, lines_of_children, place_of, places_of_lines, kids, IsWalk}
 use Rattle.hv_plan.specs.ShapeCauses.{NoneBelow, IsFirstFor, IsFormFault}
-use Rattle.hv_plan.specs.declared.cause.Cause.{Cause}
 use Rattle.hv_plan.specs.declared.cause.CauseKind.{CauseKind}
 use Rattle.hv_plan.specs.declared.cause.CauseKind.TheVariants as kinds
 use Rattle.hv_plan.specs.declared.cause.TreeFault.TheVariants as faults

@@ -1,5 +1,5 @@
 -- The nodes of a plan whose lines were all met have the plan's shape.
-use Rattle.std.proofs.Common.{◌≡◌, ◌≢◌, ◌+◌, ◌-◌, ◌<◌, ◌≤◌, ◌⊎◌, ◌↔◌, inl, inr, ℕ, zero, suc, Bool, true, false, List, [], ◌∷◌, ◌++◌, Option, Some, None, cond, map, nat_lt, nat_eq, slice_get, refl, sym, ap, ◌∙◌, subst, arith, length, get_or, Contains, slice_index, slice_index_or, length-append, ltb-true, ltb-false, true≢false}
+use Rattle.std.proofs.Common.{◌≡◌, ◌+◌, ◌-◌, ◌<◌, ◌≤◌, ◌⊎◌, ◌↔◌, inl, inr, ℕ, zero, suc, Bool, true, false, List, [], ◌∷◌, ◌++◌, Option, Some, None, cond, map, nat_lt, nat_eq, slice_get, refl, sym, ap, ◌∙◌, subst, arith, length, Contains, slice_index, slice_index_or, length-append, ltb-true, ltb-false}
 use Rattle.std.specs.List.{AllZip, list_any}
 use Rattle.std.specs.Option.{option_and_then}
 use Rattle.std.specs.Cmp.{nat_eq_equiv}
@@ -8,18 +8,17 @@ use Rattle.std.proofs.Math.Seq.{get_or-append_seam}
 use Rattle.std.proofs.lemmas.List.{length-map, get_or-map}
 use Rattle.std.proofs.lemmas.Map.Views.{list_any-from_Contains}
 use Rattle.std.proofs.lemmas.Map.Steps.{le-length_from_below}
-use Rattle.std.proofs.lemmas.Option.{slice_get-get_or, get_or_from_slice_get, slice_get_within, same_Some, slice_get_past}
+use Rattle.std.proofs.lemmas.Option.{slice_get-get_or, get_or_from_slice_get, slice_get_within, slice_get_past}
 use Rattle.hv_world.specs.Lists.{Once}
 use Rattle.hv_plan.specs.Values.{Decomposition, Plan}
 use Rattle.hv_plan.specs.Shapes.{ids, all_children, IsReached, FormTree}
-use Rattle.hv_plan.specs.Trees.{Item, Act, Task, Pre, Mem, Tree, AtOrBelow, itself, its_pre, its_child, Reached, IsSubtask, IsTree}
+use Rattle.hv_plan.specs.Trees.{Item, Act, Task, Pre, Mem, AtOrBelow, itself, its_pre, its_child, Reached, IsSubtask, IsTree}
 use Rattle.hv_plan.specs.Shaping.{place_of, places_of_lines, kids, is_marked, IsWalk, Comes, of_root, of_one, IsNumbering, item, items_at, children_by_number}
-use Rattle.hv_plan.specs.ShapeViews.{Shape, IsShape, items_in, children_of_node, root_node, shape_tree, line_id, Stands}
+use Rattle.hv_plan.specs.ShapeViews.{Shape, IsShape, items_in, children_of_node, shape_tree, line_id, Stands}
 use Rattle.hv_plan.proofs.FirstLines.{either_side}
-use Rattle.hv_plan.proofs.HeadLists.{action_ids}
-use Rattle.hv_plan.proofs.ShapeWalks.{stands_at, contained_at, same_place, met_within}
-use Rattle.hv_plan.proofs.ShapePlaces.{place_within, id_at_place, place_is}
-use Rattle.hv_plan.proofs.ShapeTrees.{mapped_to, member_from, member_of, all_zip_map, all_zip_at, once_apart, once_right, flat, among_flat, one_line, ids_long, action_at, line_at, line_has, KidOf, RootKid, list_of_line, decomposition_at, kid_of, kids_of, root_kid, root_child, line_child, met_reached}
+use Rattle.hv_plan.proofs.ShapeWalks.{stands_at, contained_at, same_place}
+use Rattle.hv_plan.proofs.ShapePlaces.{place_within, id_at_place}
+use Rattle.hv_plan.proofs.ShapeTrees.{mapped_to, member_of, all_zip_map, all_zip_at, once_apart, once_right, flat, among_flat, one_line, ids_long, action_at, line_at, list_of_line, decomposition_at, kid_of, root_kid, root_child, line_child, met_reached}
 
 -- kinds of items
 pub act_not_task : (k v : ℕ) → Act k ≡ Task v → ⊥

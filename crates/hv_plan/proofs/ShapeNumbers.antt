@@ -1,9 +1,8 @@
 -- The numbers that a walk gives from its end on, and what has them.
-use Rattle.std.proofs.Common.{◌≡◌, ◌≢◌, ◌+◌, ◌-◌, ◌<◌, ◌≤◌, ◌⊎◌, inl, inr, ℕ, Bool, true, false, List, [], ◌∷◌, ◌++◌, map, refl, sym, ap, ◌∙◌, subst, arith, length, take, drop, set, get_or, Contains, slice_index, slice_index_or, length-set, get_or-set_same, get_or-set_other, true≢false}
-use Rattle.std.proofs.lemmas.List.{drop_more, append_assoc}
+use Rattle.std.proofs.Common.{◌≡◌, ◌≢◌, ◌+◌, ◌<◌, ◌≤◌, ◌⊎◌, inl, inr, ℕ, List, [], ◌∷◌, ◌++◌, sym, ap, ◌∙◌, arith, length, set, slice_index, length-set, get_or-set_same, get_or-set_other}
 use Rattle.hv_world.specs.Lists.{Once}
 use Rattle.hv_plan.specs.Shaping.{IsNumbering}
-use Rattle.hv_plan.proofs.FirstLines.{either, either_side, below_next}
+use Rattle.hv_plan.proofs.FirstLines.{either_side}
 use Rattle.hv_plan.proofs.ShapeWalks.{push_front, push_last, length_pushed, below_pushed, same_place}
 
 no_place : (k : ℕ) → k < 0 → ⊥

@@ -1,11 +1,10 @@
 -- The places of ids.
-use Rattle.std.proofs.Common.{◌≡◌, ◌≢◌, ◌+◌, ◌<◌, ◌≤◌, ◌⊎◌, inl, inr, ℕ, Bool, true, false, List, [], ◌∷◌, ◌++◌, Option, Some, None, cond, nat_eq, nat_lt, position, refl, sym, ap, ◌∙◌, subst, arith, length, take, get_or, Contains, slice_index, eqb-true, eq-eqb, ltb-false, not, suc, true≢false}
+use Rattle.std.proofs.Common.{◌≡◌, ◌+◌, ◌<◌, ◌≤◌, ◌⊎◌, inl, inr, ℕ, Bool, true, false, List, [], ◌∷◌, ◌++◌, Some, None, cond, nat_eq, nat_lt, position, refl, sym, ap, ◌∙◌, subst, arith, length, take, get_or, Contains, slice_index, eqb-true, eq-eqb, ltb-false, not, suc, true≢false}
 use Rattle.std.specs.Cmp.{nat_eq_equiv}
 use Rattle.std.specs.List.{list_any, position_or_len}
 use Rattle.std.proofs.lemmas.List.{take_more, length-take-le, get_or-take}
 use Rattle.std.proofs.lemmas.List.Sums.{passes_at_first, fails_before_first, position_or_len_is}
 use Rattle.std.proofs.lemmas.Map.Views.{list_any-from_Contains, Contains-from_any}
-use Rattle.std.proofs.lemmas.Grind.{get_or_default_zero}
 use Rattle.indexmap.specs.IndexSet.{insert_key}
 use Rattle.hv_world.specs.Lists.{Once}
 use Rattle.hv_plan.specs.Shaping.{place_of, is_known}

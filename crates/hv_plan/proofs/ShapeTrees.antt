@@ -1,26 +1,20 @@
 -- The shape that a walk and its numbers give is the plan's.
-use Rattle.std.proofs.Common.{◌≡◌, ◌≢◌, ◌+◌, ◌-◌, ◌<◌, ◌≤◌, ◌⊎◌, inl, inr, ℕ, zero, suc, Bool, true, false, List, [], ◌∷◌, ◌++◌, Option, Some, None, option_map, cond, map, nat_lt, nat_eq, slice_get, refl, sym, ap, ◌∙◌, subst, arith, length, get_or, Contains, slice_index, slice_index_or, length-append, ltb-true, ltb-false, eq-eqb, true≢false}
-use Rattle.std.specs.List.{AllZip, flat_map, list_any}
-use Rattle.std.specs.Option.{option_and_then}
-use Rattle.std.specs.Cmp.{nat_eq_equiv}
+use Rattle.std.proofs.Common.{◌≡◌, ◌+◌, ◌-◌, ◌<◌, ◌≤◌, ◌⊎◌, inl, inr, ℕ, zero, suc, Bool, true, false, List, [], ◌∷◌, ◌++◌, Option, Some, None, option_map, cond, map, nat_lt, slice_get, refl, sym, ap, ◌∙◌, subst, arith, length, get_or, Contains, slice_index, slice_index_or, length-append, ltb-true, ltb-false}
+use Rattle.std.specs.List.{AllZip, flat_map}
 use Rattle.std.proofs.Math.ListN.{get_or-append, get_or-eq_default}
-use Rattle.std.proofs.Math.Seq.{get_or-append_seam}
-use Rattle.std.proofs.lemmas.Grind.{get_or_default_zero}
-use Rattle.std.proofs.lemmas.List.{length-map, get_or-map, get_or-append_right, map-append}
-use Rattle.std.proofs.lemmas.List.Elements.{Contains-append_left, Contains-append_right, Contains-append_cases}
-use Rattle.std.proofs.lemmas.Map.Views.{list_any-from_Contains}
-use Rattle.std.proofs.lemmas.Map.Steps.{le-length_from_below}
+use Rattle.std.proofs.lemmas.List.{length-map, get_or-map, get_or-append_right}
+use Rattle.std.proofs.lemmas.List.Elements.{Contains-append_left, Contains-append_right}
 use Rattle.std.proofs.lemmas.Option.{slice_get-map, slice_get-get_or, get_or_from_slice_get, slice_get_within, same_Some}
 use Rattle.hv_world.specs.Lists.{Once}
 use Rattle.hv_plan.specs.Values.{Action, Decomposition, Plan}
 use Rattle.hv_plan.specs.Shapes.{head, heads, ids, parents, line_parent, all_children, IsReached, FormTree}
 use Rattle.hv_plan.specs.Shapes as form
-use Rattle.hv_plan.specs.Trees.{Item, Act, Task, Pre, Mem, Tree, AtOrBelow, itself, its_pre, its_child, Reached, IsSubtask, IsTree}
-use Rattle.hv_plan.specs.Shaping.{place_of, places_of_lines, kids, is_marked, IsWalk, Comes, of_root, of_one, IsNumbering, item, items_at, children_by_number}
-use Rattle.hv_plan.specs.ShapeViews.{Shape, IsShape, items_in, children_of_node, root_node, shape_tree, line_id, Stands}
+use Rattle.hv_plan.specs.Trees.{Item, Mem}
+use Rattle.hv_plan.specs.Shaping.{place_of, places_of_lines, kids, IsWalk, Comes, of_root, of_one}
+use Rattle.hv_plan.specs.ShapeViews.{line_id}
 use Rattle.hv_plan.proofs.HeadLists.{action_ids, decomposition_ids, ids_are}
-use Rattle.hv_plan.proofs.FirstLines.{either, either_side}
-use Rattle.hv_plan.proofs.ShapeWalks.{stands_at, contained_at, same_place, met_within}
+use Rattle.hv_plan.proofs.FirstLines.{either_side}
+use Rattle.hv_plan.proofs.ShapeWalks.{stands_at, contained_at}
 use Rattle.hv_plan.proofs.ShapePlaces.{place_within, id_at_place, place_is}
 
 -- what a mapped list contains comes from the list

@@ -1,8 +1,8 @@
 -- How often numbers and names stand in lists.
-use Rattle.std.proofs.Common.{◌≡◌, ℕ, zero, suc, ◌+◌, ◌<◌, ◌≤◌, ◌⊎◌, inl, inr, nat_eq, nat_lt, Bool, true, false, cond, List, [], ◌∷◌, map, length, take, get_or, Option, Some, None, option_map, refl, ap, sym, subst, ◌∙◌, arith, if◌then◌else◌, eq-eqb}
-use Rattle.std.specs.Prelude.{Contains, All, MatchBool, count_by, IsSome}
+use Rattle.std.proofs.Common.{◌≡◌, ℕ, zero, suc, ◌+◌, ◌<◌, ◌≤◌, inl, inr, nat_eq, nat_lt, Bool, true, false, cond, List, [], ◌∷◌, length, take, get_or, Option, Some, None, refl, ap, sym, subst, ◌∙◌, arith, if◌then◌else◌, eq-eqb}
+use Rattle.std.specs.Prelude.{Contains, All, MatchBool, count_by}
 use Rattle.std.specs.List.{AllZip}
-use Rattle.std.proofs.lemmas.Bool.{ltb-true, ltb-false, eqb-true}
+use Rattle.std.proofs.lemmas.Bool.{ltb-true, eqb-true}
 use Rattle.std.proofs.lemmas.Bool.Decides.{nat_tests}
 use Rattle.std.proofs.lemmas.List.Sums.{sum_by-cons, sum_by-take-le, count_by_more_yes}
 use Rattle.std.proofs.lemmas.List.Elements.{All-contains, All-cons, All-nil}
@@ -11,7 +11,7 @@ use Rattle.hv_world.specs.Alike.{same_name}
 use Rattle.hv_plan.specs.Forms.{every}
 use Rattle.hv_plan.specs.Fits.{multiplicity}
 use Rattle.hv_plan.specs.Tallies.{times, number_in}
-use Rattle.hv_plan.proofs.FitLemmas.{contains_cons, contains_first, contains_rest, partner, every_some, every_none}
+use Rattle.hv_plan.proofs.FitLemmas.{contains_cons, contains_first, contains_rest, partner, every_none}
 
 -- a number at a place stands more often in all than before the place
 pub times_at : (n : ℕ) (xs : List ℕ) (i d : ℕ) → i < length xs → get_or xs i d ≡ n → times n (take i xs) < times n xs

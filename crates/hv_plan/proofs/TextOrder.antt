@@ -1,5 +1,5 @@
 -- The lines of a plan that is read from a text stand in the order of the text.
-use Rattle.std.proofs.Common.{◌≡◌, ◌≢◌, ◌+◌, ◌<◌, ◌≤◌, ◌⊎◌, inl, inr, ℕ, zero, suc, Bool, true, false, List, [], ◌∷◌, ◌++◌, if◌then◌else◌, map, refl, sym, ap, ◌∙◌, subst, arith, length, get_or, slice_index}
+use Rattle.std.proofs.Common.{◌≡◌, ◌≢◌, ◌+◌, ◌<◌, ◌≤◌, ℕ, zero, suc, Bool, true, false, List, [], ◌∷◌, ◌++◌, if◌then◌else◌, map, refl, sym, ap, ◌∙◌, subst, arith, length, get_or, slice_index}
 use Rattle.std.specs.Prelude.{Result, Ok, Err, IfOk}
 use Rattle.std.specs.List.Sorted.{IsStrictlyIncreasing}
 use Rattle.std.proofs.lemmas.List.{append_assoc}
@@ -9,7 +9,7 @@ use Rattle.hv_plan.specs.Values.{Action, Decomposition, Root, Plan}
 use Rattle.hv_plan.specs.Lines.{NumberedLine, numbered, lines, is_start, is_end, behind_start, before_end, between}
 use Rattle.hv_plan.specs.Forms.{Form, blank, action, decomposition, root}
 use Rattle.hv_plan.specs.Spellings.{SpellsForm, no_words, an_action, a_decomposition, a_root, Each, no_more, one_more, Says, IsPlan, actions_among, decompositions_among, roots_among}
-use Rattle.hv_plan.specs.Shapes.{head, heads, line_numbers, IsInTextOrder}
+use Rattle.hv_plan.specs.Shapes.{line_numbers, IsInTextOrder}
 use Rattle.hv_plan.proofs.HeadLists.{lines_are}
 
 -- lines with rising numbers, from n on; and numbers that rise so

@@ -1,5 +1,5 @@
 -- A plan whose lines fit a world, each by itself and with its children.
-use Rattle.std.proofs.Common.{◌≡◌, ℕ, zero, suc, ◌+◌, ◌<◌, ◌≤◌, ◌⊎◌, inl, inr, nat_eq, Bool, true, false, List, [], ◌∷◌, map, Option, Some, None, refl, ap, sym, subst, ◌∙◌, arith}
+use Rattle.std.proofs.Common.{◌≡◌, ℕ, ◌<◌, inl, inr, List, map, Some, refl, sym, subst, arith}
 use Rattle.std.specs.Prelude.{Contains}
 use Rattle.std.specs.List.{AllZip}
 use Rattle.std.proofs.lemmas.List.Elements.{Contains-append_cases}
@@ -9,11 +9,11 @@ use Rattle.hv_plan.specs.Values as text
 use Rattle.hv_plan.specs.Values.{Plan}
 use Rattle.hv_plan.specs.Shapes.{parents, Parent, FormTree}
 use Rattle.hv_plan.specs.Causes.{number, Qualifies, repeated_id, unknown_child, child_before, child_twice, unreached, unknown_task, unknown_method, unknown_object, argument_count, argument_type, not_primitive, not_abstract, other_task, child_count, child_names, IsCause}
-use Rattle.hv_plan.specs.LineFaults.{Entry, action_entry, line_entry, entries, IsAtFault, IsEarliest, FaultIn}
+use Rattle.hv_plan.specs.LineFaults.{action_entry, line_entry, entries, IsAtFault, IsEarliest, FaultIn}
 use Rattle.hv_plan.specs.ChildFaults.{IsChildFault, ChildFaultIn}
 use Rattle.hv_plan.specs.FitViews.{IsDecomposed}
 use Rattle.hv_plan.specs.PlanTrees.{IsActionOf}
-use Rattle.hv_plan.specs.declared.fit.Decomposed.{Decomposed}
+use Rattle.hv_plan.specs.FitViews.{Decomposed}
 use Rattle.hv_plan.specs.declared.cause.CauseKind.{CauseKind}
 use Rattle.hv_plan.specs.declared.cause.CauseKind.TheVariants as kinds
 use Rattle.hv_plan.specs.declared.cause.Cause.{Cause}

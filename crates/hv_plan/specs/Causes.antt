@@ -1,12 +1,12 @@
 -- For which cause the lines of a plan form no tree that fits a world, and at which line.
-use Rattle.std.specs.Prelude.{◌≡◌, ℕ, ◌<◌, ◌≤◌, ◌⊎◌, List, Option, Some, None, map, length, Contains}
+use Rattle.std.specs.Prelude.{◌≡◌, ℕ, ◌<◌, ◌≤◌, List, Some, None, length, Contains}
 use Rattle.std.specs.List.{AllZip}
 use Rattle.hv_world.specs.Values.{TaskName, compound, primitive}
 use Rattle.hv_world.specs.Names.{place_in}
 use Rattle.hv_world.specs.Lists.{Once}
 use Rattle.hv_world.specs.Worlds.{World, Method, task_named, method_named}
 use Rattle.hv_plan.specs.Values.{Action, Decomposition, Plan}
-use Rattle.hv_plan.specs.Shapes.{head, heads, ids, Parent, line_parent, parents, IsReached}
+use Rattle.hv_plan.specs.Shapes.{heads, ids, Parent, parents, IsReached}
 use Rattle.hv_plan.specs.Fits.{parameters_of, AreObjects, AreOf, IsForTask, IsNamed, multiplicity, names_of, method_of}
 use Rattle.hv_plan.specs.declared.cause.CauseKind.{CauseKind}
 use Rattle.hv_plan.specs.declared.cause.CauseKind.TheVariants as kinds

@@ -3,6 +3,7 @@ pub mod Lines
 pub mod Forms
 pub mod Spellings
 pub mod Plans
+pub mod Lists
 pub mod LineViews
 pub mod Views
 pub mod Canonical
@@ -21,3 +22,4 @@ pub mod ShapeViews
 pub mod Tallies
 pub mod ChildFaults
 pub mod NodeViews
+pub mod BuiltTrees

@@ -1,7 +1,7 @@
 -- The tree that the lines of a plan form: its actions, and its nodes with children before parents.
 use Rattle.std.specs.Prelude.{◌≡◌, ℕ, ◌+◌, ◌-◌, ◌<◌, List, [], ◌∷◌, map, length, slice_get, MatchOption, Option, Some, None}
 use Rattle.std.specs.List.{AllZip}
-use Rattle.hv_world.specs.Values.{TaskName, compound, primitive}
+use Rattle.hv_world.specs.Values.{compound, primitive}
 use Rattle.hv_world.specs.Bindings.{GroundAction}
 use Rattle.hv_world.specs.Lists.{Once}
 use Rattle.hv_world.specs.Worlds.{World, method_named}

@@ -3,7 +3,8 @@ use Rattle.std.specs.Prelude.{◌≡◌, ◌+◌, ◌<◌, ◌↔◌, ℕ, List,
 use Rattle.std.specs.List.{AllZip}
 use Rattle.hv_plan.specs.Values.{Plan}
 use Rattle.hv_plan.specs.Trees.{Item, Act, Task, Pre, Tree, Reached, IsTree, HasActions}
-use Rattle.hv_plan.specs.Shaping.{items_of}
+use Rattle.hv_plan.specs.Lists.{lists_view}
+use Rattle.hv_plan.specs.TreeViews.{child_view}
 use Rattle.hv_plan.specs.declared.shape.Shape as code
 
 -- The place in the list of decomposition lines of each node, the node of the root line aside; the
@@ -18,7 +19,7 @@ abbrev pub shape_view : code.Shape → Shape
 shape_view s = record {
   lines = s.lines.items;
   numbers = s.numbers.items;
-  children = items_of s.children.items;
+  children = map (map child_view) (lists_view s.children);
 }
 
 -- the list at a place, empty where there is none

@@ -1,13 +1,10 @@
 -- How the shape of a plan is found: lines of ids, the places of ids, a walk along places, and numbers.
-use Rattle.std.specs.Prelude.{◌≡◌, ◌+◌, ◌-◌, ◌<◌, ◌≤◌, ◌⊎◌, ℕ, Bool, true, false, List, [], ◌∷◌, ◌++◌, map, flat_map, length, min, max, nat_eq, nat_lt, slice_index, slice_index_or, Contains, Option, Some, None, if◌then◌else◌}
+use Rattle.std.specs.Prelude.{◌≡◌, ◌+◌, ◌-◌, ◌<◌, ◌≤◌, ℕ, Bool, true, false, List, [], ◌∷◌, ◌++◌, map, flat_map, length, min, max, nat_eq, nat_lt, slice_index, slice_index_or, Contains, Option, Some, None, if◌then◌else◌}
 use Rattle.std.specs.List.{list_any, position_or_len}
-use Rattle.std.specs.Global.{Vec}
 use Rattle.hv_world.specs.Lists.{Once}
 use Rattle.hv_plan.specs.Values.{Plan}
 use Rattle.hv_plan.specs.Shapes.{heads, Parent, parents}
 use Rattle.hv_plan.specs.Trees.{Item, Act, Task}
-use Rattle.hv_plan.specs.TreeViews.{child_view}
-use Rattle.hv_plan.specs.declared.tree.Child.{Child}
 
 -- the lines of heads, and for each child the line that names it
 abbrev pub lines_of_heads : Plan → List ℕ
@@ -73,13 +70,6 @@ is_marked marks k = slice_index_or marks k false
 abbrev pub place_of : List ℕ → ℕ → ℕ
 place_of is i = position_or_len (nat_eq i) is
 
-abbrev pub lists_of : List (Vec ℕ) → List (List ℕ)
-lists_of vs = map (λ v. v.items) vs
-
--- the items of each list of children
-abbrev pub items_of : List (Vec Child) → List (List Item)
-items_of vs = map (λ v. map child_view v.items) vs
-
 -- the places of the children of each decomposition line
 abbrev pub places_of_lines : List ℕ → Plan → List (List ℕ)
 places_of_lines is p = map (λ d. map (place_of is) d.children) p.decompositions
@@ -116,6 +106,13 @@ pub record IsWalking (root : List ℕ) (kids : ℕ → List ℕ) (looked : ℕ) 
 -- the walk from the children of the root to all below
 abbrev pub IsWalk : List ℕ → (ℕ → List ℕ) → List ℕ → List Bool → Type 0
 IsWalk root kids met marks = IsWalking root kids (length met) met marks
+
+-- the walk has met all of so many places
+pub record HasMetAll (root : List ℕ) (kids : ℕ → List ℕ) (count : ℕ) (met : List ℕ) : Type 0 where
+  pub marks : List Bool
+  pub walk : IsWalk root kids met marks
+  pub count_is : length marks ≡ count
+  pub all : (k : ℕ) → k < count → is_marked marks k ≡ true
 
 -- The lines among what was met from a place of the walk on are numbered, those met later by lower numbers
 pub record IsNumbering (actions from : ℕ) (met lines numbers : List ℕ) : Type 0 where

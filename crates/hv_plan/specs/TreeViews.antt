@@ -1,14 +1,13 @@
--- What the nodes and trees of the code say.
+-- What the nodes of the code say.
 use Rattle.std.specs.Prelude.{ℕ, map, Option, Some, None}
-use Rattle.hv_world.specs.Bindings.{object_number, ground_action_view}
+use Rattle.hv_world.specs.Bindings.{object_number}
 use Rattle.hv_plan.specs.Trees.{Item, Act, Task}
-use Rattle.hv_plan.specs.PlanTrees.{Node, PlanTree}
+use Rattle.hv_plan.specs.PlanTrees.{Node}
 use Rattle.hv_plan.specs.declared.tree.Child as code_child
 use Rattle.hv_plan.specs.declared.tree.Child.TheVariants as children
 use Rattle.hv_plan.specs.declared.tree.Head as code_head
 use Rattle.hv_plan.specs.declared.tree.Head.TheVariants as heads
 use Rattle.hv_plan.specs.declared.tree.Node as code_node
-use Rattle.hv_plan.specs.declared.tree.Tree as code_tree
 
 abbrev pub child_view : code_child.Child → Item
 child_view (children.Action k) = Act k
@@ -36,15 +35,7 @@ node_view n = record {
   id = head_id n.head;
   line = head_line n.head;
   task = head_task n.head;
-  objects = map object_number n.objects.items;
+  objects = map object_number n.objects.now;
   method = head_method n.head;
-  children = map child_view n.children.items;
-}
-
-abbrev pub tree_view : code_tree.Tree → PlanTree
-tree_view t = record {
-  actions = map ground_action_view t.actions.items;
-  action_ids = t.action_ids.items;
-  nodes = map node_view t.nodes.items;
-  order = t.order.items;
+  children = map child_view n.children.now;
 }

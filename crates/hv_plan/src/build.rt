@@ -8,19 +8,19 @@ ghost use Rattle.hv_world.specs.WorldViews.{world_view};
 ghost use Rattle.hv_plan.specs.Causes.{IsTreeFault};
 ghost use Rattle.hv_plan.specs.ChildFaults.{AreNumbered, AreSizes, ChildFaultIn, IsMethodCause, IsSaid, said_name};
 ghost use Rattle.hv_plan.specs.Fits.{FitWorld, names_of};
-ghost use Rattle.hv_plan.specs.FitViews.{IsDecomposed};
+ghost use Rattle.hv_plan.specs.FitViews.{decomposed_lines, IsDecomposed};
 ghost use Rattle.hv_world.specs.Bindings.{ground_action_view};
 ghost use Rattle.std.specs.List.{AllZip};
 ghost use Rattle.hv_plan.specs.Forms.{every};
 ghost use Rattle.hv_plan.specs.LineFaults.{IsEarliest};
-ghost use Rattle.hv_plan.specs.LineViews.{decomposition_view, plan_view};
+ghost use Rattle.hv_plan.specs.LineViews.{plan_view};
 ghost use Rattle.hv_plan.specs.PlanTrees.{IsActionOf, IsTreeOf};
 ghost use Rattle.hv_plan.specs.Shapes.{FormTree, IsInTextOrder, line_parent, parents};
 ghost use Rattle.hv_plan.specs.ShapeViews.{shape_view, IsShape};
-ghost use Rattle.hv_plan.specs.declared.plan.DecompositionLine.{DecompositionLine};
-ghost use Rattle.hv_plan.specs.TreeViews.{child_view, tree_view};
+ghost use Rattle.hv_plan.specs.BuiltTrees.{tree_view};
+ghost use Rattle.hv_plan.specs.TreeViews.{child_view};
+ghost use Rattle.hv_plan.specs.Values.{Decomposition};
 
-use crate::assemble::{nodes_of, tree_of};
 use crate::cause::{Cause, TreeFault, earlier};
 use crate::fit::all::{Fits, fit};
 use crate::plan::PlanText;
@@ -99,7 +99,7 @@ impl Methods<'_, '_> {
         shape: &Shape,
         place: usize,
     ) -> Result<Option<Cause>, Memory>
-        requires place { place < length plan.now.decompositions.items }
+        requires place { place < length (plan_view plan.now).decompositions }
         requires form { FormTree (plan_view plan.now) }
         requires shape { IsShape (plan_view plan.now) (shape_view shape.now) }
         requires said { IsSaid (world_view self.now.world.now) (plan_view plan.now) (shape_view shape.now) self.now.said }
@@ -108,13 +108,13 @@ impl Methods<'_, '_> {
         requires empty { (n : ℕ) → get_or counts.old n 0 ≡ 0 }
         ensures size { length counts.new ≡ length counts.old }
         ensures empty { OnOk result ((n : ℕ) → get_or counts.new n 0 ≡ 0) }
-        ensures cause { IfOk result (λ o. (d : DecompositionLine) → d ≡ get_or plan.now.decompositions.items place d → IsEarliest (ChildFaultIn (world_view self.now.world.now) (plan_view plan.now) (line_parent (decomposition_view d) ∷ [])) o) }
+        ensures cause { IfOk result (λ o. (d : Decomposition) → slice_get (plan_view plan.now).decompositions place ≡ Some d → IsEarliest (ChildFaultIn (world_view self.now.world.now) (plan_view plan.now) (line_parent d ∷ [])) o) }
     {
-        let line = plan.decompositions[place].line;
+        let line = plan.decompositions.at(place).line;
         let Some(said) = self.said.lines.get(place) else {
             return Ok(None);
         };
-        let children = &shape.children[shape.numbers[place]];
+        let children = shape.children.at(shape.numbers[place] as usize);
         self.line_cause(alloc, counts, line, said.method, children)
     }
 
@@ -170,7 +170,7 @@ fn children_cause(
     ensures { IfOk result (λ o. IsEarliest (ChildFaultIn (world_view methods.now.world.now) (plan_view plan.now) (parents (plan_view plan.now))) o) }
 {
     let mut counts = zeros(alloc, methods.sizes.tasks + methods.sizes.actions)?;
-    let children = &shape.children[shape.lines.len()];
+    let children = shape.children.at(shape.lines.len());
     let top = methods.world.top();
     let root = methods.method_cause(alloc, &mut counts, plan.root_line, top, children)?;
     let lines = methods.lines_cause(alloc, &mut counts, plan, shape)?;
@@ -188,7 +188,7 @@ fn check_children<'s>(
     requires form { FormTree (plan_view plan.now) }
     requires shape { IsShape (plan_view plan.now) (shape_view shape.now) }
     requires actions { AllZip (IsActionOf (world_view world.now)) (plan_view plan.now).actions (map ground_action_view fits.now.actions.items) }
-    requires lines { AllZip (IsDecomposed (world_view world.now)) (plan_view plan.now).decompositions fits.now.lines.items }
+    requires lines { AllZip (IsDecomposed (world_view world.now)) (plan_view plan.now).decompositions (decomposed_lines fits.now.lines) }
     ensures ok { OnOk result (FitWorld (world_view world.now) (plan_view plan.now)) }
     ensures err { IfErr result (IsTreeFault (world_view world.now) (plan_view plan.now)) }
 {
@@ -208,12 +208,12 @@ fn check_children<'s>(
 }
 
 // The tree of a plan of this shape.
-fn build_shaped<'s>(
+fn build_shaped<'p, 's>(
     alloc: Global,
     world: &World<'s>,
-    plan: &PlanText<'s>,
+    plan: &'p PlanText<'s>,
     shape: Shape,
-) -> Result<Tree, TreeFault>
+) -> Result<Tree<'p, 's>, TreeFault>
     requires form { FormTree (plan_view plan.now) }
     requires shape { IsShape (plan_view plan.now) (shape_view shape) }
     ensures ok { IfOk result (λ t. FitWorld (world_view world.now) (plan_view plan.now) × IsTreeOf (world_view world.now) (plan_view plan.now) (tree_view t)) }
@@ -221,24 +221,30 @@ fn build_shaped<'s>(
 {
     let fits = fit(alloc, world, plan)?;
     check_children(alloc, world, plan, &shape, &fits)?;
-    let Fits { actions, lines } = fits;
-    let nodes = nodes_of(alloc, plan, shape, lines)?;
-    let tree = tree_of(alloc, plan, actions, nodes)?;
-    Ok(tree)
+    let Fits {
+        actions,
+        lines: said,
+    } = fits;
+    Ok(Tree {
+        plan,
+        actions,
+        said,
+        shape,
+    })
 }
 
-impl Tree {
+impl<'p, 's> Tree<'p, 's> {
     /// The tree that the lines of a plan form.
     ///
     /// # Errors
     ///
     /// The cause of the smallest number that a line qualifies for, at the first such line; or want
     /// of memory, where a growth was refused.
-    pub fn build<'s>(
+    pub fn build(
         alloc: Global,
         world: &World<'s>,
-        plan: &PlanText<'s>,
-    ) -> Result<Tree, TreeFault>
+        plan: &'p PlanText<'s>,
+    ) -> Result<Tree<'p, 's>, TreeFault>
         requires { IsInTextOrder (plan_view plan.now) }
         ensures ok { IfOk result (λ t. FormTree (plan_view plan.now) × FitWorld (world_view world.now) (plan_view plan.now) × IsTreeOf (world_view world.now) (plan_view plan.now) (tree_view t)) }
         ensures err { IfErr result (IsTreeFault (world_view world.now) (plan_view plan.now)) }

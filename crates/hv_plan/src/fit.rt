@@ -1,6 +1,7 @@
 //! What the lines of a plan say, with numbers for names.
 
 pub(crate) mod all;
+pub(crate) mod lines;
 
 ghost use Rattle.std.specs.Prelude.{◌≡◌, ◌↔◌, map, length, IfOk, IsTrue, MatchOption, MatchResult, option_map, slice_get};
 ghost use Rattle.hv_text.specs.Names.{text_of};
@@ -10,7 +11,7 @@ ghost use Rattle.hv_world.specs.Names.{place_in};
 ghost use Rattle.hv_world.specs.Views.{name_view, type_number};
 ghost use Rattle.hv_world.specs.WorldViews.{world_view};
 ghost use Rattle.hv_plan.specs.Fits.{parameters_of, AreObjects, AreOf, IsForTask};
-ghost use Rattle.hv_plan.specs.FitViews.{IsDecomposed};
+ghost use Rattle.hv_plan.specs.FitViews.{decomposed_view, IsDecomposed};
 ghost use Rattle.hv_plan.specs.Forms.{every};
 ghost use Rattle.hv_plan.specs.LineFaults.{action_entry, line_entry, IsArgumentFault, IsObjectFault, IsSmallest};
 ghost use Rattle.hv_plan.specs.LineViews.{action_view, decomposition_view};
@@ -118,14 +119,14 @@ fn fit_arguments<'s>(
 pub(crate) fn fit_action<'s>(
     alloc: Global,
     world: &World<'s>,
-    line: &ActionLine<'s>,
+    line: ActionLine<'_, 's>,
 ) -> Result<Result<GroundAction, CauseKind>, Memory>
-    ensures { IfOk result (λ r. MatchResult r (λ g. IsActionOf (world_view world.now) (action_view line.now) (ground_action_view g)) (IsSmallest (world_view world.now) (action_entry (action_view line.now)))) }
+    ensures { IfOk result (λ r. MatchResult r (λ g. IsActionOf (world_view world.now) (action_view line.entry) (ground_action_view g)) (IsSmallest (world_view world.now) (action_entry (action_view line.entry)))) }
 {
     let Some(name) = world.task_named(line.name) else {
         return Ok(Err(CauseKind::UnknownTask));
     };
-    let objects = match fit_arguments(alloc, world, name, &line.arguments)? {
+    let objects = match fit_arguments(alloc, world, name, line.arguments)? {
         Ok(objects) => objects,
         Err(kind) => return Ok(Err(kind)),
     };
@@ -167,9 +168,9 @@ fn is_for(world: &World<'_>, method: MethodId, task: TaskId) -> bool
 pub(crate) fn fit_line<'s>(
     alloc: Global,
     world: &World<'s>,
-    line: &DecompositionLine<'s>,
+    line: DecompositionLine<'_, 's>,
 ) -> Result<Result<Decomposed, CauseKind>, Memory>
-    ensures { IfOk result (λ r. MatchResult r (IsDecomposed (world_view world.now) (decomposition_view line.now)) (IsSmallest (world_view world.now) (line_entry (decomposition_view line.now)))) }
+    ensures { IfOk result (λ r. MatchResult r (λ x. IsDecomposed (world_view world.now) (decomposition_view line.entry) (decomposed_view x)) (IsSmallest (world_view world.now) (line_entry (decomposition_view line.entry)))) }
 {
     let Some(name) = world.task_named(line.name) else {
         return Ok(Err(CauseKind::UnknownTask));
@@ -177,7 +178,7 @@ pub(crate) fn fit_line<'s>(
     let Some(method) = world.method_named(line.method) else {
         return Ok(Err(CauseKind::UnknownMethod));
     };
-    let objects = match fit_arguments(alloc, world, name, &line.arguments)? {
+    let objects = match fit_arguments(alloc, world, name, line.arguments)? {
         Ok(objects) => objects,
         Err(kind) => return Ok(Err(kind)),
     };

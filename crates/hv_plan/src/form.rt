@@ -6,7 +6,8 @@ ghost use Rattle.std.specs.Option.{option_map};
 ghost use Rattle.hv_text.specs.Words.{piece_of};
 ghost use Rattle.hv_text.specs.Names.{text_of};
 ghost use Rattle.hv_plan.specs.Forms.{said, listed, form_of, node_of, action_of, decomposition_of, root_of, every, id_of, id_at, is_arrow, task_of, method_of, parts_of};
-ghost use Rattle.hv_plan.specs.Views.{Reads, form_view, line_view, task_view, ids_view, decomposition_said};
+ghost use Rattle.hv_plan.specs.LineViews.{action_view, decomposition_view};
+ghost use Rattle.hv_plan.specs.Views.{Reads, action_form_view, decomposition_form_view, form_view, line_view, task_view, ids_view, decomposition_said};
 
 use crate::fault::PlanFault;
 use crate::id::{Id, read_id};
@@ -17,12 +18,62 @@ use crate::task::{TaskText, name_at, read_task};
 use hv_text::{Name, TextKind, Word, read_words};
 use std::alloc::Global;
 
+/// An action line, with its arguments.
+#[derive(Drop)]
+pub(crate) struct ActionForm<'s> {
+    id: u64,
+    name: Name<'s>,
+    arguments: Vec<Name<'s>>,
+    line: u32,
+}
+
+/// A decomposition line, with its arguments and its children.
+#[derive(Drop)]
+pub(crate) struct DecompositionForm<'s> {
+    id: u64,
+    name: Name<'s>,
+    arguments: Vec<Name<'s>>,
+    method: Name<'s>,
+    children: Vec<u64>,
+    line: u32,
+}
+
+impl<'s> ActionForm<'s> {
+    /// The line.
+    pub(crate) fn lend(&self) -> ActionLine<'_, 's>
+        ensures { action_view result ≡ action_form_view self.now }
+    {
+        ActionLine {
+            id: self.id,
+            name: self.name,
+            arguments: &self.arguments,
+            line: self.line,
+        }
+    }
+}
+
+impl<'s> DecompositionForm<'s> {
+    /// The line.
+    pub(crate) fn lend(&self) -> DecompositionLine<'_, 's>
+        ensures { decomposition_view result ≡ decomposition_form_view self.now }
+    {
+        DecompositionLine {
+            id: self.id,
+            name: self.name,
+            arguments: &self.arguments,
+            method: self.method,
+            children: &self.children,
+            line: self.line,
+        }
+    }
+}
+
 /// What a line says: nothing, an action, a decomposition, or the ids of the root with the line's number.
 #[derive(Drop)]
 pub(crate) enum LineText<'s> {
     Blank,
-    Action(ActionLine<'s>),
-    Decomposition(DecompositionLine<'s>),
+    Action(ActionForm<'s>),
+    Decomposition(DecompositionForm<'s>),
     Root(Vec<u64>, u32),
 }
 
@@ -119,7 +170,7 @@ fn read_action<'s>(
         return Err(PlanFault::BadLine(number));
     };
     match read_id(id) {
-        Id::Fits(id) => Ok(LineText::Action(ActionLine {
+        Id::Fits(id) => Ok(LineText::Action(ActionForm {
             id,
             name,
             arguments,
@@ -171,7 +222,7 @@ fn decomposition<'s>(
         Id::Fits(id) => match children {
             Ids::NoIds => Err(PlanFault::BadLine(number)),
             Ids::TooLarge => Err(PlanFault::IdTooLarge(number)),
-            Ids::Fit(children) => Ok(LineText::Decomposition(DecompositionLine {
+            Ids::Fit(children) => Ok(LineText::Decomposition(DecompositionForm {
                 id,
                 name: task.name,
                 arguments: task.arguments,

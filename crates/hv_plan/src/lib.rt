@@ -2,7 +2,6 @@
 
 #![tactic(auto)]
 
-mod assemble;
 mod build;
 mod cause;
 mod fault;
@@ -12,6 +11,7 @@ mod id;
 mod ids;
 mod laws;
 mod lines;
+mod lists;
 mod plan;
 mod print;
 mod read;
@@ -25,7 +25,7 @@ pub use fault::PlanFault;
 pub use laws::{
     a_plan_or_a_fault, a_tree_or_a_cause, forms_are_spelled, plans_are_read_back, plans_are_spelled,
 };
-pub use plan::{ActionLine, DecompositionLine, PlanText};
+pub use plan::{ActionLine, ActionLines, DecompositionLine, DecompositionLines, PlanText};
 pub use print::print_plan;
 pub use read::read_plan;
-pub use tree::{Child, Node, Tree};
+pub use tree::{Child, Node, Nodes, Tree};

@@ -3,10 +3,10 @@
 ghost use Rattle.std.specs.Prelude.{◌≡◌, ◌++◌, ◌∷◌, [], map, codes, decimal, OnOk, OnErr};
 ghost use Rattle.std.specs.List.{flat_map};
 ghost use Rattle.hv_text.specs.Names.{text_of};
-ghost use Rattle.hv_plan.specs.LineViews.{action_view, decomposition_view, plan_view};
+ghost use Rattle.hv_plan.specs.LineViews.{action_view, actions_view, decomposition_view, decompositions_view, plan_view};
 ghost use Rattle.hv_plan.specs.Canonical.{words_text, ids_text, node_text, action_text, decomposition_text, root_text, plan_text};
 
-use crate::plan::{ActionLine, DecompositionLine, PlanText};
+use crate::plan::{ActionLine, ActionLines, DecompositionLine, DecompositionLines, PlanText};
 use hv_text::{Memory, Name};
 use itoa::Buffer;
 
@@ -39,20 +39,20 @@ fn put_plan(out: &mut Vec<u8>, plan: &PlanText<'_>) -> Result<(), Memory>
 }
 
 // Puts the lines of actions.
-fn put_actions(out: &mut Vec<u8>, actions: &[ActionLine<'_>]) -> Result<(), Memory>
-    ensures { OnOk result (out.new.items ≡ out.old.items ++ flat_map action_text (map action_view actions.now)) }
+fn put_actions(out: &mut Vec<u8>, lines: &ActionLines<'_>) -> Result<(), Memory>
+    ensures { OnOk result (out.new.items ≡ out.old.items ++ flat_map action_text (actions_view lines.now)) }
 {
-    for action in actions {
-        put_action(out, action)?;
+    for place in 0..lines.len() {
+        put_action(out, lines.at(place))?;
     }
     Ok(())
 }
 
 // Puts the line of an action.
-fn put_action(out: &mut Vec<u8>, action: &ActionLine<'_>) -> Result<(), Memory>
-    ensures { OnOk result (out.new.items ≡ out.old.items ++ action_text (action_view action.now)) }
+fn put_action(out: &mut Vec<u8>, line: ActionLine<'_, '_>) -> Result<(), Memory>
+    ensures { OnOk result (out.new.items ≡ out.old.items ++ action_text (action_view line.entry)) }
 {
-    put_node(out, action.id, action.name, &action.arguments)?;
+    put_node(out, line.id, line.name, line.arguments)?;
     out.push(b'\n')?;
     Ok(())
 }
@@ -68,23 +68,23 @@ fn put_root(out: &mut Vec<u8>, ids: &[u64]) -> Result<(), Memory>
 }
 
 // Puts the lines of decompositions.
-fn put_decompositions(out: &mut Vec<u8>, lines: &[DecompositionLine<'_>]) -> Result<(), Memory>
-    ensures { OnOk result (out.new.items ≡ out.old.items ++ flat_map decomposition_text (map decomposition_view lines.now)) }
+fn put_decompositions(out: &mut Vec<u8>, lines: &DecompositionLines<'_>) -> Result<(), Memory>
+    ensures { OnOk result (out.new.items ≡ out.old.items ++ flat_map decomposition_text (decompositions_view lines.now)) }
 {
-    for line in lines {
-        put_decomposition(out, line)?;
+    for place in 0..lines.len() {
+        put_decomposition(out, lines.at(place))?;
     }
     Ok(())
 }
 
 // Puts the line of a decomposition.
-fn put_decomposition(out: &mut Vec<u8>, line: &DecompositionLine<'_>) -> Result<(), Memory>
-    ensures { OnOk result (out.new.items ≡ out.old.items ++ decomposition_text (decomposition_view line.now)) }
+fn put_decomposition(out: &mut Vec<u8>, line: DecompositionLine<'_, '_>) -> Result<(), Memory>
+    ensures { OnOk result (out.new.items ≡ out.old.items ++ decomposition_text (decomposition_view line.entry)) }
 {
-    put_node(out, line.id, line.name, &line.arguments)?;
+    put_node(out, line.id, line.name, line.arguments)?;
     out.extend_from_slice(b" ->")?;
     put_word(out, line.method)?;
-    put_ids(out, &line.children)?;
+    put_ids(out, line.children)?;
     out.push(b'\n')?;
     Ok(())
 }

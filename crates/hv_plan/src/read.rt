@@ -12,7 +12,7 @@ ghost use Rattle.hv_plan.specs.Spellings.{IsPlan, IsPlanFault};
 use crate::fault::PlanFault;
 use crate::form::{LineText, read_line};
 use crate::lines::{Lines, is_marker};
-use crate::plan::PlanText;
+use crate::plan::{ActionLines, DecompositionLines, PlanText};
 use hv_text::MOST_BYTES;
 use std::alloc::Global;
 
@@ -87,8 +87,8 @@ fn read_body<'s>(alloc: Global, lines: Lines<'s>) -> Result<PlanText<'s>, PlanFa
     ensures err { IfErr result (λ f. IsBodyFault (before_end (lines_left lines.entry)) f) }
 {
     let mut lines = lines;
-    let mut actions = Vec::new(alloc);
-    let mut decompositions = Vec::new(alloc);
+    let mut actions = ActionLines::new(alloc)?;
+    let mut decompositions = DecompositionLines::new(alloc)?;
     let mut root = None;
     'lines: while let Some(line) = lines.next() {
         if is_marker(line, b"<==") {
@@ -96,8 +96,8 @@ fn read_body<'s>(alloc: Global, lines: Lines<'s>) -> Result<PlanText<'s>, PlanFa
         }
         match read_line(alloc, line)? {
             LineText::Blank => {}
-            LineText::Action(action) => actions.push(action)?,
-            LineText::Decomposition(line) => decompositions.push(line)?,
+            LineText::Action(form) => actions.push(form.lend())?,
+            LineText::Decomposition(form) => decompositions.push(form.lend())?,
             LineText::Root(ids, number) => {
                 if root.is_some() {
                     return Err(PlanFault::RepeatedRoot(line.number));

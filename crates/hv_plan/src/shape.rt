@@ -1,4 +1,8 @@
 //! The shape of a plan: what stands below what, and the number of each node.
+//!
+//! Each step drops the lists and the table that it made, before the next makes its own. So the children
+//! are looked through for one that stands twice before the table of ids is made; what was found is
+//! reported in its turn.
 
 mod begins;
 mod numbers;
@@ -7,46 +11,48 @@ mod repeats;
 mod seed;
 mod walk;
 
-ghost use Rattle.std.specs.Prelude.{◌≡◌, ℕ, ◌<◌, ◌+◌, None, true, map, length, Contains, IfOk, IfErr, OnOk};
+ghost use Rattle.std.specs.Prelude.{◌≡◌, ℕ, ◌+◌, None, map, length, Contains, IfOk, IfErr, OnOk};
 ghost use Rattle.hv_world.specs.Lists.{Once};
 ghost use Rattle.hv_plan.specs.Causes.{number};
 ghost use Rattle.hv_plan.specs.LineViews.{plan_view};
+ghost use Rattle.hv_plan.specs.Lists.{lists_view};
 ghost use Rattle.hv_plan.specs.Shapes.{ids, all_children, FormTree, IsInTextOrder};
 ghost use Rattle.hv_plan.specs.ShapeViews.{shape_view, IsShape};
 ghost use Rattle.hv_plan.specs.ShapeCauses.{NoneBelow, IsFirstFor, IsFormFault};
-ghost use Rattle.hv_plan.specs.Shaping.{line_unless, IsFirst, IsMissed, is_marked, lines_of_heads, lines_of_children, place_of, places_of_lines, lists_of, IsWalk, kids};
+ghost use Rattle.hv_plan.specs.Shaping.{line_unless, IsFirst, IsMissed, IsRepeat, HasMetAll, is_marked, lines_of_heads, lines_of_children, place_of, places_of_lines, kids};
 ghost use Rattle.hv_plan.specs.declared.cause.CauseKind.TheVariants as kinds;
 
 use crate::cause::{Cause, CauseKind, TreeFault};
+use crate::lists::Lists;
 use crate::plan::PlanText;
 use crate::tree::Child;
-use begins::{Placed, begins, children};
+use begins::{line_count, line_numbers};
 use hv_text::Memory;
 use indexmap::IndexSet;
 use numbers::{node_children, number_met};
-use places::{child_places, places_of, table, unknown_id};
-use repeats::{earlier, first_repeat};
+use places::{child_places, id_table, places_of, unknown_child};
+use repeats::{earlier, repeated_id, second_parent};
 use seed::Seeded;
 use std::alloc::Global;
-use walk::{Walk, walk_from};
+use walk::walk_from;
 
 /// What stands below what in a plan. Each decomposition line has a node, with a number less than that
 /// of the line that names it as a child; the last node is that of the root line.
 #[derive(Drop)]
 pub(crate) struct Shape {
     /// The place in the list of decomposition lines of each node below that of the root line, children before parents.
-    pub(crate) lines: Vec<usize>,
+    pub(crate) lines: Vec<u32>,
     /// The number of the node of each decomposition line.
-    pub(crate) numbers: Vec<usize>,
+    pub(crate) numbers: Vec<u32>,
     /// The children of each node by number; those of the root line come last.
-    pub(crate) children: Vec<Vec<Child>>,
+    pub(crate) children: Lists<Child>,
 }
 
 /// The children of the root line and those of each decomposition line, as places.
 #[derive(Drop)]
 struct Below {
     root: Vec<usize>,
-    lists: Vec<Vec<usize>>,
+    lists: Lists<usize>,
 }
 
 /// The shape of a plan.
@@ -60,9 +66,9 @@ pub(crate) fn shape_of(alloc: Global, plan: &PlanText<'_>) -> Result<Shape, Tree
     ensures ok { IfOk result (λ s. FormTree (plan_view plan.now) × IsShape (plan_view plan.now) (shape_view s)) }
     ensures err { IfErr result (IsFormFault (plan_view plan.now)) }
 {
-    let begins = begins(alloc, plan)?;
-    check_ids(alloc, plan, &begins)?;
-    let shape = shape_of_ids(alloc, plan, &begins)?;
+    let second = second_parent(alloc, plan)?;
+    check_ids(alloc, plan)?;
+    let shape = shape_of_ids(alloc, plan, second)?;
     Ok(shape)
 }
 
@@ -81,68 +87,71 @@ fn none_at(plan: &PlanText<'_>, kind: CauseKind, line: Option<u32>) -> Result<()
 }
 
 // Whether each id begins one line.
-fn check_ids(alloc: Global, plan: &PlanText<'_>, begins: &Placed) -> Result<(), TreeFault>
-    requires order { IsInTextOrder (plan_view plan.now) }
-    requires ids { begins.now.ids.items ≡ ids (plan_view plan.now) }
-    requires lines { begins.now.lines.items ≡ lines_of_heads (plan_view plan.now) }
+fn check_ids(alloc: Global, plan: &PlanText<'_>) -> Result<(), TreeFault>
+    requires { IsInTextOrder (plan_view plan.now) }
     ensures none { OnOk result (NoneBelow (plan_view plan.now) 51) }
     ensures once { OnOk result (Once (ids (plan_view plan.now))) }
     ensures err { IfErr result (IsFormFault (plan_view plan.now)) }
 {
-    let repeat = first_repeat(alloc, &begins.ids, &begins.lines)?;
+    let repeat = repeated_id(alloc, plan)?;
     none_at(plan, CauseKind::RepeatedId, repeat)?;
     Ok(())
 }
 
-// The shape of a plan in which no id begins two lines.
-fn shape_of_ids(alloc: Global, plan: &PlanText<'_>, begins: &Placed) -> Result<Shape, TreeFault>
+// The shape of a plan in which no id begins two lines, where the line is known that names a child a
+// second time.
+fn shape_of_ids(alloc: Global, plan: &PlanText<'_>, second: Option<u32>) -> Result<Shape, TreeFault>
     requires order { IsInTextOrder (plan_view plan.now) }
-    requires ids { begins.now.ids.items ≡ ids (plan_view plan.now) }
-    requires lines { begins.now.lines.items ≡ lines_of_heads (plan_view plan.now) }
     requires once { Once (ids (plan_view plan.now)) }
+    requires second { IsFirst (IsRepeat (all_children (plan_view plan.now)) (lines_of_children (plan_view plan.now)) (length (all_children (plan_view plan.now)))) second }
     requires none { NoneBelow (plan_view plan.now) 51 }
     ensures ok { IfOk result (λ s. FormTree (plan_view plan.now) × IsShape (plan_view plan.now) (shape_view s)) }
     ensures err { IfErr result (IsFormFault (plan_view plan.now)) }
 {
-    let table = table(alloc, &begins.ids)?;
-    check_children(alloc, plan, &table)?;
-    let shape = shape_of_children(alloc, plan, begins, &table)?;
+    let below = known_places(alloc, plan, second)?;
+    let shape = shape_below(alloc, plan, &below)?;
     Ok(shape)
 }
 
-// Whether each child begins a line and is a child once.
+// The children of each line as places, where each child begins a line and is a child once.
+fn known_places(alloc: Global, plan: &PlanText<'_>, second: Option<u32>) -> Result<Below, TreeFault>
+    requires order { IsInTextOrder (plan_view plan.now) }
+    requires once { Once (ids (plan_view plan.now)) }
+    requires second { IsFirst (IsRepeat (all_children (plan_view plan.now)) (lines_of_children (plan_view plan.now)) (length (all_children (plan_view plan.now)))) second }
+    requires none { NoneBelow (plan_view plan.now) 51 }
+    ensures root { IfOk result (λ b. b.root.items ≡ map (place_of (ids (plan_view plan.now))) (plan_view plan.now).root.ids) }
+    ensures lists { IfOk result (λ b. lists_view b.lists ≡ places_of_lines (ids (plan_view plan.now)) (plan_view plan.now)) }
+    ensures known { OnOk result ((i : ℕ) → Contains (all_children (plan_view plan.now)) i → Contains (ids (plan_view plan.now)) i) }
+    ensures single { OnOk result (Once (all_children (plan_view plan.now))) }
+    ensures none { OnOk result (NoneBelow (plan_view plan.now) 53) }
+    ensures err { IfErr result (IsFormFault (plan_view plan.now)) }
+{
+    let table = id_table(alloc, plan)?;
+    check_children(alloc, plan, &table, second)?;
+    let below = places_below(alloc, plan, &table)?;
+    Ok(below)
+}
+
+// Whether each child begins a line and is a child once, where the line is known that names a child a
+// second time.
 fn check_children(
     alloc: Global,
     plan: &PlanText<'_>,
     table: &IndexSet<u64, Seeded>,
+    second: Option<u32>,
 ) -> Result<(), TreeFault>
     requires order { IsInTextOrder (plan_view plan.now) }
     requires table { table.now.keys ≡ ids (plan_view plan.now) }
+    requires second { IsFirst (IsRepeat (all_children (plan_view plan.now)) (lines_of_children (plan_view plan.now)) (length (all_children (plan_view plan.now)))) second }
     requires none { NoneBelow (plan_view plan.now) 51 }
     ensures known { OnOk result ((i : ℕ) → Contains (all_children (plan_view plan.now)) i → Contains (ids (plan_view plan.now)) i) }
-    ensures once { OnOk result (Once (all_children (plan_view plan.now))) }
+    ensures single { OnOk result (Once (all_children (plan_view plan.now))) }
     ensures none { OnOk result (NoneBelow (plan_view plan.now) 53) }
     ensures err { IfErr result (IsFormFault (plan_view plan.now)) }
 {
-    let children = children(alloc, plan)?;
-    let unknown = unknown_id(table, &children.ids, &children.lines);
+    let unknown = unknown_child(alloc, plan, table)?;
     none_at(plan, CauseKind::UnknownChild, unknown)?;
-    check_parents(alloc, plan, &children)?;
-    Ok(())
-}
-
-// Whether each child is a child once.
-fn check_parents(alloc: Global, plan: &PlanText<'_>, children: &Placed) -> Result<(), TreeFault>
-    requires order { IsInTextOrder (plan_view plan.now) }
-    requires ids { children.now.ids.items ≡ all_children (plan_view plan.now) }
-    requires lines { children.now.lines.items ≡ lines_of_children (plan_view plan.now) }
-    requires none { NoneBelow (plan_view plan.now) 52 }
-    ensures once { OnOk result (Once (all_children (plan_view plan.now))) }
-    ensures none { OnOk result (NoneBelow (plan_view plan.now) 53) }
-    ensures err { IfErr result (IsFormFault (plan_view plan.now)) }
-{
-    let repeat = first_repeat(alloc, &children.ids, &children.lines)?;
-    none_at(plan, CauseKind::TwoParents, repeat)?;
+    none_at(plan, CauseKind::TwoParents, second)?;
     Ok(())
 }
 
@@ -153,7 +162,7 @@ fn places_below(
     table: &IndexSet<u64, Seeded>,
 ) -> Result<Below, Memory>
     ensures root { IfOk result (λ b. b.root.items ≡ map (place_of table.now.keys) (plan_view plan.now).root.ids) }
-    ensures lists { IfOk result (λ b. lists_of b.lists.items ≡ places_of_lines table.now.keys (plan_view plan.now)) }
+    ensures lists { IfOk result (λ b. lists_view b.lists ≡ places_of_lines table.now.keys (plan_view plan.now)) }
 {
     let root = places_of(alloc, table, &plan.root)?;
     let lists = child_places(alloc, table, &plan.decompositions)?;
@@ -161,15 +170,9 @@ fn places_below(
 }
 
 // The shape of a plan in which each child begins one line and is a child once.
-fn shape_of_children(
-    alloc: Global,
-    plan: &PlanText<'_>,
-    begins: &Placed,
-    table: &IndexSet<u64, Seeded>,
-) -> Result<Shape, TreeFault>
-    requires ids { begins.now.ids.items ≡ ids (plan_view plan.now) }
-    requires lines { begins.now.lines.items ≡ lines_of_heads (plan_view plan.now) }
-    requires table { table.now.keys ≡ ids (plan_view plan.now) }
+fn shape_below(alloc: Global, plan: &PlanText<'_>, below: &Below) -> Result<Shape, TreeFault>
+    requires root { below.now.root.items ≡ map (place_of (ids (plan_view plan.now))) (plan_view plan.now).root.ids }
+    requires lists { lists_view below.now.lists ≡ places_of_lines (ids (plan_view plan.now)) (plan_view plan.now) }
     requires once { Once (ids (plan_view plan.now)) }
     requires known { (i : ℕ) → Contains (all_children (plan_view plan.now)) i → Contains (ids (plan_view plan.now)) i }
     requires single { Once (all_children (plan_view plan.now)) }
@@ -177,41 +180,26 @@ fn shape_of_children(
     ensures ok { IfOk result (λ s. FormTree (plan_view plan.now) × IsShape (plan_view plan.now) (shape_view s)) }
     ensures err { IfErr result (IsFormFault (plan_view plan.now)) }
 {
-    let below = places_below(alloc, plan, table)?;
-    let walk = walk_below(alloc, plan, begins, &below)?;
-    let shape = numbered(alloc, plan, &walk, &below)?;
+    let met = walk_below(alloc, plan, below)?;
+    let shape = numbered(alloc, plan, met, below)?;
     Ok(shape)
 }
 
-// A walk that has met all lines.
-fn walk_below(
-    alloc: Global,
-    plan: &PlanText<'_>,
-    begins: &Placed,
-    below: &Below,
-) -> Result<Walk, TreeFault>
-    requires ids { begins.now.ids.items ≡ ids (plan_view plan.now) }
-    requires lines { begins.now.lines.items ≡ lines_of_heads (plan_view plan.now) }
+// What a walk has met that has met all lines.
+fn walk_below(alloc: Global, plan: &PlanText<'_>, below: &Below) -> Result<Vec<usize>, TreeFault>
     requires root { below.now.root.items ≡ map (place_of (ids (plan_view plan.now))) (plan_view plan.now).root.ids }
-    requires lists { lists_of below.now.lists.items ≡ places_of_lines (ids (plan_view plan.now)) (plan_view plan.now) }
+    requires lists { lists_view below.now.lists ≡ places_of_lines (ids (plan_view plan.now)) (plan_view plan.now) }
     requires once { Once (ids (plan_view plan.now)) }
     requires known { (i : ℕ) → Contains (all_children (plan_view plan.now)) i → Contains (ids (plan_view plan.now)) i }
     requires none { NoneBelow (plan_view plan.now) 53 }
-    ensures walk { IfOk result (λ w. IsWalk below.now.root.items (kids (lists_of below.now.lists.items) (length plan.now.actions.items)) w.met.items w.is_met.items) }
-    ensures count { IfOk result (λ w. length w.is_met.items ≡ length (ids (plan_view plan.now))) }
-    ensures all { IfOk result (λ w. (k : ℕ) → k < length (ids (plan_view plan.now)) → is_marked w.is_met.items k ≡ true) }
+    ensures met { IfOk result (λ v. HasMetAll below.now.root.items (kids (lists_view below.now.lists) (length (plan_view plan.now).actions)) (length (ids (plan_view plan.now))) v.items) }
     ensures err { IfErr result (IsFormFault (plan_view plan.now)) }
 {
-    let walk = walk_from(
-        alloc,
-        plan.actions.len(),
-        begins.ids.len(),
-        &below.root,
-        &below.lists,
-    )?;
-    let unmet = first_unmet(&walk.is_met, &begins.lines);
+    let actions = plan.actions.len();
+    let walk = walk_from(alloc, actions, line_count(plan), &below.root, &below.lists)?;
+    let unmet = unmet_line(alloc, plan, &walk.is_met)?;
     none_at(plan, CauseKind::Unreached, unmet)?;
-    Ok(walk)
+    Ok(walk.met)
 }
 
 // A line, where it was not met.
@@ -221,7 +209,7 @@ fn line_unless(is_met: bool, line: u32) -> Option<u32>
     if is_met { None } else { Some(line) }
 }
 
-// The first line that was not met.
+// The first of lines that was not met.
 fn first_unmet(is_met: &[bool], lines: &[u32]) -> Option<u32>
     requires { length is_met.now ≡ length lines.now }
     ensures { IsFirst (IsMissed (is_marked is_met.now) lines.now (length is_met.now)) result }
@@ -233,20 +221,32 @@ fn first_unmet(is_met: &[bool], lines: &[u32]) -> Option<u32>
     found
 }
 
+// The first line that was not met.
+fn unmet_line(alloc: Global, plan: &PlanText<'_>, is_met: &[bool]) -> Result<Option<u32>, Memory>
+    requires { length is_met.now ≡ length (ids (plan_view plan.now)) }
+    ensures { IfOk result (IsFirst (IsMissed (is_marked is_met.now) (lines_of_heads (plan_view plan.now)) (length is_met.now))) }
+{
+    let lines = line_numbers(alloc, plan)?;
+    Ok(first_unmet(is_met, &lines))
+}
+
 // The shape of a plan whose lines were all met.
-fn numbered(alloc: Global, plan: &PlanText<'_>, walk: &Walk, below: &Below) -> Result<Shape, Memory>
+fn numbered(
+    alloc: Global,
+    plan: &PlanText<'_>,
+    met: Vec<usize>,
+    below: &Below,
+) -> Result<Shape, Memory>
     requires root { below.now.root.items ≡ map (place_of (ids (plan_view plan.now))) (plan_view plan.now).root.ids }
-    requires lists { lists_of below.now.lists.items ≡ places_of_lines (ids (plan_view plan.now)) (plan_view plan.now) }
+    requires lists { lists_view below.now.lists ≡ places_of_lines (ids (plan_view plan.now)) (plan_view plan.now) }
     requires once { Once (ids (plan_view plan.now)) }
     requires known { (i : ℕ) → Contains (all_children (plan_view plan.now)) i → Contains (ids (plan_view plan.now)) i }
     requires single { Once (all_children (plan_view plan.now)) }
-    requires walk { IsWalk below.now.root.items (kids (lists_of below.now.lists.items) (length plan.now.actions.items)) walk.now.met.items walk.now.is_met.items }
-    requires count { length walk.now.is_met.items ≡ length (ids (plan_view plan.now)) }
-    requires all { (k : ℕ) → k < length (ids (plan_view plan.now)) → is_marked walk.now.is_met.items k ≡ true }
+    requires met { HasMetAll below.now.root.items (kids (lists_view below.now.lists) (length (plan_view plan.now).actions)) (length (ids (plan_view plan.now))) met.items }
     ensures { IfOk result (λ s. FormTree (plan_view plan.now) × IsShape (plan_view plan.now) (shape_view s)) }
 {
     let actions = plan.actions.len();
-    let numbering = number_met(alloc, actions, below.lists.len(), &walk.met)?;
+    let numbering = number_met(alloc, actions, below.lists.len(), met)?;
     let children = node_children(alloc, actions, &numbering, &below.root, &below.lists)?;
     Ok(Shape {
         lines: numbering.lines,

@@ -1,16 +1,25 @@
 //! The tree that the lines of a plan form.
 
-ghost use Rattle.std.specs.Prelude.{◌≡◌, ◌<◌, map, option_map, slice_get, length};
+ghost use Rattle.std.specs.Prelude.{◌≡◌, map, option_map, option_and_then, slice_get, length, MatchOption};
 ghost use Rattle.hv_world.specs.Bindings.{object_number, ground_action_view};
-ghost use Rattle.hv_plan.specs.TreeViews.{child_view, node_view, tree_view};
+ghost use Rattle.hv_plan.specs.BuiltTrees.{nodes_view, tree_view};
+ghost use Rattle.hv_plan.specs.FitViews.{decomposed_line, decomposed_lines};
+ghost use Rattle.hv_plan.specs.LineViews.{action_view, decomposition_view, plan_view};
+ghost use Rattle.hv_plan.specs.NodeViews.{node_of, node_of_line, node_of_root};
+ghost use Rattle.hv_plan.specs.ShapeViews.{shape_view, children_of_node};
+ghost use Rattle.hv_plan.specs.TreeViews.{child_view, node_view};
 
+use crate::fit::lines::{DecomposedLine, DecomposedLines};
+use crate::plan::{ActionLine, DecompositionLine, PlanText};
+use crate::shape::Shape;
 use hv_world::{GroundAction, MethodId, ObjectId, TaskId};
 
-/// What stands below a node: an action by its place in plan order, or a node by its number.
+/// What stands below a node: an action by its place in plan order, or a node by its number. 32 bits
+/// are enough for the lines of every text.
 #[derive(Clone, Copy, Debug, PartialEq, Eq)]
 pub enum Child {
-    Action(usize),
-    Node(usize),
+    Action(u32),
+    Node(u32),
 }
 
 /// The line of a node and its number in the text; a decomposition line says an id, a task and a method.
@@ -27,25 +36,32 @@ pub(crate) enum Head {
     },
 }
 
-/// A line that has children: a decomposition line, or the root line.
-#[derive(Drop)]
-pub struct Node {
+/// A line that has children: a decomposition line, or the root line. It is lent by a tree.
+#[derive(Clone, Copy)]
+pub struct Node<'a> {
     pub(crate) head: Head,
-    pub(crate) objects: Vec<ObjectId>,
-    pub(crate) children: Vec<Child>,
+    pub(crate) objects: &'a [ObjectId],
+    pub(crate) children: &'a [Child],
 }
 
 /// The tree that the lines of a plan form: its actions, and its nodes, which name their children by
-/// number. Children stand before parents, so that no walk needs recursion.
+/// number. Children stand before parents, so that no walk needs recursion. What the lines say by
+/// themselves stays in the plan, which the tree borrows.
 #[derive(Drop)]
-pub struct Tree {
+pub struct Tree<'p, 's> {
+    pub(crate) plan: &'p PlanText<'s>,
     pub(crate) actions: Vec<GroundAction>,
-    pub(crate) action_ids: Vec<u64>,
-    pub(crate) nodes: Vec<Node>,
-    pub(crate) order: Vec<usize>,
+    pub(crate) said: DecomposedLines,
+    pub(crate) shape: Shape,
 }
 
-impl Node {
+/// The nodes of a tree, by number.
+#[derive(Clone, Copy)]
+pub struct Nodes<'a, 'p, 's> {
+    tree: &'a Tree<'p, 's>,
+}
+
+impl<'a> Node<'a> {
     /// Its id; the root line has none.
     pub fn id(&self) -> Option<u64>
         ensures { result ≡ (node_view self.now).id }
@@ -77,10 +93,10 @@ impl Node {
     }
 
     /// The objects of its task.
-    pub fn objects(&self) -> &[ObjectId]
+    pub fn objects(&self) -> &'a [ObjectId]
         ensures { map object_number result.now ≡ (node_view self.now).objects }
     {
-        &self.objects
+        self.objects
     }
 
     /// The method that decomposes its task; for the root line, which stands for the initial network, there is none.
@@ -94,14 +110,45 @@ impl Node {
     }
 
     /// What stands below it, in the order of the line.
-    pub fn children(&self) -> &[Child]
+    pub fn children(&self) -> &'a [Child]
         ensures { map child_view result.now ≡ (node_view self.now).children }
     {
-        &self.children
+        self.children
     }
 }
 
-impl Tree {
+// The node of a decomposition line that says this.
+fn line_node<'a>(
+    line: &DecompositionLine<'_, '_>,
+    said: DecomposedLine<'a>,
+    children: &'a [Child],
+) -> Node<'a>
+    ensures { node_view result ≡ node_of_line (decomposition_view line.now) (decomposed_line said.entry) (map child_view children.now) }
+{
+    Node {
+        head: Head::Decomposition {
+            line: line.line,
+            id: line.id,
+            task: said.task,
+            method: said.method,
+        },
+        objects: said.objects,
+        children,
+    }
+}
+
+// The node of the root line.
+fn root_node<'a>(line: u32, children: &'a [Child]) -> Node<'a>
+    ensures { node_view result ≡ node_of_root line (map child_view children.now) }
+{
+    Node {
+        head: Head::Root { line },
+        objects: &[],
+        children,
+    }
+}
+
+impl<'p, 's> Tree<'p, 's> {
     /// The actions, in plan order.
     pub fn actions(&self) -> &[GroundAction]
         ensures { map ground_action_view result.now ≡ (tree_view self.now).actions }
@@ -109,25 +156,81 @@ impl Tree {
         &self.actions
     }
 
+    // The line of the action of a place in plan order, where there is one.
+    fn action_line(&self, action: usize) -> Option<ActionLine<'_, 's>>
+        ensures { option_map action_view result ≡ slice_get (plan_view self.now.plan.now).actions action }
+    {
+        self.plan.actions.get(action)
+    }
+
     /// The id of the action of a place in plan order, where there is one.
     pub fn action_id(&self, action: usize) -> Option<u64>
         ensures { result ≡ slice_get (tree_view self.now).action_ids action }
     {
-        self.action_ids.get(action).copied()
+        let line = self.action_line(action)?;
+        Some(line.id)
     }
 
     /// The nodes by number, children before parents; the last is that of the root line.
-    pub fn nodes(&self) -> &[Node]
-        ensures { map node_view result.now ≡ (tree_view self.now).nodes }
+    pub fn nodes(&self) -> Nodes<'_, 'p, 's>
+        ensures { nodes_view result ≡ (tree_view self.now).nodes }
     {
-        &self.nodes
+        Nodes { tree: self }
+    }
+
+    // The place of the line of a node, where it is a decomposition line.
+    fn place_of(&self, node: usize) -> Option<usize>
+        ensures { result ≡ slice_get self.now.shape.lines.items node }
+    {
+        match self.shape.lines.get(node) {
+            Some(place) => Some(*place as usize),
+            None => None,
+        }
+    }
+
+    // The children of a node.
+    fn children_of(&self, node: usize) -> &[Child]
+        ensures { map child_view result.now ≡ children_of_node (shape_view self.now.shape) node }
+    {
+        self.shape.children.at(node)
+    }
+
+    // The node of a number, whose line has this place.
+    fn node_of_place(&self, node: usize, place: Option<usize>) -> Node<'_>
+        ensures { node_view result ≡ node_of (plan_view self.now.plan.now) (option_and_then (slice_get (plan_view self.now.plan.now).decompositions) place) (option_and_then (slice_get (decomposed_lines self.now.said)) place) (children_of_node (shape_view self.now.shape) node) }
+    {
+        let children = self.children_of(node);
+        let Some(place) = place else {
+            return root_node(self.plan.root_line, children);
+        };
+        let Some(line) = self.plan.decompositions.get(place) else {
+            return root_node(self.plan.root_line, children);
+        };
+        match self.said.get(place) {
+            Some(said) => line_node(&line, said, children),
+            None => root_node(self.plan.root_line, children),
+        }
     }
 
     /// The node of a number, where there is one.
-    pub fn node(&self, node: usize) -> Option<&Node>
-        ensures { option_map (λ n. node_view n.now) result ≡ slice_get (tree_view self.now).nodes node }
+    pub fn node(&self, node: usize) -> Option<Node<'_>>
+        ensures { option_map node_view result ≡ slice_get (tree_view self.now).nodes node }
     {
-        self.nodes.get(node)
+        if node <= self.shape.lines.len() {
+            Some(self.node_of_place(node, self.place_of(node)))
+        } else {
+            None
+        }
+    }
+
+    // The number of the node of the decomposition line at a place, where there is one.
+    fn number_of(&self, line: usize) -> Option<usize>
+        ensures { result ≡ slice_get self.now.shape.numbers.items line }
+    {
+        match self.shape.numbers.get(line) {
+            Some(number) => Some(*number as usize),
+            None => None,
+        }
     }
 
     /// The number of the k-th node in the order of nodes, where there is one: 0 is the root line, and
@@ -135,6 +238,25 @@ impl Tree {
     pub fn node_at(&self, k: usize) -> Option<usize>
         ensures { result ≡ slice_get (tree_view self.now).order k }
     {
-        self.order.get(k).copied()
+        match k.checked_sub(1) {
+            None => Some(self.shape.lines.len()),
+            Some(line) => self.number_of(line),
+        }
+    }
+}
+
+impl<'a, 'p, 's> Nodes<'a, 'p, 's> {
+    /// How many nodes there are; one at least, since the root line has one.
+    pub fn len(&self) -> usize
+        ensures { result ≡ length (nodes_view self.now) }
+    {
+        self.tree.shape.lines.len() + 1
+    }
+
+    /// The node of a number, where there is one.
+    pub fn get(&self, node: usize) -> Option<Node<'a>>
+        ensures { option_map node_view result ≡ slice_get (nodes_view self.now) node }
+    {
+        self.tree.node(node)
     }
 }

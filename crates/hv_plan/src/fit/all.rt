@@ -5,15 +5,16 @@ ghost use Rattle.std.specs.List.{AllZip};
 ghost use Rattle.hv_world.specs.Bindings.{ground_action_view};
 ghost use Rattle.hv_world.specs.WorldViews.{world_view};
 ghost use Rattle.hv_plan.specs.Causes.{IsTreeFault};
-ghost use Rattle.hv_plan.specs.FitViews.{IsDecomposed, AreFitted, kept, cause_at};
+ghost use Rattle.hv_plan.specs.FitViews.{decomposed_view, decomposed_lines, AreTidy, IsDecomposed, AreFitted, kept, cause_at};
 ghost use Rattle.hv_plan.specs.LineFaults.{action_entry, line_entry, earlier};
-ghost use Rattle.hv_plan.specs.LineViews.{action_view, decomposition_view, plan_view};
+ghost use Rattle.hv_plan.specs.LineViews.{actions_view, decompositions_view, plan_view};
 ghost use Rattle.hv_plan.specs.PlanTrees.{IsActionOf};
 ghost use Rattle.hv_plan.specs.Shapes.{FormTree};
 
 use crate::cause::{Cause, CauseKind, TreeFault, earlier};
+use crate::fit::lines::DecomposedLines;
 use crate::fit::{Decomposed, fit_action, fit_line};
-use crate::plan::{ActionLine, DecompositionLine, PlanText};
+use crate::plan::{ActionLines, DecompositionLines, PlanText};
 use hv_text::Memory;
 use hv_world::{GroundAction, World};
 use std::alloc::Global;
@@ -22,7 +23,7 @@ use std::alloc::Global;
 #[derive(Drop)]
 pub(crate) struct Fits {
     pub(crate) actions: Vec<GroundAction>,
-    pub(crate) lines: Vec<Decomposed>,
+    pub(crate) lines: DecomposedLines,
 }
 
 // What action lines say, and the cause that is reported of them.
@@ -35,7 +36,7 @@ struct FittedActions {
 // What decomposition lines say, and the cause that is reported of them.
 #[derive(Drop)]
 struct FittedLines {
-    lines: Vec<Decomposed>,
+    lines: DecomposedLines,
     cause: Option<Cause>,
 }
 
@@ -56,17 +57,37 @@ fn note<T: Drop>(
     Ok(())
 }
 
+// Notes what a decomposition line says, or the cause where it comes before the one that was found.
+fn note_line(
+    lines: &mut DecomposedLines,
+    cause: &mut Option<Cause>,
+    fit: Result<Decomposed, CauseKind>,
+    line: u32,
+) -> Result<(), Memory>
+    requires { AreTidy lines.old }
+    ensures lines { OnOk result (decomposed_lines lines.new ≡ decomposed_lines lines.old ++ map decomposed_view (kept fit)) }
+    ensures tidy { OnOk result (AreTidy lines.new) }
+    ensures cause { OnOk result (cause.new ≡ earlier cause.old (cause_at fit line)) }
+{
+    match fit {
+        Ok(item) => lines.push(item)?,
+        Err(kind) => *cause = earlier(*cause, Some(Cause { kind, line })),
+    }
+    Ok(())
+}
+
 // What action lines say.
 fn fit_actions<'s>(
     alloc: Global,
     world: &World<'s>,
-    lines: &[ActionLine<'s>],
+    lines: &ActionLines<'s>,
 ) -> Result<FittedActions, Memory>
-    ensures { IfOk result (λ f. AreFitted (world_view world.now) action_entry (IsActionOf (world_view world.now)) (map action_view lines.now) (map ground_action_view f.actions.items) f.cause) }
+    ensures { IfOk result (λ f. AreFitted (world_view world.now) action_entry (IsActionOf (world_view world.now)) (actions_view lines.now) (map ground_action_view f.actions.items) f.cause) }
 {
     let mut actions = Vec::with_capacity(alloc, lines.len())?;
     let mut cause = None;
-    for line in lines {
+    for place in 0..lines.len() {
+        let line = lines.at(place);
         let fit = fit_action(alloc, world, line)?;
         note(&mut actions, &mut cause, fit, line.line)?;
     }
@@ -77,15 +98,16 @@ fn fit_actions<'s>(
 fn fit_lines<'s>(
     alloc: Global,
     world: &World<'s>,
-    decompositions: &[DecompositionLine<'s>],
+    decompositions: &DecompositionLines<'s>,
 ) -> Result<FittedLines, Memory>
-    ensures { IfOk result (λ f. AreFitted (world_view world.now) line_entry (IsDecomposed (world_view world.now)) (map decomposition_view decompositions.now) f.lines.items f.cause) }
+    ensures { IfOk result (λ f. AreFitted (world_view world.now) line_entry (IsDecomposed (world_view world.now)) (decompositions_view decompositions.now) (decomposed_lines f.lines) f.cause) }
 {
-    let mut lines = Vec::with_capacity(alloc, decompositions.len())?;
+    let mut lines = DecomposedLines::with_capacity(alloc, decompositions.len())?;
     let mut cause = None;
-    for line in decompositions {
+    for place in 0..decompositions.len() {
+        let line = decompositions.at(place);
         let fit = fit_line(alloc, world, line)?;
-        note(&mut lines, &mut cause, fit, line.line)?;
+        note_line(&mut lines, &mut cause, fit, line.line)?;
     }
     Ok(FittedLines { lines, cause })
 }
@@ -103,7 +125,7 @@ pub(crate) fn fit<'s>(
 ) -> Result<Fits, TreeFault>
     requires { FormTree (plan_view plan.now) }
     ensures actions { IfOk result (λ f. AllZip (IsActionOf (world_view world.now)) (plan_view plan.now).actions (map ground_action_view f.actions.items)) }
-    ensures lines { IfOk result (λ f. AllZip (IsDecomposed (world_view world.now)) (plan_view plan.now).decompositions f.lines.items) }
+    ensures lines { IfOk result (λ f. AllZip (IsDecomposed (world_view world.now)) (plan_view plan.now).decompositions (decomposed_lines f.lines)) }
     ensures err { IfErr result (IsTreeFault (world_view world.now) (plan_view plan.now)) }
 {
     let FittedActions { actions, cause } = fit_actions(alloc, world, &plan.actions)?;

@@ -2,11 +2,11 @@
 
 ghost use Rattle.std.specs.Prelude.{◌≡◌, ◌++◌, map, length, IfOk, OnOk};
 ghost use Rattle.std.specs.List.{flat_map};
-ghost use Rattle.hv_plan.specs.LineViews.{action_view, decomposition_view, plan_view};
+ghost use Rattle.hv_plan.specs.LineViews.{actions_view, decompositions_view, plan_view};
 ghost use Rattle.hv_plan.specs.Shapes.{ids, heads, all_children, line_parent};
 ghost use Rattle.hv_plan.specs.Shaping.{lines_of_heads, lines_of_children, child_lines};
 
-use crate::plan::{ActionLine, DecompositionLine, PlanText};
+use crate::plan::{ActionLines, DecompositionLines, PlanText};
 use hv_text::Memory;
 use std::alloc::Global;
 
@@ -17,13 +17,15 @@ pub(super) struct Placed {
     pub(super) lines: Vec<u32>,
 }
 
-// How many lines there are, the root line aside.
-fn line_count(plan: &PlanText<'_>) -> usize {
-    plan.actions.len().saturating_add(plan.decompositions.len())
+/// How many lines there are, the root line aside.
+pub(super) fn line_count(plan: &PlanText<'_>) -> usize
+    ensures { result ≡ length (ids (plan_view plan.now)) }
+{
+    plan.actions.len() + plan.decompositions.len()
 }
 
-// The ids of action lines and then of decomposition lines.
-fn line_ids(alloc: Global, plan: &PlanText<'_>) -> Result<Vec<u64>, Memory>
+/// The ids of action lines and then of decomposition lines.
+pub(super) fn line_ids(alloc: Global, plan: &PlanText<'_>) -> Result<Vec<u64>, Memory>
     ensures { IfOk result (λ v. v.items ≡ ids (plan_view plan.now)) }
 {
     let mut ids = Vec::with_capacity(alloc, line_count(plan))?;
@@ -32,26 +34,26 @@ fn line_ids(alloc: Global, plan: &PlanText<'_>) -> Result<Vec<u64>, Memory>
     Ok(ids)
 }
 
-fn push_action_ids(ids: &mut Vec<u64>, actions: &[ActionLine<'_>]) -> Result<(), Memory>
-    ensures { OnOk result (ids.new.items ≡ ids.old.items ++ map (λ a. a.id) (map action_view actions.now)) }
+fn push_action_ids(ids: &mut Vec<u64>, lines: &ActionLines<'_>) -> Result<(), Memory>
+    ensures { OnOk result (ids.new.items ≡ ids.old.items ++ map (λ a. a.id) (actions_view lines.now)) }
 {
-    for action in actions {
-        ids.push(action.id)?;
+    for place in 0..lines.len() {
+        ids.push(lines.at(place).id)?;
     }
     Ok(())
 }
 
-fn push_decomposition_ids(ids: &mut Vec<u64>, lines: &[DecompositionLine<'_>]) -> Result<(), Memory>
-    ensures { OnOk result (ids.new.items ≡ ids.old.items ++ map (λ d. d.id) (map decomposition_view lines.now)) }
+fn push_decomposition_ids(ids: &mut Vec<u64>, lines: &DecompositionLines<'_>) -> Result<(), Memory>
+    ensures { OnOk result (ids.new.items ≡ ids.old.items ++ map (λ d. d.id) (decompositions_view lines.now)) }
 {
-    for line in lines {
-        ids.push(line.id)?;
+    for place in 0..lines.len() {
+        ids.push(lines.at(place).id)?;
     }
     Ok(())
 }
 
-// The numbers of action lines and then of decomposition lines.
-fn line_numbers(alloc: Global, plan: &PlanText<'_>) -> Result<Vec<u32>, Memory>
+/// The numbers of action lines and then of decomposition lines.
+pub(super) fn line_numbers(alloc: Global, plan: &PlanText<'_>) -> Result<Vec<u32>, Memory>
     ensures { IfOk result (λ v. v.items ≡ lines_of_heads (plan_view plan.now)) }
 {
     let mut lines = Vec::with_capacity(alloc, line_count(plan))?;
@@ -60,23 +62,23 @@ fn line_numbers(alloc: Global, plan: &PlanText<'_>) -> Result<Vec<u32>, Memory>
     Ok(lines)
 }
 
-fn push_action_numbers(numbers: &mut Vec<u32>, actions: &[ActionLine<'_>]) -> Result<(), Memory>
-    ensures { OnOk result (numbers.new.items ≡ numbers.old.items ++ map (λ a. a.line) (map action_view actions.now)) }
+fn push_action_numbers(numbers: &mut Vec<u32>, lines: &ActionLines<'_>) -> Result<(), Memory>
+    ensures { OnOk result (numbers.new.items ≡ numbers.old.items ++ map (λ a. a.line) (actions_view lines.now)) }
 {
-    for action in actions {
-        numbers.push(action.line)?;
+    for place in 0..lines.len() {
+        numbers.push(lines.at(place).line)?;
     }
     Ok(())
 }
 
 fn push_decomposition_numbers(
     numbers: &mut Vec<u32>,
-    lines: &[DecompositionLine<'_>],
+    lines: &DecompositionLines<'_>,
 ) -> Result<(), Memory>
-    ensures { OnOk result (numbers.new.items ≡ numbers.old.items ++ map (λ d. d.line) (map decomposition_view lines.now)) }
+    ensures { OnOk result (numbers.new.items ≡ numbers.old.items ++ map (λ d. d.line) (decompositions_view lines.now)) }
 {
-    for line in lines {
-        numbers.push(line.line)?;
+    for place in 0..lines.len() {
+        numbers.push(lines.at(place).line)?;
     }
     Ok(())
 }
@@ -92,21 +94,27 @@ pub(super) fn begins(alloc: Global, plan: &PlanText<'_>) -> Result<Placed, Memor
     Ok(Placed { ids, lines })
 }
 
+// How many children there are.
+fn child_count(plan: &PlanText<'_>) -> usize {
+    let below = plan.decompositions.child_count();
+    plan.root.len().saturating_add(below)
+}
+
 // All children, those of the root line first.
 fn child_ids(alloc: Global, plan: &PlanText<'_>) -> Result<Vec<u64>, Memory>
     ensures { IfOk result (λ v. v.items ≡ all_children (plan_view plan.now)) }
 {
-    let mut ids = Vec::new(alloc);
+    let mut ids = Vec::with_capacity(alloc, child_count(plan))?;
     ids.extend_from_slice(&plan.root)?;
     push_child_ids(&mut ids, &plan.decompositions)?;
     Ok(ids)
 }
 
-fn push_child_ids(ids: &mut Vec<u64>, lines: &[DecompositionLine<'_>]) -> Result<(), Memory>
-    ensures { OnOk result (ids.new.items ≡ ids.old.items ++ flat_map (λ q. q.children) (map line_parent (map decomposition_view lines.now))) }
+fn push_child_ids(ids: &mut Vec<u64>, lines: &DecompositionLines<'_>) -> Result<(), Memory>
+    ensures { OnOk result (ids.new.items ≡ ids.old.items ++ flat_map (λ q. q.children) (map line_parent (decompositions_view lines.now))) }
 {
-    for line in lines {
-        ids.extend_from_slice(&line.children)?;
+    for place in 0..lines.len() {
+        ids.extend_from_slice(lines.at(place).children)?;
     }
     Ok(())
 }
@@ -115,17 +123,18 @@ fn push_child_ids(ids: &mut Vec<u64>, lines: &[DecompositionLine<'_>]) -> Result
 fn child_numbers(alloc: Global, plan: &PlanText<'_>) -> Result<Vec<u32>, Memory>
     ensures { IfOk result (λ v. v.items ≡ lines_of_children (plan_view plan.now)) }
 {
-    let mut lines = Vec::new(alloc);
+    let mut lines = Vec::with_capacity(alloc, child_count(plan))?;
     push_number(&mut lines, plan.root_line, &plan.root)?;
     push_child_numbers(&mut lines, &plan.decompositions)?;
     Ok(lines)
 }
 
-fn push_child_numbers(numbers: &mut Vec<u32>, lines: &[DecompositionLine<'_>]) -> Result<(), Memory>
-    ensures { OnOk result (numbers.new.items ≡ numbers.old.items ++ flat_map child_lines (map line_parent (map decomposition_view lines.now))) }
+fn push_child_numbers(numbers: &mut Vec<u32>, lines: &DecompositionLines<'_>) -> Result<(), Memory>
+    ensures { OnOk result (numbers.new.items ≡ numbers.old.items ++ flat_map child_lines (map line_parent (decompositions_view lines.now))) }
 {
-    for line in lines {
-        push_number(numbers, line.line, &line.children)?;
+    for place in 0..lines.len() {
+        let line = lines.at(place);
+        push_number(numbers, line.line, line.children)?;
     }
     Ok(())
 }

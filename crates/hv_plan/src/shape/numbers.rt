@@ -1,11 +1,12 @@
 //! The numbers of nodes, children before parents.
 
-ghost use Rattle.std.specs.Prelude.{◌≡◌, ℕ, ◌+◌, ◌<◌, ◌≤◌, ◌∷◌, [], ◌++◌, map, length, slice_index, slice_index_or, Contains, IfOk, OnOk};
+ghost use Rattle.std.specs.Prelude.{◌≡◌, ℕ, ◌+◌, ◌<◌, ◌≤◌, ◌∷◌, [], ◌++◌, map, length, slice_index, slice_index_or, slice_set, Contains, IfOk, OnOk};
 ghost use Rattle.hv_world.specs.Lists.{Once};
+ghost use Rattle.hv_plan.specs.Lists.{lists_view, IsTidy};
 ghost use Rattle.hv_plan.specs.TreeViews.{child_view};
-ghost use Rattle.hv_plan.specs.Shaping.{lists_of, IsNumbering, item, items_at, children_by_number, items_of};
+ghost use Rattle.hv_plan.specs.Shaping.{IsNumbering, item, items_at, children_by_number};
 
-use super::walk::list_at;
+use crate::lists::Lists;
 use crate::tree::Child;
 use hv_text::Memory;
 use std::alloc::Global;
@@ -13,8 +14,31 @@ use std::alloc::Global;
 /// The decomposition lines by number, and the number of each.
 #[derive(Drop)]
 pub(super) struct Numbering {
-    pub(super) lines: Vec<usize>,
-    pub(super) numbers: Vec<usize>,
+    pub(super) lines: Vec<u32>,
+    pub(super) numbers: Vec<u32>,
+}
+
+// A number in 32 bits, which are enough for the lines of every text; `Memory` where it has more.
+fn short(number: usize) -> Result<u32, Memory>
+    ensures { IfOk result (λ short. short ≡ number) }
+{
+    match u32::try_from(number) {
+        Ok(short) => Ok(short),
+        Err(_) => Err(Memory),
+    }
+}
+
+// Gives the line of a place the next number.
+fn number_line(numbering: &mut Numbering, line: usize) -> Result<(), Memory>
+    requires { line < length numbering.old.numbers.items }
+    ensures lines { OnOk result (numbering.new.lines.items ≡ numbering.old.lines.items ++ line ∷ []) }
+    ensures numbers { OnOk result (numbering.new.numbers.items ≡ slice_set numbering.old.numbers.items line (length numbering.old.lines.items)) }
+{
+    let number = short(numbering.lines.len())?;
+    let place = short(line)?;
+    numbering.numbers[line] = number;
+    numbering.lines.push(place)?;
+    Ok(())
 }
 
 // Gives what was met at a place of a walk the next number; an action line gets none.
@@ -32,23 +56,22 @@ fn give_number(
     ensures so_far { OnOk result (IsNumbering actions at met.now numbering.new.lines.items numbering.new.numbers.items) }
 {
     if let Some(line) = met[at].checked_sub(actions) {
-        numbering.numbers[line] = numbering.lines.len();
-        numbering.lines.push(line)?;
+        number_line(numbering, line)?;
     }
     Ok(())
 }
 
-/// The numbers of the decomposition lines that a walk has met, the last of them first.
+/// The numbers of the decomposition lines that a walk has met, the last of them first. What was met is dropped.
 pub(super) fn number_met(
     alloc: Global,
     actions: usize,
     count: usize,
-    met: &[usize],
+    met: Vec<usize>,
 ) -> Result<Numbering, Memory>
-    requires once { Once met.now }
-    requires within { (b : ℕ) → b < length met.now → slice_index met.now b < actions + count }
+    requires once { Once met.items }
+    requires within { (b : ℕ) → b < length met.items → slice_index met.items b < actions + count }
     ensures count { IfOk result (λ n. length n.numbers.items ≡ count) }
-    ensures numbering { IfOk result (λ n. IsNumbering actions 0 met.now n.lines.items n.numbers.items) }
+    ensures numbering { IfOk result (λ n. IsNumbering actions 0 met.items n.lines.items n.numbers.items) }
 {
     let mut numbering = Numbering {
         lines: Vec::with_capacity(alloc, count)?,
@@ -57,20 +80,20 @@ pub(super) fn number_met(
     let mut at = met.len();
     'met: while at > 0 {
         at -= 1;
-        give_number(&mut numbering, actions, met, at)?;
+        give_number(&mut numbering, actions, &met, at)?;
     }
     Ok(numbering)
 }
 
 // What stands at a place: an action, or the node of a line.
-fn item(actions: usize, numbers: &[usize], place: usize) -> Child
+fn item(actions: usize, numbers: &[u32], place: usize) -> Result<Child, Memory>
     requires { place < actions + length numbers.now }
-    ensures { child_view result ≡ item actions numbers.now place }
+    ensures { IfOk result (λ c. child_view c ≡ item actions numbers.now place) }
 {
     if place < actions {
-        Child::Action(place)
+        Ok(Child::Action(short(place)?))
     } else {
-        Child::Node(numbers[place - actions])
+        Ok(Child::Node(numbers[place - actions]))
     }
 }
 
@@ -78,7 +101,7 @@ fn item(actions: usize, numbers: &[usize], place: usize) -> Child
 fn items(
     alloc: Global,
     actions: usize,
-    numbers: &[usize],
+    numbers: &[u32],
     places: &[usize],
 ) -> Result<Vec<Child>, Memory>
     requires { (c : ℕ) → Contains places.now c → c < actions + length numbers.now }
@@ -86,7 +109,7 @@ fn items(
 {
     let mut items = Vec::with_capacity(alloc, places.len())?;
     for place in places {
-        items.push(item(actions, numbers, *place))?;
+        items.push(item(actions, numbers, *place)?)?;
     }
     Ok(items)
 }
@@ -95,15 +118,17 @@ fn items(
 fn push_items(
     alloc: Global,
     actions: usize,
-    numbers: &[usize],
-    children: &mut Vec<Vec<Child>>,
+    numbers: &[u32],
+    children: &mut Lists<Child>,
     places: &[usize],
 ) -> Result<(), Memory>
-    requires { (c : ℕ) → Contains places.now c → c < actions + length numbers.now }
-    ensures { OnOk result (items_of children.new.items ≡ items_of children.old.items ++ items_at actions numbers.now places.now ∷ []) }
+    requires tidy { IsTidy children.old }
+    requires places { (c : ℕ) → Contains places.now c → c < actions + length numbers.now }
+    ensures children { OnOk result (map (map child_view) (lists_view children.new) ≡ map (map child_view) (lists_view children.old) ++ items_at actions numbers.now places.now ∷ []) }
+    ensures tidy { OnOk result (IsTidy children.new) }
 {
     let items = items(alloc, actions, numbers, places)?;
-    children.push(items)?;
+    children.push(&items)?;
     Ok(())
 }
 
@@ -113,20 +138,20 @@ pub(super) fn node_children(
     actions: usize,
     numbering: &Numbering,
     root: &[usize],
-    lists: &[Vec<usize>],
-) -> Result<Vec<Vec<Child>>, Memory>
+    lists: &Lists<usize>,
+) -> Result<Lists<Child>, Memory>
     requires root { (c : ℕ) → Contains root.now c → c < actions + length numbering.now.numbers.items }
-    requires lists { (k c : ℕ) → Contains (slice_index_or (lists_of lists.now) k []) c → c < actions + length numbering.now.numbers.items }
-    ensures { IfOk result (λ v. items_of v.items ≡ children_by_number actions numbering.now.lines.items numbering.now.numbers.items root.now (lists_of lists.now)) }
+    requires lists { (k c : ℕ) → Contains (slice_index_or (lists_view lists.now) k []) c → c < actions + length numbering.now.numbers.items }
+    ensures { IfOk result (λ ls. map (map child_view) (lists_view ls) ≡ children_by_number actions numbering.now.lines.items numbering.now.numbers.items root.now (lists_view lists.now)) }
 {
-    let mut children = Vec::with_capacity(alloc, numbering.lines.len().saturating_add(1))?;
+    let mut children = Lists::with_capacity(alloc, numbering.lines.len().saturating_add(1))?;
     for line in &numbering.lines {
         push_items(
             alloc,
             actions,
             &numbering.numbers,
             &mut children,
-            list_at(lists, *line),
+            lists.at(*line as usize),
         )?;
     }
     push_items(alloc, actions, &numbering.numbers, &mut children, root)?;

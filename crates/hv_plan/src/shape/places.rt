@@ -2,18 +2,22 @@
 
 ghost use Rattle.std.specs.Prelude.{◌≡◌, ◌++◌, ◌∷◌, [], map, length, IfOk, OnOk};
 ghost use Rattle.hv_world.specs.Lists.{Once};
-ghost use Rattle.hv_plan.specs.LineViews.{decomposition_view};
-ghost use Rattle.hv_plan.specs.Shaping.{place_of, lists_of, is_known, IsFirst, IsMissed};
+ghost use Rattle.hv_plan.specs.LineViews.{decompositions_view, plan_view};
+ghost use Rattle.hv_plan.specs.Lists.{lists_view, IsTidy};
+ghost use Rattle.hv_plan.specs.Shapes.{ids, all_children};
+ghost use Rattle.hv_plan.specs.Shaping.{place_of, is_known, IsFirst, IsMissed, lines_of_children};
 
+use super::begins::{children, line_ids};
 use super::repeats::earlier;
 use super::seed::Seeded;
-use crate::plan::DecompositionLine;
+use crate::lists::Lists;
+use crate::plan::{DecompositionLines, PlanText};
 use hv_text::Memory;
 use indexmap::IndexSet;
 use std::alloc::Global;
 
-/// The table of ids, each with its place.
-pub(super) fn table(alloc: Global, ids: &[u64]) -> Result<IndexSet<u64, Seeded>, Memory>
+// The table of ids, each with its place.
+fn table(alloc: Global, ids: &[u64]) -> Result<IndexSet<u64, Seeded>, Memory>
     requires { Once ids.now }
     ensures { IfOk result (λ t. t.keys ≡ ids.now) }
 {
@@ -24,8 +28,18 @@ pub(super) fn table(alloc: Global, ids: &[u64]) -> Result<IndexSet<u64, Seeded>,
     Ok(table)
 }
 
-/// The first line of those on which an id stands that is not in the table.
-pub(super) fn unknown_id(table: &IndexSet<u64, Seeded>, ids: &[u64], lines: &[u32]) -> Option<u32>
+/// The table of the ids that begin lines, each with the place of its line.
+pub(super) fn id_table(alloc: Global, plan: &PlanText<'_>) -> Result<IndexSet<u64, Seeded>, Memory>
+    requires { Once (ids (plan_view plan.now)) }
+    ensures { IfOk result (λ t. t.keys ≡ ids (plan_view plan.now)) }
+{
+    let ids = line_ids(alloc, plan)?;
+    let table = table(alloc, &ids)?;
+    Ok(table)
+}
+
+// The first line of those on which an id stands that is not in the table.
+fn unknown_id(table: &IndexSet<u64, Seeded>, ids: &[u64], lines: &[u32]) -> Option<u32>
     requires { length ids.now ≡ length lines.now }
     ensures { IsFirst (IsMissed (is_known table.now.keys ids.now) lines.now (length ids.now)) result }
 {
@@ -36,6 +50,18 @@ pub(super) fn unknown_id(table: &IndexSet<u64, Seeded>, ids: &[u64], lines: &[u3
         }
     }
     found
+}
+
+/// The first line that names a child which is not in the table.
+pub(super) fn unknown_child(
+    alloc: Global,
+    plan: &PlanText<'_>,
+    table: &IndexSet<u64, Seeded>,
+) -> Result<Option<u32>, Memory>
+    ensures { IfOk result (IsFirst (IsMissed (is_known table.now.keys (all_children (plan_view plan.now))) (lines_of_children (plan_view plan.now)) (length (all_children (plan_view plan.now))))) }
+{
+    let children = children(alloc, plan)?;
+    Ok(unknown_id(table, &children.ids, &children.lines))
 }
 
 // The place of an id; that behind the last where it has none.
@@ -67,13 +93,15 @@ pub(super) fn places_of(
 fn push_places(
     alloc: Global,
     table: &IndexSet<u64, Seeded>,
-    lists: &mut Vec<Vec<usize>>,
+    lists: &mut Lists<usize>,
     children: &[u64],
 ) -> Result<(), Memory>
-    ensures { OnOk result (lists_of lists.new.items ≡ lists_of lists.old.items ++ map (place_of table.now.keys) children.now ∷ []) }
+    requires { IsTidy lists.old }
+    ensures lists { OnOk result (lists_view lists.new ≡ lists_view lists.old ++ map (place_of table.now.keys) children.now ∷ []) }
+    ensures tidy { OnOk result (IsTidy lists.new) }
 {
     let places = places_of(alloc, table, children)?;
-    lists.push(places)?;
+    lists.push(&places)?;
     Ok(())
 }
 
@@ -81,13 +109,13 @@ fn push_places(
 pub(super) fn child_places(
     alloc: Global,
     table: &IndexSet<u64, Seeded>,
-    lines: &[DecompositionLine<'_>],
-) -> Result<Vec<Vec<usize>>, Memory>
-    ensures { IfOk result (λ v. lists_of v.items ≡ map (λ d. map (place_of table.now.keys) d.children) (map decomposition_view lines.now)) }
+    lines: &DecompositionLines<'_>,
+) -> Result<Lists<usize>, Memory>
+    ensures { IfOk result (λ ls. lists_view ls ≡ map (λ d. map (place_of table.now.keys) d.children) (decompositions_view lines.now)) }
 {
-    let mut lists = Vec::with_capacity(alloc, lines.len())?;
-    for line in lines {
-        push_places(alloc, table, &mut lists, &line.children)?;
+    let mut lists = Lists::with_capacity(alloc, lines.len())?;
+    for place in 0..lines.len() {
+        push_places(alloc, table, &mut lists, lines.at(place).children)?;
     }
     Ok(lists)
 }

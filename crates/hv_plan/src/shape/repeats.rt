@@ -3,9 +3,13 @@
 ghost use Rattle.std.specs.Prelude.{◌≡◌, ℕ, Some, nat_eq, length, IfOk, OnOk};
 ghost use Rattle.std.specs.Map.{update};
 ghost use Rattle.indexmap.specs.IndexMap as table;
-ghost use Rattle.hv_plan.specs.Shaping.{first_of, again_of, earlier, IsFirst, IsRepeat};
+ghost use Rattle.hv_plan.specs.LineViews.{plan_view};
+ghost use Rattle.hv_plan.specs.Shapes.{ids, all_children};
+ghost use Rattle.hv_plan.specs.Shaping.{first_of, again_of, earlier, IsFirst, IsRepeat, lines_of_heads, lines_of_children};
 
+use super::begins::{begins, children};
 use super::seed::Seeded;
+use crate::plan::PlanText;
 use hv_text::Memory;
 use indexmap::IndexMap;
 use std::alloc::Global;
@@ -40,9 +44,9 @@ fn note(
     Ok(Some(first.max(line)))
 }
 
-/// Where an id stands on two places: the later of their lines; of all these lines the first. An id
-/// stands at its place's line.
-pub(super) fn first_repeat(alloc: Global, ids: &[u64], lines: &[u32]) -> Result<Option<u32>, Memory>
+// Where an id stands on two places: the later of their lines; of all these lines the first. An id
+// stands at its place's line.
+fn first_repeat(alloc: Global, ids: &[u64], lines: &[u32]) -> Result<Option<u32>, Memory>
     requires { length ids.now ≡ length lines.now }
     ensures { IfOk result (IsFirst (IsRepeat ids.now lines.now (length ids.now))) }
 {
@@ -53,4 +57,22 @@ pub(super) fn first_repeat(alloc: Global, ids: &[u64], lines: &[u32]) -> Result<
         found = earlier(found, again);
     }
     Ok(found)
+}
+
+/// Where an id begins two lines: the later of them; of all these lines the first.
+pub(super) fn repeated_id(alloc: Global, plan: &PlanText<'_>) -> Result<Option<u32>, Memory>
+    ensures { IfOk result (IsFirst (IsRepeat (ids (plan_view plan.now)) (lines_of_heads (plan_view plan.now)) (length (ids (plan_view plan.now))))) }
+{
+    let begins = begins(alloc, plan)?;
+    let repeat = first_repeat(alloc, &begins.ids, &begins.lines)?;
+    Ok(repeat)
+}
+
+/// Where an id is a child twice: the later of the lines that name it; of all these lines the first.
+pub(super) fn second_parent(alloc: Global, plan: &PlanText<'_>) -> Result<Option<u32>, Memory>
+    ensures { IfOk result (IsFirst (IsRepeat (all_children (plan_view plan.now)) (lines_of_children (plan_view plan.now)) (length (all_children (plan_view plan.now))))) }
+{
+    let children = children(alloc, plan)?;
+    let repeat = first_repeat(alloc, &children.ids, &children.lines)?;
+    Ok(repeat)
 }

@@ -1,8 +1,10 @@
 //! A walk from the root line down.
 
-ghost use Rattle.std.specs.Prelude.{◌≡◌, ℕ, ◌<◌, ◌∷◌, [], length, slice_index_or, Contains, IfOk, OnOk};
-ghost use Rattle.hv_plan.specs.Shaping.{lists_of, kids, IsMeeting, Grows, IsWalk};
+ghost use Rattle.std.specs.Prelude.{◌≡◌, ℕ, ◌<◌, ◌∷◌, [], length, Contains, IfOk, OnOk};
+ghost use Rattle.hv_plan.specs.Lists.{lists_view};
+ghost use Rattle.hv_plan.specs.Shaping.{kids, IsMeeting, Grows, IsWalk};
 
+use crate::lists::Lists;
 use hv_text::Memory;
 use std::alloc::Global;
 
@@ -43,21 +45,11 @@ fn meet_all(walk: &mut Walk, places: &[usize]) -> Result<(), Memory>
 }
 
 /// The places of the children of a place: an action line has none.
-fn kids(lists: &[Vec<usize>], actions: usize, place: usize) -> &[usize]
-    ensures { result.now ≡ kids (lists_of lists.now) actions place }
+fn kids(lists: &Lists<usize>, actions: usize, place: usize) -> &[usize]
+    ensures { result.now ≡ kids (lists_view lists.now) actions place }
 {
     match place.checked_sub(actions) {
-        Some(line) => list_at(lists, line),
-        None => &[],
-    }
-}
-
-/// The list of a line; an empty one where there is none.
-pub(super) fn list_at(lists: &[Vec<usize>], line: usize) -> &[usize]
-    ensures { result.now ≡ slice_index_or (lists_of lists.now) line [] }
-{
-    match lists.get(line) {
-        Some(list) => list,
+        Some(line) => lists.at(line),
         None => &[],
     }
 }
@@ -68,11 +60,11 @@ pub(super) fn walk_from(
     actions: usize,
     count: usize,
     root: &[usize],
-    lists: &[Vec<usize>],
+    lists: &Lists<usize>,
 ) -> Result<Walk, Memory>
     requires root { (c : ℕ) → Contains root.now c → c < count }
-    requires lists { (v c : ℕ) → Contains (kids (lists_of lists.now) actions v) c → c < count }
-    ensures walk { IfOk result (λ w. IsWalk root.now (kids (lists_of lists.now) actions) w.met.items w.is_met.items) }
+    requires lists { (v c : ℕ) → Contains (kids (lists_view lists.now) actions v) c → c < count }
+    ensures walk { IfOk result (λ w. IsWalk root.now (kids (lists_view lists.now) actions) w.met.items w.is_met.items) }
     ensures count { IfOk result (λ w. length w.is_met.items ≡ count) }
 {
     let mut walk = Walk {

@@ -1,16 +1,14 @@
-use Rattle.std.proofs.Common.{◌≡◌, ◌<◌, ◌∙◌, ◌∷◌, [], Some, length, map, slice_get, sym, ap, refl, rules, arith, subst}
-use Rattle.std.proofs.lemmas.List.{length-map}
+use Rattle.std.proofs.Common.{◌≡◌, ◌<◌, ◌∙◌, ◌∷◌, [], Some, length, map, sym, ap, refl, rules, arith, subst}
 use Rattle.hv_world.specs.MethodViews.{method_view}
 use Rattle.hv_world.specs.WorldViews.{world_view}
-use Rattle.hv_plan.specs.ChildFaults.{IsChildFault, ChildFaultIn, IsMethodCause, said_name}
-use Rattle.hv_plan.specs.Fits.{names_of}
+use Rattle.hv_plan.specs.ChildFaults.{IsChildFault, ChildFaultIn}
 use Rattle.hv_plan.specs.LineFaults.{IsEarliest}
-use Rattle.hv_plan.specs.LineViews.{decomposition_view, plan_view}
+use Rattle.hv_plan.specs.LineViews.{plan_view}
 use Rattle.hv_plan.specs.Shapes.{root_parent, line_parent, parents}
 use Rattle.hv_plan.specs.ShapeViews.{shape_view}
-use Rattle.hv_plan.specs.Shaping.{items_of}
+use Rattle.hv_plan.specs.Lists.{lists_view}
 use Rattle.hv_plan.specs.TreeViews.{child_view}
-use Rattle.hv_plan.proofs.ChildLemmas.{slice_get_here, mapped_here, names_are_numbered, names_of_items, root_stands_at, earliest_of_children}
+use Rattle.hv_plan.proofs.ChildLemmas.{list_here, names_are_numbered, names_of_items, root_stands_at, earliest_of_children}
 use Rattle.hv_plan.proofs.EarliestLemmas.{earliest_of_lists}
 use Rattle.hv_plan.proofs.build.children_cause.Goals as goal
 
@@ -19,15 +17,13 @@ method_cause-requires-clause-known c =
     let w = world_view c.args.methods.now.world.now in
     let p = plan_view c.args.plan.now in
     let s = shape_view c.args.shape.now in
-    let kids = c.args.shape.now.children.items in
+    let kids = lists_view c.args.shape.now.children in
     let n : c.len.result ≡ length c.args.shape.now.lines.items = search rules in
     let root : c.len.result ≡ length p.decompositions = n ∙ c.requires.shape.as_many_lines in
-    let e : length (items_of kids) ≡ length kids = length-map kids (λ v. map child_view v.items) in
-    let lt : c.len.result < length kids = omega (arith, root, e, c.requires.shape.as_many_nodes) in
-    let below = mapped_here (λ v. map child_view v.items) kids c.len.result c.index-children.result.now (slice_get_here kids c.len.result c.index-children.result.now lt c.index-children.ensures) in
-    rw c.deref.ensures.value
-    (names_are_numbered w c.args.methods.now.sizes.tasks c.args.methods.now.sizes.actions c.requires.sizes p s c.args.methods.now.said c.requires.said p.root.ids (map child_view c.index-children.result.now.items)
-    (root_stands_at p s c.requires.shape c.len.result (map child_view c.index-children.result.now.items) root below))
+    let lt : c.len.result < length s.children = omega (arith, root, c.requires.shape.as_many_nodes) in
+    let below = list_here child_view kids c.len.result c.at-children.result.now lt c.at-children.ensures in
+    (names_are_numbered w c.args.methods.now.sizes.tasks c.args.methods.now.sizes.actions c.requires.sizes p s c.args.methods.now.said c.requires.said p.root.ids (map child_view c.at-children.result.now)
+    (root_stands_at p s c.requires.shape c.len.result (map child_view c.at-children.result.now) root below))
 
 pub returns : goal.returns
 returns c =
@@ -35,15 +31,14 @@ returns c =
     let p = plan_view c.args.plan.now in
     let s = shape_view c.args.shape.now in
     let x = c.args.methods.now.said in
-    let kids = c.args.shape.now.children.items in
+    let kids = lists_view c.args.shape.now.children in
     let n : c.len.result ≡ length c.args.shape.now.lines.items = search rules in
     let root : c.len.result ≡ length p.decompositions = n ∙ c.requires.shape.as_many_lines in
-    let e : length (items_of kids) ≡ length kids = length-map kids (λ v. map child_view v.items) in
-    let lt : c.len.result < length kids = omega (arith, root, e, c.requires.shape.as_many_nodes) in
-    let below = mapped_here (λ v. map child_view v.items) kids c.len.result c.index-children.result.now (slice_get_here kids c.len.result c.index-children.result.now lt c.index-children.ensures) in
-    let stands = root_stands_at p s c.requires.shape c.len.result (map child_view c.index-children.result.now.items) root below in
-    let their = names_of_items w c.args.methods.now.sizes.tasks c.args.methods.now.sizes.actions c.requires.sizes p s x c.requires.said p.root.ids (map child_view c.index-children.result.now.items) stands in
-    let found = rw c.deref.ensures.value at c.in_ok-root.ensures.cause in
+    let lt : c.len.result < length s.children = omega (arith, root, c.requires.shape.as_many_nodes) in
+    let below = list_here child_view kids c.len.result c.at-children.result.now lt c.at-children.ensures in
+    let stands = root_stands_at p s c.requires.shape c.len.result (map child_view c.at-children.result.now) root below in
+    let their = names_of_items w c.args.methods.now.sizes.tasks c.args.methods.now.sizes.actions c.requires.sizes p s x c.requires.said p.root.ids (map child_view c.at-children.result.now) stands in
+    let found = c.in_ok-root.ensures.cause in
     let of_root = earliest_of_children w p c.requires.form (root_parent p.root) (method_view c.top-top.result.now) (ap Some (sym c.top-top.ensures)) their.names their.named p.root.line c.in_ok-root.root refl (found their.names their.found) in
     subst (λ o. IsEarliest (ChildFaultIn w p (parents p)) o) (sym c.earlier.ensures)
     (earliest_of_lists (IsChildFault w p) (λ q. q.line) (root_parent p.root ∷ []) (map line_parent p.decompositions) c.in_ok-root.root c.in_ok-lines.lines of_root c.in_ok-lines.ensures)

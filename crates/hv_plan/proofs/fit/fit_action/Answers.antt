@@ -11,13 +11,13 @@ use Rattle.hv_plan.proofs.fit.fit_action.Goals as goal
 pub returns-in-Err : goal.returns-in-Err
 returns-in-Err c =
     let w = world_view c.args.world.now in
-    let a = action_view c.args.line.now in
+    let a = action_view c.args.line in
     argument_fault w (action_entry a) (name_view c.in-Some.name) (sym c.in-Some.ensures) (λ f. has_no_method w a f) c.in-Err.kind
-    (rw (c.in-Err.is, c.deref.ensures.value) at c.in_ok-objects.ensures)
+    (rw c.in-Err.is at c.in_ok-objects.ensures)
 
 pub returns-in-Compound : goal.returns-in-Compound
 returns-in-Compound c =
     let w = world_view c.args.world.now in
-    let a = action_view c.args.line.now in
-    let fits = rw (c.in-Ok.is, c.deref.ensures.value, c.in-Compound.is) at c.in_ok-objects.ensures in
+    let a = action_view c.args.line in
+    let fits = rw (c.in-Ok.is, c.in-Compound.is) at c.in_ok-objects.ensures in
     names_task w a c.in-Compound.field-0.0 (map object_number c.in-Ok.objects.items) (sym (rw c.in-Compound.is at c.in-Some.ensures)) fits.0 fits.1

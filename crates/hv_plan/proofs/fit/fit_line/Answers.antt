@@ -10,23 +10,23 @@ use Rattle.hv_plan.proofs.fit.fit_line.Goals as goal
 pub returns-in-Err : goal.returns-in-Err
 returns-in-Err c =
     let w = world_view c.args.world.now in
-    let d = decomposition_view c.args.line.now in
+    let d = decomposition_view c.args.line in
     argument_fault w (line_entry d) (name_view c.in-Some.name) (sym c.in-Some.ensures)
     (λ f. method_known w d c.in-Some-method_named.method.0 (sym c.in-Some-method_named.ensures) f) c.in-Err.kind
-    (rw (c.in-Err.is, c.deref.ensures.value) at c.in_ok-objects.ensures)
+    (rw c.in-Err.is at c.in_ok-objects.ensures)
 
 pub returns-else-is_for : goal.returns-else-is_for
 returns-else-is_for c =
     let w = world_view c.args.world.now in
-    let d = decomposition_view c.args.line.now in
-    let fits = rw (c.in-Ok.is, c.deref.ensures.value, c.in-Compound.is) at c.in_ok-objects.ensures in
+    let d = decomposition_view c.args.line in
+    let fits = rw (c.in-Ok.is, c.in-Compound.is) at c.in_ok-objects.ensures in
     not_for_task w d c.in-Compound.task.0 c.in-Some-method_named.method.0 (map object_number c.in-Ok.objects.items) (sym (rw c.in-Compound.is at c.in-Some.ensures))
     (sym c.in-Some-method_named.ensures) fits.0 fits.1 (λ x. not_true c.is_for.result c.if-is_for.false (c.is_for.ensures.1 x))
 
 pub returns-in-Primitive : goal.returns-in-Primitive
 returns-in-Primitive c =
     let w = world_view c.args.world.now in
-    let d = decomposition_view c.args.line.now in
-    let fits = rw (c.in-Ok.is, c.deref.ensures.value, c.in-Primitive.is) at c.in_ok-objects.ensures in
+    let d = decomposition_view c.args.line in
+    let fits = rw (c.in-Ok.is, c.in-Primitive.is) at c.in_ok-objects.ensures in
     names_action w d c.in-Primitive.field-0.0 c.in-Some-method_named.method.0 (map object_number c.in-Ok.objects.items) (sym (rw c.in-Primitive.is at c.in-Some.ensures))
     (sym c.in-Some-method_named.ensures) fits.0 fits.1

@@ -1,9 +1,9 @@
-use Rattle.std.proofs.Common.{◌≡◌, length, map, sym, ap, ◌∙◌, subst, arith, true, Bool}
+use Rattle.std.proofs.Common.{◌≡◌, length, map, sym, ap, ◌∙◌, subst, arith}
 use Rattle.std.proofs.lemmas.List.{length-map}
 use Rattle.hv_world.specs.Bindings.{object_number}
-use Rattle.hv_world.specs.Views.{name_view, type_number}
+use Rattle.hv_world.specs.Views.{type_number}
 use Rattle.hv_world.specs.WorldViews.{world_view}
-use Rattle.hv_plan.specs.Fits.{parameters_of, AreOf}
+use Rattle.hv_plan.specs.Fits.{AreOf}
 use Rattle.hv_plan.specs.LineFaults.{count, type}
 use Rattle.hv_plan.proofs.FitLemmas.{not_true}
 use Rattle.hv_plan.proofs.fit.objects_fault.Goals as goal

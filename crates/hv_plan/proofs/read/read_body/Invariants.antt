@@ -1,7 +1,7 @@
-use Rattle.std.proofs.Common.{◌≡◌, ◌++◌, length, map, is_some, false}
+use Rattle.std.proofs.Common.{◌≡◌, ◌++◌, length, is_some, false}
 use Rattle.hv_plan.specs.Lines.{before_end}
 use Rattle.hv_plan.specs.Views.{lines_left, IsWithin}
-use Rattle.hv_plan.specs.LineViews.{action_view, decomposition_view}
+use Rattle.hv_plan.specs.LineViews.{actions_view, decompositions_view, AreTidy, AreTidyActions}
 use Rattle.hv_plan.specs.Plans.{actions_of, decompositions_of, roots_of, fault_from}
 use Rattle.hv_plan.proofs.Lemmas.{found_roots}
 use Rattle.hv_plan.proofs.read.read_body.Given as goal
@@ -10,10 +10,12 @@ use Rattle.hv_plan.proofs.read.read_body.Given as goal
 abbrev pub invariant-lines : goal.invariant-lines
 invariant-lines l =
     IsWithin l.lines
-    × (map action_view l.actions.items ++ actions_of (before_end (lines_left l.lines)) ≡ actions_of (before_end (lines_left l.fn.lines)))
-    × (map decomposition_view l.decompositions.items ++ decompositions_of (before_end (lines_left l.lines)) ≡ decompositions_of (before_end (lines_left l.fn.lines)))
+    × (actions_view l.actions ++ actions_of (before_end (lines_left l.lines)) ≡ actions_of (before_end (lines_left l.fn.lines)))
+    × (decompositions_view l.decompositions ++ decompositions_of (before_end (lines_left l.lines)) ≡ decompositions_of (before_end (lines_left l.fn.lines)))
     × (found_roots l.root ++ roots_of (before_end (lines_left l.lines)) ≡ roots_of (before_end (lines_left l.fn.lines)))
     × (fault_from (is_some l.root) (before_end (lines_left l.lines)) ≡ fault_from false (before_end (lines_left l.fn.lines)))
+    × AreTidyActions l.actions
+    × AreTidy l.decompositions
 
 abbrev pub decreases-lines : goal.decreases-lines
 decreases-lines l = length l.lines.left.now

@@ -1,25 +1,18 @@
-use Rattle.std.proofs.Common.{ℕ, Option, subst, ◌∙◌, length}
+use Rattle.std.proofs.Common.{ℕ, Option, subst, length}
 use Rattle.hv_plan.specs.LineViews.{plan_view}
 use Rattle.hv_plan.specs.Shapes.{ids}
 use Rattle.hv_plan.specs.Shaping.{IsFirst, IsRepeat, lines_of_heads}
-use Rattle.hv_plan.proofs.ShapeFaults.{none_below, repeats_are, repeats_moved, no_repeat}
+use Rattle.hv_plan.proofs.ShapeFaults.{none_below, repeats_are, no_repeat}
 use Rattle.hv_plan.proofs.shape.check_ids.Goals as goal
 
 pub none_at-requires-clause-below : goal.none_at-requires-clause-below
 none_at-requires-clause-below c = none_below (plan_view c.args.plan.now)
 
 pub none_at-requires-clause-first : goal.none_at-requires-clause-first
-none_at-requires-clause-first c =
-    let p = plan_view c.args.plan.now in
-    repeats_are p c.requires.order c.in_ok-repeat.repeat
-    (repeats_moved c.deref.result.now (ids p) c.deref-2.result.now (lines_of_heads p) c.in_ok-repeat.repeat (c.deref.ensures.value ∙ c.requires.ids) (c.deref-2.ensures.value ∙ c.requires.lines)
-    c.in_ok-repeat.ensures)
+none_at-requires-clause-first c = repeats_are (plan_view c.args.plan.now) c.requires c.in_ok-repeat.repeat c.in_ok-repeat.ensures
 
 pub returns-clause-once : goal.returns-clause-once
 returns-clause-once c =
     let p = plan_view c.args.plan.now in
     let P : Option ℕ → Type 0 = IsFirst (IsRepeat (ids p) (lines_of_heads p) (length (ids p))) in
-    no_repeat (ids p) (lines_of_heads p)
-    (subst P c.in_ok-none_at.ensures.none
-    (repeats_moved c.deref.result.now (ids p) c.deref-2.result.now (lines_of_heads p) c.in_ok-repeat.repeat (c.deref.ensures.value ∙ c.requires.ids) (c.deref-2.ensures.value ∙ c.requires.lines)
-    c.in_ok-repeat.ensures))
+    no_repeat (ids p) (lines_of_heads p) (subst P c.in_ok-none_at.ensures.none c.in_ok-repeat.ensures)

@@ -2,7 +2,7 @@ use Rattle.std.proofs.Common.{◌≡◌, ℕ, length, get_or, map, take}
 use Rattle.hv_world.specs.WorldViews.{world_view}
 use Rattle.hv_plan.specs.ChildFaults.{ChildFaultIn}
 use Rattle.hv_plan.specs.LineFaults.{IsEarliest}
-use Rattle.hv_plan.specs.LineViews.{decomposition_view, plan_view}
+use Rattle.hv_plan.specs.LineViews.{plan_view}
 use Rattle.hv_plan.specs.Shapes.{line_parent}
 use Rattle.hv_plan.proofs.build.Methods.lines_cause.Given as goal
 
@@ -11,4 +11,4 @@ abbrev pub invariant-loop-place : goal.invariant-loop-place
 invariant-loop-place l =
     (length l.counts ≡ length l.fn.counts)
     × ((n : ℕ) → get_or l.counts n 0 ≡ 0)
-    × IsEarliest (ChildFaultIn (world_view l.self.world.now) (plan_view l.plan) (map line_parent (map decomposition_view (take l.place l.plan.decompositions.items)))) l.cause
+    × IsEarliest (ChildFaultIn (world_view l.self.world.now) (plan_view l.plan) (map line_parent (take l.place (plan_view l.plan).decompositions))) l.cause

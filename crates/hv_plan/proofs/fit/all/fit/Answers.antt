@@ -10,8 +10,8 @@ pub returns-in-Some-clause-err : goal.returns-in-Some-clause-err
 returns-in-Some-clause-err c =
     let w = world_view c.args.world.now in
     let p = plan_view c.args.plan.now in
-    let a = rw c.deref.ensures.value at c.in_ok-actions.ensures in
-    let b = rw c.deref-2.ensures.value at c.in_ok-lines.ensures in
+    let a = c.in_ok-actions.ensures in
+    let b = c.in_ok-lines.ensures in
     let z : c.earlier.result ≡ Some c.in-Some.cause = c.in-Some.is in
     let is : earlier c.in_ok-actions.field-0.cause c.in_ok-lines.field-0.cause ≡ Some c.in-Some.cause = sym c.earlier.ensures ∙ z in
     fault_is_cause w p (form_has_no_cause w p c.requires) c.in-Some.cause

@@ -1,15 +1,15 @@
 use Rattle.hv_world.specs.Bindings.{ground_action_view}
 use Rattle.hv_world.specs.WorldViews.{world_view}
 use Rattle.hv_plan.specs.LineFaults.{action_entry}
-use Rattle.hv_plan.specs.LineViews.{action_view}
+use Rattle.hv_plan.specs.LineViews.{action_view, actions_view}
 use Rattle.hv_plan.specs.PlanTrees.{IsActionOf}
 use Rattle.hv_plan.proofs.FitLemmas.{action_has_no_fault}
 use Rattle.hv_plan.proofs.EarliestLemmas.{fitted_step}
 use Rattle.hv_plan.proofs.fit.all.fit_actions.Goals as goal
 
-pub loop-line-preserved : goal.loop-line-preserved
-loop-line-preserved c =
+pub loop-place-preserved : goal.loop-place-preserved
+loop-place-preserved c =
     let w = world_view c.args.world.now in
-    fitted_step w action_entry (IsActionOf w) (λ a g says k f. action_has_no_fault w a g.action g.objects says k f) ground_action_view action_view
-    c.args.lines.now c.loop-line.line-index c.line-item.result c.loop-line.actions.items c.note.new.items.items c.loop-line.cause c.note.new.cause c.in_ok-fit.fit
-    c.loop-line-test.true c.line-item.is c.loop-line.invariant c.in_ok-fit.ensures c.in_ok-note.ensures.items c.in_ok-note.ensures.cause
+    fitted_step w action_entry (IsActionOf w) (λ a g says k f. action_has_no_fault w a g.action g.objects says k f) ground_action_view
+    (actions_view c.args.lines.now) c.loop-place.place (action_view c.at-line.result) c.loop-place.actions.items c.note.new.items.items c.loop-place.cause c.note.new.cause c.in_ok-fit.fit
+    c.at-line.ensures c.loop-place.invariant c.in_ok-fit.ensures c.in_ok-note.ensures.items c.in_ok-note.ensures.cause

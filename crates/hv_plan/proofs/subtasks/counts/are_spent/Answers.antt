@@ -1,4 +1,4 @@
-use Rattle.std.proofs.Common.{◌≡◌, get_or, take, sym, arith}
+use Rattle.std.proofs.Common.{◌≡◌, get_or, take, sym}
 use Rattle.std.proofs.lemmas.List.{take_all}
 use Rattle.std.proofs.lemmas.List.Elements.{All-more, All-same}
 use Rattle.hv_plan.proofs.subtasks.counts.are_spent.Goals as goal

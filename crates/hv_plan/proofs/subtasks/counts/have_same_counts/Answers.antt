@@ -1,4 +1,4 @@
-use Rattle.std.proofs.Common.{◌≡◌, ◌≤◌, ℕ, get_or, arith}
+use Rattle.std.proofs.Common.{◌≡◌, ◌≤◌, get_or, arith}
 use Rattle.std.proofs.lemmas.List.Elements.{All-contains}
 use Rattle.hv_plan.specs.Tallies.{times}
 use Rattle.hv_plan.proofs.TallyLemmas.{emptied, same_or_not, counted_left}
