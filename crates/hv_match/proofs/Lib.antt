@@ -6,7 +6,8 @@ pub mod Turns
 pub mod Factors
 pub mod Bounds
 pub mod Keys
-pub mod Named
+pub mod MayDo
+pub mod Rows
 pub mod FirstPlaces
 pub mod Paths
 pub mod Whole

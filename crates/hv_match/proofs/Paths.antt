@@ -5,9 +5,8 @@ use Rattle.std.specs.List.{AllZip}
 use Rattle.hv_world.specs.Values.{Subtask}
 use Rattle.hv_match.specs.Lists.{Mem}
 use Rattle.hv_match.specs.Search.{IsPath}
-use Rattle.hv_match.specs.Puzzles.{Work, Puzzle, child_at, bound, pick, has_name, places_of, options, Done, IsMatch}
-use Rattle.hv_match.proofs.Factors.{name_itself}
-use Rattle.hv_match.proofs.Named.{places_there}
+use Rattle.hv_match.specs.Puzzles.{Work, Puzzle, child_at, bound, pick, may_do, places_where, options, Done, IsMatch}
+use Rattle.hv_match.proofs.MayDo.{places_there, done_may}
 use Rattle.hv_match.proofs.FirstPlaces.{forced_bound}
 
 path_from : (f : List ℕ → List ℕ) (p xs : List ℕ) → ((ys : List ℕ) (x : ℕ) (zs : List ℕ) → xs ≡ ys ++ x ∷ zs → Mem (f (p ++ ys)) x) → IsPath f p xs
@@ -69,12 +68,12 @@ candidate_path pz M B c = path_from (options pz) [] (M ++ B) (λ ys x zs e. go y
     param us x zs e i j (Some o) b = let f : o ≡ get_or B i 0 = forced_bound pz M B us i o c b in let k : get_or B i 0 ≡ x = rw (e, j) (at_split us x zs) in inl (f ∙ k)
 
     go : (ys : List ℕ) (x : ℕ) (zs : List ℕ) → M ++ B ≡ ys ++ x ∷ zs → (o : Option Subtask) → slice_get pz.subtasks (length ys) ≡ o →
-        Mem (elim o [ Some s ↦ places_of s.name 0 pz.children | None ↦ pick (bound pz ys (length ys - length pz.subtasks)) (get_or pz.ranges (length ys - length pz.subtasks) []) ]) x
+        Mem (elim o [ Some s ↦ places_where (may_do s) 0 pz.children | None ↦ pick (bound pz ys (length ys - length pz.subtasks)) (get_or pz.ranges (length ys - length pz.subtasks) []) ]) x
     go ys x zs e (Some s) b =
         let d = done_at pz.children B M B ys x zs pz.subtasks s c.done e b in
-        let n : has_name s.name (child_at pz.children x) ≡ true = ap (has_name s.name) d ∙ name_itself s.name in
+        let n : may_do s (child_at pz.children x) ≡ true = ap (may_do s) d ∙ done_may s B in
         let z : 0 + x ≡ x = omega arith in
-        subst (λ y. Mem (places_of s.name 0 pz.children) y) z (places_there s.name 0 pz.children x n)
+        subst (λ y. Mem (places_where (may_do s) 0 pz.children) y) z (places_there (may_do s) 0 pz.children x refl n)
     go ys x zs e None b =
         let ge : length pz.subtasks ≤ length ys = past_all pz.subtasks (length ys) b in
         let r = split_right M B ys x zs e (omega (arith, size)) in

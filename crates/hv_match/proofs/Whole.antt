@@ -6,8 +6,8 @@ use Rattle.hv_world.specs.Values.{Subtask}
 use Rattle.hv_world.specs.Alike.{is_free, Key, key, keys, subtask_instance}
 use Rattle.hv_match.specs.Lists.{Mem, Once}
 use Rattle.hv_match.specs.Search.{IsWanted, below}
-use Rattle.hv_match.specs.Puzzles.{Puzzle, bound, pick, places_of, options, IsMatch, widths, ways}
-use Rattle.hv_match.proofs.Named.{places_once}
+use Rattle.hv_match.specs.Puzzles.{Puzzle, bound, pick, may_do, places_where, options, IsMatch, widths, ways}
+use Rattle.hv_match.proofs.MayDo.{places_once}
 use Rattle.hv_match.proofs.FirstPlaces.{free_unbound, bound_some}
 use Rattle.hv_match.specs.Counts.{product}
 use Rattle.hv_match.specs.Counting.{first_alike, rising, tower, IsMatching}
@@ -18,8 +18,8 @@ use Rattle.hv_match.proofs.Keys.{child_key, matching}
 pub options_once : (pz : Puzzle) → ((i : ℕ) → Once (get_or pz.ranges i [])) → (p : List ℕ) → Once (options pz p)
 options_once pz o p = go (slice_get pz.subtasks (length p)) (bound pz p (length p - length pz.subtasks))
   where
-    go : (b : Option Subtask) (r : Option ℕ) → Once (elim b [ Some s ↦ places_of s.name 0 pz.children | None ↦ pick r (get_or pz.ranges (length p - length pz.subtasks) []) ])
-    go (Some s) r = places_once s.name 0 pz.children
+    go : (b : Option Subtask) (r : Option ℕ) → Once (elim b [ Some s ↦ places_where (may_do s) 0 pz.children | None ↦ pick r (get_or pz.ranges (length p - length pz.subtasks) []) ])
+    go (Some s) r = places_once (may_do s) 0 pz.children
     go None None = o (length p - length pz.subtasks)
     go None (Some x) = (λ m. m, tt)
 
@@ -30,7 +30,7 @@ no_more (s ∷ ss) (suc i) h = no_more ss i (omega arith)
 
 object_options : (pz : Puzzle) (q : List ℕ) → length pz.subtasks ≤ length q → options pz q ≡ pick (bound pz q (length q - length pz.subtasks)) (get_or pz.ranges (length q - length pz.subtasks) [])
 object_options pz q h =
-    ap (λ (o : Option Subtask). elim o [ Some s ↦ places_of s.name 0 pz.children | None ↦ pick (bound pz q (length q - length pz.subtasks)) (get_or pz.ranges (length q - length pz.subtasks) []) ]) (no_more pz.subtasks (length q) h)
+    ap (λ (o : Option Subtask). elim o [ Some s ↦ places_where (may_do s) 0 pz.children | None ↦ pick (bound pz q (length q - length pz.subtasks)) (get_or pz.ranges (length q - length pz.subtasks) []) ]) (no_more pz.subtasks (length q) h)
 
 take_past : (n : ℕ) (p : List ℕ) (y : ℕ) (t : List ℕ) → length p < n → (u : List ℕ) × (take n (p ++ y ∷ t) ≡ p ++ y ∷ u)
 take_past zero p y t h = absurd (omega arith)

@@ -3,6 +3,7 @@ use Rattle.std.specs.Prelude.{◌≡◌, ◌<◌, ◌*◌, ℕ, ◌+◌, ◌-◌
 use Rattle.std.specs.List.{AllZip}
 use Rattle.hv_world.specs.Values.{Term, object, variable, TaskName, Subtask, Constraint}
 use Rattle.hv_world.specs.Alike.{same_name, is_variable, is_free, keys}
+use Rattle.hv_world.specs.Alike.Kept.{is_object}
 use Rattle.hv_match.specs.Lists.{Mem, Once}
 use Rattle.hv_match.specs.Counts.{product}
 use Rattle.hv_match.specs.Counting.{rising}
@@ -72,19 +73,34 @@ pick None os = os
 abbrev pub range_of : Puzzle → ℕ → List ℕ
 range_of p i = slice_index_or p.ranges i []
 
--- whether a child does what has this name
-abbrev pub has_name : TaskName → Option Work → Bool
-has_name n None = false
-has_name n (Some c) = same_name c.name n
+-- whether all terms are objects
+abbrev pub is_ground : List Term → Bool
+is_ground [] = true
+is_ground (t ∷ ts) = is_object t && is_ground ts
 
--- the places of the children that do, the first of the children at place k
-abbrev pub places_of : TaskName → ℕ → List (Option Work) → List ℕ
-places_of n k [] = []
-places_of n k (c ∷ cs) = if has_name n c then k ∷ places_of n (k + 1) cs else places_of n (k + 1) cs
+-- the objects are those of the terms under B
+abbrev pub same_values : List ℕ → List Term → List ℕ → Bool
+same_values B [] [] = true
+same_values B (t ∷ ts) (o ∷ os) = nat_eq (object_of B t) o && same_values B ts os
+same_values B _ _ = false
+
+-- whether a child may do a subtask, by its name, and, where all terms of the subtask are objects, by its objects
+abbrev pub may_do : Subtask → Option Work → Bool
+may_do s None = false
+may_do s (Some c) = same_name c.name s.name && (if is_ground s.terms then same_values [] s.terms c.objects else true)
+
+-- the places of the children that pass a test, the first of the children at place k
+abbrev pub places_where : (Option Work → Bool) → ℕ → List (Option Work) → List ℕ
+places_where test k [] = []
+places_where test k (c ∷ cs) = if test c then k ∷ places_where test (k + 1) cs else places_where test (k + 1) cs
+
+-- the places of the children that may do the subtask of a number
+abbrev pub children_for : Puzzle → ℕ → List ℕ
+children_for p j = elim (slice_get p.subtasks j) [ None ↦ [] | Some s ↦ places_where (may_do s) 0 p.children ]
 
 abbrev pub options : Puzzle → List ℕ → List ℕ
 options p q = elim (slice_get p.subtasks (length q)) [
-  | Some s ↦ places_of s.name 0 p.children
+  | Some s ↦ places_where (may_do s) 0 p.children
   | None ↦ pick (bound p q (length q - length p.subtasks)) (range_of p (length q - length p.subtasks))
 ]
 
@@ -108,12 +124,6 @@ abbrev pub are_in : List ℕ → List (List ℕ) → Bool
 are_in [] [] = true
 are_in (o ∷ os) (r ∷ rs) = has o r && are_in os rs
 are_in _ _ = false
-
--- the objects are those of the terms under B
-abbrev pub same_values : List ℕ → List Term → List ℕ → Bool
-same_values B [] [] = true
-same_values B (t ∷ ts) (o ∷ os) = nat_eq (object_of B t) o && same_values B ts os
-same_values B _ _ = false
 
 abbrev pub does : Option Work → List ℕ → Subtask → Bool
 does None B s = false

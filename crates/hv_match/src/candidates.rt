@@ -3,7 +3,8 @@
 ghost use Rattle.std.specs.Prelude.{◌≡◌, ◌≢◌, ◌↔◌, ◌≤◌, ◌∷◌, [], ℕ, List, AllPairs, Contains, length, map, IfOk, OnErr, MatchOption};
 ghost use Rattle.hv_world.specs.MethodViews.{method_view};
 ghost use Rattle.hv_world.specs.WorldViews.{world_view};
-ghost use Rattle.hv_plan.specs.TreeViews.{node_view, tree_view};
+ghost use Rattle.hv_plan.specs.BuiltTrees.{tree_view};
+ghost use Rattle.hv_plan.specs.TreeViews.{node_view};
 ghost use Rattle.hv_match.specs.Candidates.{IsNode, IsCandidate, IsCandidateAt, child_tasks};
 ghost use Rattle.hv_world.specs.Bindings.{object_number};
 ghost use Rattle.hv_match.specs.Counts.{IsCount, IsCountAt};
@@ -97,8 +98,8 @@ impl<'a> Candidates<'a> {
     fn of_method(
         alloc: Global,
         world: &'a World<'_>,
-        tree: &'a Tree,
-        node: &'a Node,
+        tree: &'a Tree<'_, '_>,
+        node: &Node<'a>,
         method: &'a Method<'_>,
     ) -> Result<Candidates<'a>, Memory>
         ensures exact { IfOk result (λ c. (M B : List ℕ) → Contains c (M, B) ↔ IsCandidate (world_view world.now) (method_view method.now) (node_view node.now).objects (child_tasks (tree_view tree.now) (node_view node.now)) M B) }
@@ -117,7 +118,7 @@ impl<'a> Candidates<'a> {
     pub fn new(
         alloc: Global,
         world: &'a World<'_>,
-        tree: &'a Tree,
+        tree: &'a Tree<'_, '_>,
         node: usize,
     ) -> Result<Candidates<'a>, Memory>
         requires { IsNode (world_view world.now) (tree_view tree.now) node }
@@ -126,8 +127,8 @@ impl<'a> Candidates<'a> {
         ensures few { IfOk result (λ c. (k : ℕ) → IsCountAt (world_view world.now) (tree_view tree.now) node k → length c ≤ k) }
     {
         match tree.node(node) {
-            Some(node) => match node_method(world, node) {
-                Some(method) => Candidates::of_method(alloc, world, tree, node, method),
+            Some(node) => match node_method(world, &node) {
+                Some(method) => Candidates::of_method(alloc, world, tree, &node, method),
                 None => unreachable!(),
             },
             None => unreachable!(),

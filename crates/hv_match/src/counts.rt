@@ -3,7 +3,7 @@
 ghost use Rattle.std.specs.Prelude.{◌≡◌, ◌↔◌, ◌*◌, ◌-◌, ◌<◌, ◌^◌, ℕ, List, map, min, IsTrue, length, slice_index};
 ghost use Rattle.hv_world.specs.MethodViews.{method_view};
 ghost use Rattle.hv_world.specs.WorldViews.{world_view};
-ghost use Rattle.hv_plan.specs.TreeViews.{tree_view};
+ghost use Rattle.hv_plan.specs.BuiltTrees.{tree_view};
 ghost use Rattle.hv_match.specs.Candidates.{IsNode};
 ghost use Rattle.hv_match.specs.Counts.{factorial, product, free, AreChoices, AreSoMany, IsCount, IsCountAt};
 ghost use Rattle.hv_match.specs.Numbers.{in_64_bits};
@@ -108,7 +108,7 @@ pub(crate) fn is_greater(world: &World<'_>, method: &Method<'_>, limit: u64) -> 
 /// How many candidates a node may have at most, by its method alone: for each class of alike
 /// subtasks the factorial of its size, times for each free parameter the number of objects of its
 /// type. A greater number than a `u64` holds counts as the greatest that it does.
-pub fn count(world: &World<'_>, tree: &Tree, node: usize) -> u64
+pub fn count(world: &World<'_>, tree: &Tree<'_, '_>, node: usize) -> u64
     requires { IsNode (world_view world.now) (tree_view tree.now) node }
     ensures { (k : ℕ) × IsCountAt (world_view world.now) (tree_view tree.now) node k × (result ≡ min k (2 ^ 64 - 1)) }
 {
@@ -119,7 +119,7 @@ pub fn count(world: &World<'_>, tree: &Tree, node: usize) -> u64
 }
 
 /// Whether the count of a node, however great it is, is greater than a limit.
-pub fn exceeds(world: &World<'_>, tree: &Tree, node: usize, limit: u64) -> bool
+pub fn exceeds(world: &World<'_>, tree: &Tree<'_, '_>, node: usize, limit: u64) -> bool
     requires { IsNode (world_view world.now) (tree_view tree.now) node }
     ensures { (k : ℕ) × IsCountAt (world_view world.now) (tree_view tree.now) node k × (IsTrue result ↔ (limit < k)) }
 {

@@ -1,5 +1,8 @@
 //! Which constraints are decided when a parameter has its object.
 
+ghost use Rattle.std.specs.Prelude.{◌≡◌, ℕ, [], length, IfOk};
+ghost use Rattle.hv_match.specs.Tables.{row_at};
+
 use hv_text::Memory;
 use hv_world::{Constraint, Term};
 use std::alloc::Global;
@@ -23,8 +26,11 @@ fn last_parameter(constraint: Constraint) -> Option<usize> {
     }
 }
 
-// So many empty lists.
-fn no_lists(alloc: Global, count: usize) -> Result<Vec<Vec<usize>>, Memory> {
+/// So many empty lists.
+pub(crate) fn no_lists(alloc: Global, count: usize) -> Result<Vec<Vec<usize>>, Memory>
+    ensures size { IfOk result (λ v. length v.items ≡ count) }
+    ensures empty { IfOk result (λ v. (i : ℕ) → row_at v.items i ≡ []) }
+{
     let mut lists = Vec::new(alloc);
     for _ in 0..count {
         lists.push(Vec::new(alloc))?;

@@ -7,14 +7,15 @@ ghost use Rattle.hv_world.specs.Views.{type_number, term_view};
 ghost use Rattle.hv_world.specs.Worlds.{terms_of};
 ghost use Rattle.hv_world.specs.MethodViews.{method_view};
 ghost use Rattle.hv_world.specs.WorldViews.{world_view};
-ghost use Rattle.hv_plan.specs.TreeViews.{child_view, node_view, tree_view};
+ghost use Rattle.hv_plan.specs.BuiltTrees.{tree_view};
+ghost use Rattle.hv_plan.specs.TreeViews.{child_view, node_view};
 ghost use Rattle.hv_match.specs.Candidates as candidates;
 ghost use Rattle.hv_match.specs.PuzzleViews.{puzzle_view};
 ghost use Rattle.hv_match.specs.Tables.{job_view};
 ghost use Rattle.hv_match.specs.Ranges.{IsRange, AreRanges, as_subtask, IsPuzzleOf};
 
 use crate::decided::decided;
-use crate::places::places_by_name;
+use crate::places::places_for;
 use crate::problem::{Job, Problem};
 use crate::sources::sources;
 use hv_plan::{Child, Node, Tree};
@@ -57,7 +58,7 @@ fn action_job(action: &GroundAction) -> Job<'_>
 }
 
 // What a node does; the root line's does nothing.
-fn node_job(node: &Node) -> Option<Job<'_>>
+fn node_job<'a>(node: &Node<'a>) -> Option<Job<'a>>
     ensures { option_map as_subtask (option_map job_view result) ≡ candidates.node_task (node_view node.now) }
 {
     match node.task() {
@@ -70,17 +71,17 @@ fn node_job(node: &Node) -> Option<Job<'_>>
 }
 
 // What a child does, where the tree has it.
-fn job<'a>(tree: &'a Tree, child: Child) -> Option<Job<'a>>
+fn job<'a>(tree: &'a Tree<'_, '_>, child: Child) -> Option<Job<'a>>
     ensures { option_map as_subtask (option_map job_view result) ≡ candidates.child_task (tree_view tree.now) (child_view child) }
 {
     match child {
-        Child::Action(action) => match tree.actions().get(action) {
+        Child::Action(action) => match tree.actions().get(action as usize) {
             None => None,
             Some(action) => Some(action_job(action)),
         },
-        Child::Node(node) => match tree.node(node) {
+        Child::Node(node) => match tree.node(node as usize) {
             None => None,
-            Some(node) => node_job(node),
+            Some(node) => node_job(&node),
         },
     }
 }
@@ -88,7 +89,7 @@ fn job<'a>(tree: &'a Tree, child: Child) -> Option<Job<'a>>
 // What these children do.
 fn jobs<'a>(
     alloc: Global,
-    tree: &'a Tree,
+    tree: &'a Tree<'_, '_>,
     children: &[Child],
 ) -> Result<Vec<Option<Job<'a>>>, Memory>
     ensures { IfOk result (λ v. map (option_map as_subtask) (map (option_map job_view) v.items) ≡ map (candidates.child_task (tree_view tree.now)) (map child_view children.now)) }
@@ -114,19 +115,19 @@ pub(crate) fn terms<'a>(method: &'a Method<'_>) -> &'a [Term]
 pub(crate) fn problem<'a>(
     alloc: Global,
     world: &'a World<'_>,
-    tree: &'a Tree,
-    node: &'a Node,
+    tree: &'a Tree<'_, '_>,
+    node: &Node<'a>,
     method: &'a Method<'_>,
 ) -> Result<Problem<'a>, Memory>
     ensures { IfOk result (λ p. IsPuzzleOf (world_view world.now) (method_view method.now) (node_view node.now).objects (candidates.child_tasks (tree_view tree.now) (node_view node.now)) (puzzle_view p)) }
 {
     let ranges = ranges(alloc, world, method.parameters())?;
     let children = jobs(alloc, tree, node.children())?;
-    let places = places_by_name(alloc, &children)?;
     let constraints = method.network().constraints();
     let decided = decided(alloc, ranges.len(), constraints)?;
     let task = terms(method);
     let subtasks = method.network().subtasks();
+    let places = places_for(alloc, subtasks, &children)?;
     let sources = sources(alloc, ranges.len(), task, subtasks)?;
     Ok(Problem {
         ranges,

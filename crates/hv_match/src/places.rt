@@ -1,60 +1,216 @@
-//! The places of children by the names of what they do.
+//! The places of the children that may do the subtasks.
 
-ghost use Rattle.std.specs.Prelude.{◌≡◌, ◌++◌, ◌∷◌, [], ℕ, List, Option, length, map, option_map, IfOk, OnOk, if◌then◌else◌};
-ghost use Rattle.hv_world.specs.Alike.Kept.{is_name};
-ghost use Rattle.hv_world.specs.declared.id.TaskName as code;
-ghost use Rattle.hv_match.specs.Puzzles.{Work};
-ghost use Rattle.hv_match.specs.Tables.{job_view, row, ArePlaces};
+ghost use Rattle.std.specs.Prelude.{◌≡◌, ◌++◌, ◌∷◌, [], ℕ, List, Option, Some, length, map, option_map, IfOk, OnOk, if◌then◌else◌};
+ghost use Rattle.std.specs.Str.{bytes_eq};
+ghost use Rattle.hv_world.specs.Alike.Kept as kept;
+ghost use Rattle.hv_world.specs.Bindings.{object_number};
+ghost use Rattle.hv_world.specs.Views.{name_view, term_view, subtask_view};
+ghost use Rattle.hv_match.specs.Puzzles as puzzles;
+ghost use Rattle.hv_match.specs.Puzzles.{Work, object_of};
+ghost use Rattle.hv_match.specs.Tables as tables;
+ghost use Rattle.hv_match.specs.Tables.{job_view, AreRows, ArePlaces};
 
-use crate::problem::Job;
+use crate::decided::no_lists;
+use crate::problem::{Job, value};
 use hv_text::Memory;
-use hv_world::TaskName;
-use indexmap::IndexMap;
+use hv_world::{ObjectId, Subtask, TaskName, Term};
+use indexmap::IndexSet;
 use std::alloc::Global;
 
-// Puts a place behind those of a name.
-fn put(
+/// For each subtask a row of places.
+#[derive(Drop)]
+pub(crate) struct Places {
+    rows: Vec<Vec<usize>>,
+    // For each subtask the number of its row.
+    row_of: Vec<usize>,
+}
+
+// The row of a number.
+fn row_at(rows: &[Vec<usize>], number: usize) -> &[usize]
+    ensures { result.now ≡ tables.row_at rows.now number }
+{
+    match rows.get(number) {
+        Some(row) => row,
+        None => &[],
+    }
+}
+
+impl Places {
+    /// The places of the children that may do the subtask of a number, ascending.
+    pub(crate) fn row(&self, subtask: usize) -> &[usize]
+        ensures { result.now ≡ tables.row_for self.now subtask }
+    {
+        match self.row_of.get(subtask) {
+            Some(number) => row_at(&self.rows, *number),
+            None => &[],
+        }
+    }
+}
+
+// Whether all terms are objects.
+fn is_ground(terms: &[Term]) -> bool
+    ensures { result ≡ puzzles.is_ground (map term_view terms.now) }
+{
+    for term in terms {
+        if !is_object(*term) {
+            return false;
+        }
+    }
+    true
+}
+
+// Whether a term is an object.
+fn is_object(term: Term) -> bool
+    ensures { result ≡ kept.is_object (term_view term) }
+{
+    matches!(term, Term::Object(_))
+}
+
+// What a key with this name begins with, where `is_exact` says whether objects follow.
+fn key_head(alloc: Global, name: TaskName, is_exact: bool) -> Result<Vec<usize>, Memory>
+    ensures { IfOk result (λ v. v.items ≡ tables.key_head is_exact (name_view name)) }
+{
+    let mark = if is_exact { 1 } else { 0 };
+    match name {
+        TaskName::Compound(task) => Ok(vec![in alloc; mark, 0, task.0]?),
+        TaskName::Primitive(action) => Ok(vec![in alloc; mark, 1, action.0]?),
+    }
+}
+
+// Puts objects behind what a key has.
+fn push_objects(key: &mut Vec<usize>, objects: &[ObjectId]) -> Result<(), Memory>
+    ensures { OnOk result (key.new.items ≡ key.old.items ++ map object_number objects.now) }
+{
+    for object in objects {
+        key.push(object.0)?;
+    }
+    Ok(())
+}
+
+// Puts the objects of terms behind what a key has.
+fn push_terms(key: &mut Vec<usize>, terms: &[Term]) -> Result<(), Memory>
+    ensures { OnOk result (key.new.items ≡ key.old.items ++ map (object_of []) (map term_view terms.now)) }
+{
+    for term in terms {
+        key.push(value(&[], *term))?;
+    }
+    Ok(())
+}
+
+// The key of what a child does.
+fn job_key(alloc: Global, job: Job<'_>) -> Result<Vec<usize>, Memory>
+    ensures { IfOk result (λ v. v.items ≡ tables.work_key (job_view job.entry)) }
+{
+    let mut key = key_head(alloc, job.name, true)?;
+    push_objects(&mut key, job.objects)?;
+    Ok(key)
+}
+
+// The key of a subtask, with its objects where all its terms are objects.
+fn subtask_key(alloc: Global, subtask: &Subtask) -> Result<Vec<usize>, Memory>
+    ensures { IfOk result (λ v. v.items ≡ tables.subtask_key (subtask_view subtask.now)) }
+{
+    let is_exact = is_ground(&subtask.terms);
+    let mut key = key_head(alloc, subtask.name, is_exact)?;
+    if is_exact {
+        push_terms(&mut key, &subtask.terms)?;
+    }
+    Ok(key)
+}
+
+// The number of a subtask's key among the keys, the last where it is new.
+fn key_number(
     alloc: Global,
-    places: &mut IndexMap<TaskName, Vec<usize>>,
-    name: TaskName,
+    keys: &mut IndexSet<Vec<usize>>,
+    subtask: &Subtask,
+) -> Result<usize, Memory>
+    ensures found { IfOk result (λ i. tables.number_of (tables.subtask_key (subtask_view subtask.now)) keys.new.keys ≡ Some i) }
+    ensures kept { OnOk result ((k : List ℕ) (i : ℕ) → tables.number_of k keys.old.keys ≡ Some i → tables.number_of k keys.new.keys ≡ Some i) }
+{
+    let key = subtask_key(alloc, subtask)?;
+    let (number, _) = keys.insert_full(key)?;
+    Ok(number)
+}
+
+// The numbers of the keys of subtasks.
+fn key_numbers(
+    alloc: Global,
+    keys: &mut IndexSet<Vec<usize>>,
+    subtasks: &[Subtask],
+) -> Result<Vec<usize>, Memory>
+    ensures { IfOk result (λ v. map (λ s. tables.number_of (tables.subtask_key s) keys.new.keys) (map subtask_view subtasks.now) ≡ map Some v.items) }
+{
+    let mut numbers = Vec::new(alloc);
+    for subtask in subtasks {
+        let number = key_number(alloc, keys, subtask)?;
+        numbers.push(number)?;
+    }
+    Ok(numbers)
+}
+
+// Puts a place behind those of a key, if it is one of the keys.
+fn put(
+    keys: &IndexSet<Vec<usize>>,
+    rows: &mut [Vec<usize>],
+    key: Vec<usize>,
     place: usize,
 ) -> Result<(), Memory>
-    ensures { OnOk result ((n : code.TaskName) → row places.new n ≡ row places.old n ++ (if is_name name n then place ∷ [] else [])) }
+    requires { length rows.old ≡ length keys.now.keys }
+    ensures size { OnOk result (length rows.new ≡ length rows.old) }
+    ensures rows { OnOk result ((k : List ℕ) (i : ℕ) → tables.number_of k keys.now.keys ≡ Some i → tables.row_at rows.new i ≡ tables.row_at rows.old i ++ (if bytes_eq key.items k then place ∷ [] else [])) }
 {
-    let mut row = match places.insert(name, Vec::new(alloc))? {
-        Some(row) => row,
-        None => Vec::new(alloc),
-    };
-    row.push(place)?;
-    places.insert(name, row)?;
+    if let Some(number) = keys.get_index_of(&key) {
+        rows[number].push(place)?;
+    }
     Ok(())
 }
 
 // Takes account of one child more.
 fn put_child(
     alloc: Global,
-    places: &mut IndexMap<TaskName, Vec<usize>>,
+    keys: &IndexSet<Vec<usize>>,
+    rows: &mut [Vec<usize>],
     child: Option<Job<'_>>,
     place: usize,
 ) -> Result<(), Memory>
-    ensures { OnOk result ((cs : List (Option Work)) → length cs ≡ place → ArePlaces cs places.old → ArePlaces (cs ++ option_map job_view child.entry ∷ []) places.new) }
+    requires { length rows.old ≡ length keys.now.keys }
+    ensures size { OnOk result (length rows.new ≡ length rows.old) }
+    ensures rows { OnOk result ((cs : List (Option Work)) → length cs ≡ place → AreRows keys.now.keys cs rows.old → AreRows keys.now.keys (cs ++ option_map job_view child.entry ∷ []) rows.new) }
 {
     if let Some(job) = child {
-        put(alloc, places, job.name, place)?;
+        let name = key_head(alloc, job.name, false)?;
+        put(keys, rows, name, place)?;
+        let key = job_key(alloc, job)?;
+        put(keys, rows, key, place)?;
     }
     Ok(())
 }
 
-/// For each name the places of the children that do what has it, ascending.
-pub(crate) fn places_by_name(
+// For each key the places of the children that have it.
+fn rows_of(
     alloc: Global,
+    keys: &IndexSet<Vec<usize>>,
     children: &[Option<Job<'_>>],
-) -> Result<IndexMap<TaskName, Vec<usize>>, Memory>
-    ensures { IfOk result (ArePlaces (map (option_map job_view) children.now)) }
+) -> Result<Vec<Vec<usize>>, Memory>
+    ensures { IfOk result (λ v. AreRows keys.now.keys (map (option_map job_view) children.now) v.items) }
 {
-    let mut places = IndexMap::new(alloc);
+    let mut rows = no_lists(alloc, keys.len())?;
     for (place, child) in children.iter().enumerate() {
-        put_child(alloc, &mut places, *child, place)?;
+        put_child(alloc, keys, &mut rows, *child, place)?;
     }
-    Ok(places)
+    Ok(rows)
+}
+
+/// The places of the children that may do each of the subtasks.
+pub(crate) fn places_for(
+    alloc: Global,
+    subtasks: &[Subtask],
+    children: &[Option<Job<'_>>],
+) -> Result<Places, Memory>
+    ensures { IfOk result (ArePlaces (map subtask_view subtasks.now) (map (option_map job_view) children.now)) }
+{
+    let mut keys = IndexSet::new(alloc);
+    let row_of = key_numbers(alloc, &mut keys, subtasks)?;
+    let rows = rows_of(alloc, &keys, children)?;
+    Ok(Places { rows, row_of })
 }

@@ -9,10 +9,10 @@ ghost use Rattle.hv_match.specs.Search.{below};
 ghost use Rattle.hv_match.specs.Puzzles as puzzles;
 ghost use Rattle.hv_match.specs.Tables.{job_view, source_view, ArePlaces, AreSources};
 
+use crate::places::Places;
 use crate::rule::Rule;
 use crate::sources::Source;
 use hv_world::{Constraint, ObjectId, Subtask, TaskName, Term};
-use indexmap::IndexMap;
 
 /// What a child does.
 #[derive(Clone, Copy)]
@@ -30,14 +30,14 @@ pub(crate) struct Problem<'a> {
     pub(crate) subtasks: &'a [Subtask],
     pub(crate) constraints: &'a [Constraint],
     pub(crate) children: Vec<Option<Job<'a>>>,
-    /// For each name the places of the children that do what has it.
-    pub(crate) places: IndexMap<TaskName, Vec<usize>>,
+    /// For each subtask the places of the children that may do it.
+    pub(crate) places: Places,
     /// For each parameter the numbers of the constraints that are decided when it has its object.
     pub(crate) decided: Vec<Vec<usize>>,
     /// For each parameter the place from which it has its object.
     pub(crate) sources: Vec<Option<Source>>,
     pub(crate) ghost ascending: { All (λ r. IsStrictlyIncreasing (map object_number r.now)) ranges.items },
-    pub(crate) ghost placed: { ArePlaces (map (option_map job_view) children.items) places },
+    pub(crate) ghost placed: { ArePlaces (map subtask_view subtasks.now) (map (option_map job_view) children.items) places },
     pub(crate) ghost sourced: { AreSources (length ranges.items) (map term_view task.now) (map subtask_view subtasks.now) sources.items },
 }
 
@@ -51,8 +51,8 @@ fn object_at(objects: &[ObjectId], position: usize) -> Option<usize>
     }
 }
 
-// The object of a term under the objects of the parameters.
-fn value(values: &[usize], term: Term) -> usize
+/// The object of a term under the objects of the parameters.
+pub(crate) fn value(values: &[usize], term: Term) -> usize
     ensures { result ≡ puzzles.object_of values.now (term_view term) }
 {
     match term {
@@ -318,16 +318,14 @@ fn row_choice(row: &[usize], number: usize) -> Option<usize>
 impl Problem<'_> {
     ghost use Rattle.hv_match.specs.PuzzleViews.{puzzle_view};
 
-    // The place of a number among those of the children that do what has this name.
-    fn child_choice(&self, name: TaskName, number: usize) -> Option<usize>
-        ensures choice { MatchOption result (length (puzzles.places_of (name_view name) 0 (puzzle_view self.now).children) ≤ number) (λ x. drop number (puzzles.places_of (name_view name) 0 (puzzle_view self.now).children) ≡ x ∷ drop (number + 1) (puzzles.places_of (name_view name) 0 (puzzle_view self.now).children)) }
+    // The place of a number among those of the children that may do a subtask.
+    fn child_choice(&self, subtask: usize, number: usize) -> Option<usize>
+        requires { subtask < length self.now.subtasks.now }
+        ensures choice { MatchOption result (length (puzzles.children_for (puzzle_view self.now) subtask) ≤ number) (λ x. drop number (puzzles.children_for (puzzle_view self.now) subtask) ≡ x ∷ drop (number + 1) (puzzles.children_for (puzzle_view self.now) subtask)) }
         ensures small { IsSome result → number + 1 < 2 ^ 64 }
         ensures within { IfSome result (λ x. x < length self.now.children.items) }
     {
-        match self.places.get(&name) {
-            Some(row) => row_choice(row, number),
-            None => None,
-        }
+        row_choice(self.places.row(subtask), number)
     }
 
     /// Whether some parameter has no object that it may have; then nothing is wanted.
@@ -406,7 +404,7 @@ impl Rule for Problem<'_> {
 
     fn option(&self, chosen: &[usize], number: usize) -> Option<usize> {
         match chosen.len().checked_sub(self.subtasks.len()) {
-            None => self.child_choice(self.subtasks[chosen.len()].name, number),
+            None => self.child_choice(chosen.len(), number),
             Some(parameter) => {
                 let range = self.ranges[parameter];
                 choice(self.bound(chosen, parameter), range, number)

@@ -1,5 +1,6 @@
 use Rattle.std.proofs.Common.{◌≡◌, map, take, option_map}
-use Rattle.hv_plan.specs.TreeViews.{child_view, tree_view}
+use Rattle.hv_plan.specs.TreeViews.{child_view}
+use Rattle.hv_plan.specs.BuiltTrees.{tree_view}
 use Rattle.hv_match.specs.Candidates.{child_task}
 use Rattle.hv_match.specs.Tables.{job_view}
 use Rattle.hv_match.specs.Ranges.{as_subtask}

@@ -3,7 +3,8 @@ use Rattle.std.proofs.lemmas.List.{length-map}
 use Rattle.hv_world.specs.MethodViews.{method_view}
 use Rattle.hv_world.specs.WorldViews.{world_view}
 use Rattle.hv_world.specs.Views.{subtask_view}
-use Rattle.hv_plan.specs.TreeViews.{node_view, tree_view}
+use Rattle.hv_plan.specs.TreeViews.{node_view}
+use Rattle.hv_plan.specs.BuiltTrees.{tree_view}
 use Rattle.hv_match.specs.Candidates.{child_tasks}
 use Rattle.hv_match.specs.Search.{below}
 use Rattle.hv_match.specs.Puzzles.{options, is_good, levels, ways}

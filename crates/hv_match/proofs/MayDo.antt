@@ -1,0 +1,72 @@
+-- The places of the children that may do a subtask.
+use Rattle.std.proofs.Common.{◌≡◌, ℕ, zero, suc, ◌+◌, ◌<◌, ◌≤◌, Bool, true, false, List, [], ◌∷◌, ◌++◌, length, map, nat_eq, eq-eqb, refl, ap, arith, inl, inr, if◌then◌else◌, drop, Option, Some, None, MatchOption, IfSome}
+use Rattle.hv_world.specs.Alike.{same_name}
+use Rattle.hv_world.specs.Values.{Term, object, variable, Subtask}
+use Rattle.hv_match.specs.Lists.{Mem, Once}
+use Rattle.hv_match.specs.Puzzles.{Work, work, object_of, child_at, is_ground, same_values, may_do, places_where}
+use Rattle.hv_match.proofs.Factors.{name_itself}
+use Rattle.hv_match.proofs.Fitting.{also}
+use Rattle.hv_match.proofs.Turns.{mem_drop}
+
+module _ (test : Option Work → Bool) where
+  pub places_end : (k : ℕ) (cs : List (Option Work)) (c : Option Work) → places_where test k (cs ++ c ∷ []) ≡ places_where test k cs ++ (if test c then (k + length cs) ∷ [] else [])
+  places_end k [] c = let z : k + 0 ≡ k = omega arith in rw z refl
+  places_end k (d ∷ cs) c =
+      let z : k + suc (length cs) ≡ k + 1 + length cs = omega arith in
+      rw z (go (test d) (places_end (k + 1) cs c))
+    where
+      go : (b : Bool) → places_where test (k + 1) (cs ++ c ∷ []) ≡ places_where test (k + 1) cs ++ (if test c then (k + 1 + length cs) ∷ [] else []) →
+          (if b then k ∷ places_where test (k + 1) (cs ++ c ∷ []) else places_where test (k + 1) (cs ++ c ∷ [])) ≡ (if b then k ∷ places_where test (k + 1) cs else places_where test (k + 1) cs) ++ (if test c then (k + 1 + length cs) ∷ [] else [])
+      go true r = ap (λ (l : List ℕ). k ∷ l) r
+      go false r = r
+
+  pub places_within : (k : ℕ) (cs : List (Option Work)) (x : ℕ) → Mem (places_where test k cs) x → (k ≤ x) × (x < k + length cs)
+  places_within k [] x m = absurd m
+  places_within k (c ∷ cs) x m = go (test c) m (places_within (k + 1) cs x)
+    where
+      go : (b : Bool) → Mem (if b then k ∷ places_where test (k + 1) cs else places_where test (k + 1) cs) x → (Mem (places_where test (k + 1) cs) x → (k + 1 ≤ x) × (x < k + 1 + length cs)) → (k ≤ x) × (x < k + suc (length cs))
+      go true (inl e) r = (omega arith, omega arith)
+      go true (inr m) r = let w = r m in (omega (arith, w.0), omega (arith, w.1))
+      go false m r = let w = r m in (omega (arith, w.0), omega (arith, w.1))
+
+  pub places_once : (k : ℕ) (cs : List (Option Work)) → Once (places_where test k cs)
+  places_once k [] = tt
+  places_once k (c ∷ cs) = go (test c) (places_once (k + 1) cs)
+    where
+      go : (b : Bool) → Once (places_where test (k + 1) cs) → Once (if b then k ∷ places_where test (k + 1) cs else places_where test (k + 1) cs)
+      go true r = (λ m. absurd (omega (arith, (places_within (k + 1) cs k m).0)), r)
+      go false r = r
+
+  pub places_there : (k : ℕ) (cs : List (Option Work)) (x : ℕ) → test None ≡ false → test (child_at cs x) ≡ true → Mem (places_where test k cs) (k + x)
+  places_there k [] x h e = cc
+  places_there k (c ∷ cs) zero h e = let z : k + 0 ≡ k = omega arith in rw (z, e) (inl refl)
+  places_there k (c ∷ cs) (suc x) h e =
+      let z : k + suc x ≡ k + 1 + x = omega arith in
+      rw z (go (test c) (places_there (k + 1) cs x h e))
+    where
+      go : (b : Bool) → Mem (places_where test (k + 1) cs) (k + 1 + x) → Mem (if b then k ∷ places_where test (k + 1) cs else places_where test (k + 1) cs) (k + 1 + x)
+      go true m = inr m
+      go false m = m
+
+-- tests that say the same
+pub places_same : (f g : Option Work → Bool) → ((c : Option Work) → f c ≡ g c) → (k : ℕ) (cs : List (Option Work)) → places_where f k cs ≡ places_where g k cs
+places_same f g h k [] = refl
+places_same f g h k (c ∷ cs) = rw (h c, places_same f g h (k + 1) cs) refl
+
+-- objects have the same values under all
+ground_values : (B : List ℕ) (ts : List Term) → is_ground ts ≡ true → same_values [] ts (map (object_of B) ts) ≡ true
+ground_values B [] e = refl
+ground_values B (object o ∷ ts) e = also (nat_eq o o) (same_values [] ts (map (object_of B) ts)) (eq-eqb o o refl) (ground_values B ts e)
+ground_values B (variable v ∷ ts) e = cc
+
+-- what does a subtask may do it
+pub done_may : (s : Subtask) (B : List ℕ) → may_do s (Some (work s.name (map (object_of B) s.terms))) ≡ true
+done_may s B = also (same_name s.name s.name) _ (name_itself s.name) (go (is_ground s.terms) refl)
+  where
+    go : (b : Bool) → is_ground s.terms ≡ b → (if b then same_values [] s.terms (map (object_of B) s.terms) else true) ≡ true
+    go true e = ground_values B s.terms e
+    go false e = refl
+
+pub chosen_within : (o : Option ℕ) (n m : ℕ) (l : List ℕ) → MatchOption o (length l ≤ n) (λ x. drop n l ≡ x ∷ drop (n + 1) l) → ((x : ℕ) → Mem l x → x < m) → IfSome o (λ x. x < m)
+chosen_within None n m l e h = tt
+chosen_within (Some x) n m l e h = h x (mem_drop n l x (drop (n + 1) l) e)

@@ -1,0 +1,269 @@
+-- The rows of places.
+use Rattle.std.proofs.Common.{◌≡◌, ◌≢◌, ℕ, zero, suc, ◌+◌, ◌<◌, ◌≤◌, Bool, true, false, not, List, [], ◌∷◌, ◌++◌, length, map, take, drop, set, get_or, slice_get, refl, sym, ap, ◌∙◌, arith, if◌then◌else◌, cond, ◌&&◌, ◌||◌, nat_lt, Option, Some, None, option_map, get_or-set_same, get_or-set_other}
+use Rattle.std.proofs.lemmas.Bool.Decides.{nat_tests}
+use Rattle.std.proofs.lemmas.Bool.{ltb-true}
+use Rattle.std.proofs.lemmas.List.{append-nil, length-map, map-set, take_all, drop_all}
+use Rattle.std.proofs.lemmas.Slice.Eq.{bytes_eq-Decides}
+use Rattle.std.specs.Global.{Vec}
+use Rattle.std.specs.Str.{bytes_eq}
+use Rattle.std.specs.List.{position, position_or_len, list_any}
+use Rattle.indexmap.specs.IndexSet.{insert_key}
+use Rattle.hv_world.specs.Alike.{same_name}
+use Rattle.hv_world.specs.Values.{Term, TaskName, compound, primitive, Subtask}
+use Rattle.hv_match.specs.Lists.{Mem}
+use Rattle.hv_match.specs.Puzzles.{Work, object_of, is_ground, same_values, may_do, places_where}
+use Rattle.hv_match.specs.Tables.{key_head, work_key, subtask_key, has_key, number_of, row_at, AreRows, row_for, ArePlaces}
+use Rattle.hv_match.specs.declared.places.Places.{Places}
+use Rattle.hv_match.proofs.Factors.{name_is, name_itself}
+use Rattle.hv_match.proofs.Fitting.{both, also, values_from, values_to}
+use Rattle.hv_match.proofs.MayDo.{places_end, places_within, places_same}
+
+-- keys
+
+key_is : (k j : List ℕ) → bytes_eq k j ≡ true → k ≡ j
+key_is k j e = (bytes_eq-Decides k j).0 e
+
+key_itself : (k : List ℕ) → bytes_eq k k ≡ true
+key_itself k = (bytes_eq-Decides k k).1 refl
+
+same_bools : (a b : Bool) → (a ≡ true → b ≡ true) → (b ≡ true → a ≡ true) → a ≡ b
+same_bools true b f g = sym (f refl)
+same_bools false true f g = g refl
+same_bools false false f g = refl
+
+-- no key of a name is one with objects
+pub apart : (k : List ℕ) (m n : TaskName) (os : List ℕ) → bytes_eq (key_head false m) k ≡ true → bytes_eq (key_head true n ++ os) k ≡ false
+apart k m n os e = go (bytes_eq (key_head true n ++ os) k) refl
+  where
+    clash : (a b : TaskName) → key_head false a ≡ key_head true b ++ os → ⊥
+    clash (compound t) (compound u) f = cc
+    clash (compound t) (primitive u) f = cc
+    clash (primitive t) (compound u) f = cc
+    clash (primitive t) (primitive u) f = cc
+
+    go : (b : Bool) → bytes_eq (key_head true n ++ os) k ≡ b → b ≡ false
+    go true f = absurd (clash m n (key_is (key_head false m) k e ∙ sym (key_is (key_head true n ++ os) k f)))
+    go false f = refl
+
+heads : (b : Bool) (m n : TaskName) (os ps : List ℕ) → key_head b m ++ os ≡ key_head b n ++ ps → (m ≡ n) × (os ≡ ps)
+heads b (compound t) (compound u) os ps e = let f : t ≡ u = cc in let g : os ≡ ps = cc in (ap compound f, g)
+heads b (compound t) (primitive u) os ps e = cc
+heads b (primitive t) (compound u) os ps e = cc
+heads b (primitive t) (primitive u) os ps e = let f : t ≡ u = cc in let g : os ≡ ps = cc in (ap primitive f, g)
+
+-- a child has the key of a subtask that it may do, and of no other
+with_objects : (n : TaskName) (ts : List Term) (c : Work) → (bytes_eq (key_head false c.name) (key_head true n ++ map (object_of []) ts) || bytes_eq (work_key c) (key_head true n ++ map (object_of []) ts)) ≡ (same_name c.name n && same_values [] ts c.objects)
+with_objects n ts c =
+    let k = key_head true n ++ map (object_of []) ts in
+    rw (no_name (bytes_eq (key_head false c.name) k) refl)
+    (same_bools (bytes_eq (work_key c) k) (same_name c.name n && same_values [] ts c.objects)
+    (λ e. let h = heads true c.name n c.objects (map (object_of []) ts) (key_is (work_key c) k e) in
+    also (same_name c.name n) (same_values [] ts c.objects) (ap (λ m. same_name m n) h.0 ∙ name_itself n) (values_to [] ts c.objects (sym h.1)))
+    (λ e. let b = both (same_name c.name n) (same_values [] ts c.objects) e in
+    let same : work_key c ≡ k = ap (λ m. key_head true m ++ c.objects) (name_is c.name n b.0) ∙ ap (λ os. key_head true n ++ os) (sym (values_from [] ts c.objects b.1)) in
+    ap (λ j. bytes_eq j k) same ∙ key_itself k))
+  where
+    no_name : (b : Bool) → bytes_eq (key_head false c.name) (key_head true n ++ map (object_of []) ts) ≡ b → b ≡ false
+    no_name true e = let f = apart (key_head true n ++ map (object_of []) ts) c.name n (map (object_of []) ts) e in let g = key_itself (key_head true n ++ map (object_of []) ts) in cc
+    no_name false e = refl
+
+with_name : (n : TaskName) (c : Work) → (bytes_eq (key_head false c.name) (key_head false n) || bytes_eq (work_key c) (key_head false n)) ≡ (same_name c.name n && true)
+with_name n c =
+    let other = apart (key_head false n) n c.name c.objects (key_itself (key_head false n)) in
+    rw other (same_bools (bytes_eq (key_head false c.name) (key_head false n) || false) (same_name c.name n && true)
+    (λ e. let h = heads false c.name n [] [] (ap (λ l. l ++ []) (key_is (key_head false c.name) (key_head false n) (left (bytes_eq (key_head false c.name) (key_head false n)) e))) in
+    also (same_name c.name n) true (ap (λ m. same_name m n) h.0 ∙ name_itself n) refl)
+    (λ e. let b = both (same_name c.name n) true e in
+    let same : bytes_eq (key_head false c.name) (key_head false n) ≡ true = ap (λ m. bytes_eq (key_head false m) (key_head false n)) (name_is c.name n b.0) ∙ key_itself (key_head false n) in
+    ap (λ x. x || false) same))
+  where
+    left : (b : Bool) → (b || false) ≡ true → b ≡ true
+    left true e = refl
+    left false e = e
+
+pub key_says : (s : Subtask) (c : Option Work) → has_key (subtask_key s) c ≡ may_do s c
+key_says s None = refl
+key_says s (Some c) = go (is_ground s.terms)
+  where
+    go : (b : Bool) → has_key (if b then key_head true s.name ++ map (object_of []) s.terms else key_head false s.name) (Some c) ≡ (same_name c.name s.name && (if b then same_values [] s.terms c.objects else true))
+    go true = with_objects s.name s.terms c
+    go false = with_name s.name c
+
+-- the numbers of keys
+
+less : (a b : ℕ) → nat_lt (suc a) (suc b) ≡ nat_lt a b
+less a b = same_bools (nat_lt (suc a) (suc b)) (nat_lt a b) (λ e. lt a b (omega (arith, ltb-true (suc a) (suc b) e))) (λ e. lt (suc a) (suc b) (omega (arith, ltb-true a b e)))
+  where
+    lt : (a b : ℕ) → a < b → nat_lt a b ≡ true
+    lt a b h = grind (arith, nat_tests)
+
+first_place : (k : List ℕ) (v : Vec ℕ) (vs : List (Vec ℕ)) → position_or_len (λ w. bytes_eq k w.items) (v ∷ vs) ≡ (if bytes_eq k v.items then 0 else suc (position_or_len (λ w. bytes_eq k w.items) vs))
+first_place k v vs = go (bytes_eq k v.items)
+  where
+    go : (b : Bool) → cond (not b) (1 + position_or_len (λ w. bytes_eq k w.items) vs) 0 ≡ (if b then 0 else suc (position_or_len (λ w. bytes_eq k w.items) vs))
+    go true = refl
+    go false = omega arith
+
+pub position_is : (k : List ℕ) (vs : List (Vec ℕ)) → position (λ v. bytes_eq k v.items) vs ≡ number_of k vs
+position_is k [] = refl
+position_is k (v ∷ vs) = ap (λ n. cond (nat_lt n (suc (length vs))) (Some n) None) (first_place k v vs) ∙ go (bytes_eq k v.items) (position_is k vs)
+  where
+    one_on : (b : Bool) (n : ℕ) → cond b (Some (suc n)) None ≡ option_map suc (cond b (Some n) None)
+    one_on true n = refl
+    one_on false n = refl
+
+    n : ℕ
+    n = position_or_len (λ (w : Vec ℕ). bytes_eq k w.items) vs
+
+    zero_less : (m : ℕ) → nat_lt 0 (suc m) ≡ true
+    zero_less m = grind (arith, nat_tests)
+
+    go : (b : Bool) → position (λ w. bytes_eq k w.items) vs ≡ number_of k vs → cond (nat_lt (if b then 0 else suc n) (suc (length vs))) (Some (if b then 0 else suc n)) None ≡ (if b then Some 0 else option_map suc (number_of k vs))
+    go true r = rw (zero_less (length vs)) refl
+    go false r = ap (λ b. cond b (Some (suc n)) None) (less n (length vs)) ∙ one_on (nat_lt n (length vs)) n ∙ ap (option_map suc) r
+
+more_some : (o : Option ℕ) (i : ℕ) → option_map suc o ≡ Some i → (j : ℕ) × (i ≡ suc j) × (o ≡ Some j)
+more_some None i e = cc
+more_some (Some j) i e = (j, (let f : i ≡ suc j = cc in f), refl)
+
+-- the key of a number
+pub number_has : (k : List ℕ) (vs : List (Vec ℕ)) (i : ℕ) → number_of k vs ≡ Some i → get_or (map (λ v. v.items) vs) i [] ≡ k
+number_has k [] i e = cc
+number_has k (v ∷ vs) i e = go (bytes_eq k v.items) refl e (number_has k vs)
+  where
+    go : (b : Bool) → bytes_eq k v.items ≡ b → (if b then Some 0 else option_map suc (number_of k vs)) ≡ Some i → ((j : ℕ) → number_of k vs ≡ Some j → get_or (map (λ (v : Vec ℕ). v.items) vs) j [] ≡ k) → get_or (v.items ∷ map (λ (v : Vec ℕ). v.items) vs) i [] ≡ k
+    go true t e r = let z : i ≡ 0 = cc in rw z (sym (key_is k v.items t))
+    go false t e r = let m = more_some (number_of k vs) i e in rw m.1 (r m.0 m.2)
+
+-- a key among more
+more_keys : (k : List ℕ) (vs ws : List (Vec ℕ)) (i : ℕ) → number_of k vs ≡ Some i → number_of k (vs ++ ws) ≡ Some i
+more_keys k [] ws i e = cc
+more_keys k (v ∷ vs) ws i e = go (bytes_eq k v.items) e (more_keys k vs ws)
+  where
+    go : (b : Bool) → (if b then Some 0 else option_map suc (number_of k vs)) ≡ Some i → ((j : ℕ) → number_of k vs ≡ Some j → number_of k (vs ++ ws) ≡ Some j) → (if b then Some 0 else option_map suc (number_of k (vs ++ ws))) ≡ Some i
+    go true e r = e
+    go false e r = let m = more_some (number_of k vs) i e in rw (r m.0 m.2) (ap Some (sym m.1))
+
+pub key_kept : (key : Vec ℕ) (k : List ℕ) (vs : List (Vec ℕ)) (i : ℕ) → number_of k vs ≡ Some i → number_of k (insert_key (λ a b. bytes_eq a.items b.items) vs key) ≡ Some i
+key_kept key k vs i e = go (list_any (λ v. bytes_eq key.items v.items) vs)
+  where
+    go : (b : Bool) → number_of k (if b then vs else vs ++ key ∷ []) ≡ Some i
+    go true = e
+    go false = more_keys k vs (key ∷ []) i e
+
+pub key_found : (key : Vec ℕ) (vs : List (Vec ℕ)) → number_of key.items (insert_key (λ a b. bytes_eq a.items b.items) vs key) ≡ Some (position_or_len (λ v. bytes_eq key.items v.items) vs)
+key_found key [] = rw (key_itself key.items) refl
+key_found key (v ∷ vs) = go (bytes_eq key.items v.items) refl (list_any (λ w. bytes_eq key.items w.items) vs) (key_found key vs) ∙ ap Some (sym (first_place key.items v vs))
+  where
+    go : (b : Bool) → bytes_eq key.items v.items ≡ b → (any : Bool) → number_of key.items (if any then vs else vs ++ key ∷ []) ≡ Some (position_or_len (λ w. bytes_eq key.items w.items) vs) →
+        number_of key.items (if b || any then v ∷ vs else v ∷ vs ++ key ∷ []) ≡ Some (if b then 0 else suc (position_or_len (λ w. bytes_eq key.items w.items) vs))
+    go true t any r = rw t refl
+    go false t true r = rw (t, r) refl
+    go false t false r = rw (t, r) refl
+
+-- the keys of subtasks
+
+pub numbers_more : (ss : List Subtask) (is : List ℕ) (s : Subtask) (i : ℕ) (old new : List (Vec ℕ)) → ((k : List ℕ) (i : ℕ) → number_of k old ≡ Some i → number_of k new ≡ Some i) →
+    map (λ s. number_of (subtask_key s) old) ss ≡ map Some is → number_of (subtask_key s) new ≡ Some i → map (λ s. number_of (subtask_key s) new) (ss ++ s ∷ []) ≡ map Some (is ++ i ∷ [])
+numbers_more [] [] s i old new h e f = rw f refl
+numbers_more [] (j ∷ is) s i old new h e f = cc
+numbers_more (t ∷ ss) [] s i old new h e f = cc
+numbers_more (t ∷ ss) (j ∷ is) s i old new h e f =
+    let first : number_of (subtask_key t) old ≡ Some j = cc in
+    let others : map (λ s. number_of (subtask_key s) old) ss ≡ map Some is = cc in
+    rw (h (subtask_key t) j first, numbers_more ss is s i old new h others f) refl
+
+number_at : (keys : List (Vec ℕ)) (ss : List Subtask) (is : List ℕ) → map (λ s. number_of (subtask_key s) keys) ss ≡ map Some is → (j : ℕ) (s : Subtask) → slice_get ss j ≡ Some s → (i : ℕ) × (slice_get is j ≡ Some i) × (number_of (subtask_key s) keys ≡ Some i)
+number_at keys [] is e j s h = cc
+number_at keys (t ∷ ss) [] e j s h = cc
+number_at keys (t ∷ ss) (i ∷ is) e zero s h =
+    let f : number_of (subtask_key t) keys ≡ Some i = cc in
+    let g : t ≡ s = cc in
+    (i, refl, ap (λ z. number_of (subtask_key z) keys) (sym g) ∙ f)
+number_at keys (t ∷ ss) (i ∷ is) e (suc j) s h =
+    let g : map (λ s. number_of (subtask_key s) keys) ss ≡ map Some is = cc in
+    number_at keys ss is g j s h
+
+past_all : (ss : List Subtask) (j : ℕ) → slice_get ss j ≡ None → length ss ≤ j
+past_all [] j e = omega arith
+past_all (s ∷ ss) zero e = cc
+past_all (s ∷ ss) (suc j) e = omega (arith, past_all ss j e)
+
+pub row_is : (ss : List Subtask) (cs : List (Option Work)) (p : Places) (j : ℕ) → ArePlaces ss cs p → j < length ss → row_for p j ≡ elim (slice_get ss j) [ None ↦ [] | Some s ↦ places_where (may_do s) 0 cs ]
+row_is ss cs p j are h = go (slice_get ss j) refl
+  where
+    go : (o : Option Subtask) → slice_get ss j ≡ o → row_for p j ≡ elim o [ None ↦ [] | Some s ↦ places_where (may_do s) 0 cs ]
+    go None e = absurd (omega (arith, past_all ss j e, h))
+    go (Some s) e = are j s e
+
+pub row_within : (ss : List Subtask) (cs : List (Option Work)) (j x : ℕ) → Mem (elim (slice_get ss j) [ None ↦ [] | Some s ↦ places_where (may_do s) 0 cs ]) x → x < length cs
+row_within ss cs j x m = go (slice_get ss j) m
+  where
+    go : (o : Option Subtask) → Mem (elim o [ None ↦ [] | Some s ↦ places_where (may_do s) 0 cs ]) x → x < length cs
+    go None m = absurd m
+    go (Some s) m = omega (arith, (places_within (may_do s) 0 cs x m).1)
+
+pub placed : (keys : List (Vec ℕ)) (ss : List Subtask) (cs : List (Option Work)) (p : Places) → map (λ s. number_of (subtask_key s) keys) ss ≡ map Some p.row_of.items → AreRows keys cs p.rows.items → ArePlaces ss cs p
+placed keys ss cs p e rows j s h =
+    let r = number_at keys ss p.row_of.items e j s h in
+    ap (λ (o : Option ℕ). elim o [ None ↦ [] | Some i ↦ row_at p.rows.items i ]) r.1 ∙ rows (subtask_key s) r.0 r.2 ∙ places_same (has_key (subtask_key s)) (may_do s) (key_says s) 0 cs
+
+-- the rows
+
+-- nothing is put into the row of another key
+pub put_nowhere : (keys : List (Vec ℕ)) (key : List ℕ) (place : ℕ) (k : List ℕ) (i : ℕ) (l : List ℕ) → number_of key keys ≡ None → number_of k keys ≡ Some i → l ≡ l ++ (if bytes_eq key k then place ∷ [] else [])
+put_nowhere keys key place k i l none some = go (bytes_eq key k) refl
+  where
+    go : (b : Bool) → bytes_eq key k ≡ b → l ≡ l ++ (if b then place ∷ [] else [])
+    go true e = let f : number_of k keys ≡ None = ap (λ j. number_of j keys) (sym (key_is key k e)) ∙ none in cc
+    go false e = sym (append-nil l)
+
+pub put_there : (keys rows : List (Vec ℕ)) (was now : Vec ℕ) (key : List ℕ) (at place : ℕ) (k : List ℕ) (i : ℕ) → number_of key keys ≡ Some at → number_of k keys ≡ Some i → at < length rows → now.items ≡ (get_or rows at was).items ++ place ∷ [] →
+    row_at (set rows at now) i ≡ row_at rows i ++ (if bytes_eq key k then place ∷ [] else [])
+put_there keys rows was now key at place k i found other lt more = ap (λ (ls : List (List ℕ)). get_or ls i []) (map-set (λ v. v.items) rows at now) ∙ go (bytes_eq key k) refl
+  where
+    lists : List (List ℕ)
+    lists = map (λ (v : Vec ℕ). v.items) rows
+
+    read : (rows : List (Vec ℕ)) (at : ℕ) → at < length rows → get_or (map (λ (v : Vec ℕ). v.items) rows) at [] ≡ (get_or rows at was).items
+    read [] at h = absurd (omega arith)
+    read (v ∷ rows) zero h = refl
+    read (v ∷ rows) (suc at) h = read rows at (omega arith)
+
+    go : (b : Bool) → bytes_eq key k ≡ b → get_or (set lists at now.items) i [] ≡ get_or lists i [] ++ (if b then place ∷ [] else [])
+    go true e =
+        let f : number_of key keys ≡ Some i = ap (λ j. number_of j keys) (key_is key k e) ∙ other in
+        let z : i ≡ at = let g : Some i ≡ Some at = sym f ∙ found in cc in
+        rw z (get_or-set_same lists at now.items [] (omega (arith, lt, length-map rows (λ (v : Vec ℕ). v.items))) ∙ more ∙ ap (λ (l : List ℕ). l ++ place ∷ []) (sym (read rows at lt)))
+    go false e =
+        let apart : i ≢ at = λ z.
+        let same : key ≡ k = sym (number_has key keys at found) ∙ ap (λ j. get_or (map (λ (v : Vec ℕ). v.items) keys) j []) (sym z) ∙ number_has k keys i other in
+        let t : bytes_eq key k ≡ true = ap (bytes_eq key) (sym same) ∙ key_itself key in
+        let g : false ≡ true = sym e ∙ t in cc in
+        get_or-set_other lists at i now.items [] apart ∙ sym (append-nil (get_or lists i []))
+
+-- a list written back over all of another
+pub written_back : (n : ℕ) (new old : List (Vec ℕ)) → length new ≡ length old → length old ≡ n → take n (new ++ drop (length new) old) ≡ new
+written_back n new old e f = rw (drop_all (length new) old (omega (arith, e)), append-nil new) (take_all n new (omega (arith, e, f)))
+
+-- one child more
+two_puts : (a b : Bool) (place : ℕ) (l : List ℕ) → (a ≡ true → b ≡ false) → (l ++ (if a then place ∷ [] else [])) ++ (if b then place ∷ [] else []) ≡ l ++ (if a || b then place ∷ [] else [])
+two_puts true b place l h = rw (h refl) (append-nil (l ++ place ∷ []))
+two_puts false b place l h = rw (append-nil l) refl
+
+pub child_put : (keys : List (Vec ℕ)) (old mid new : List (Vec ℕ)) (c : Work) (name key : List ℕ) (place : ℕ) (cs : List (Option Work)) → name ≡ key_head false c.name → key ≡ work_key c → length cs ≡ place →
+    ((k : List ℕ) (i : ℕ) → number_of k keys ≡ Some i → row_at mid i ≡ row_at old i ++ (if bytes_eq name k then place ∷ [] else [])) →
+    ((k : List ℕ) (i : ℕ) → number_of k keys ≡ Some i → row_at new i ≡ row_at mid i ++ (if bytes_eq key k then place ∷ [] else [])) →
+    AreRows keys cs old → AreRows keys (cs ++ Some c ∷ []) new
+child_put keys old mid new c name key place cs en ek size f g are k i e =
+    let z : 0 + length cs ≡ place = omega (arith, size) in
+    let first = f k i e in
+    let first' = rw (en, are k i e) at first in
+    let second = g k i e in
+    let second' = rw (ek, first') at second in
+    let end = places_end (has_key k) 0 cs (Some c) in
+    let end' = rw z at end in
+    second' ∙ two_puts (bytes_eq (key_head false c.name) k) (bytes_eq (work_key c) k) place (places_where (has_key k) 0 cs) (apart k c.name c.name c.objects) ∙ sym end'
+
+pub none_put : (keys rows : List (Vec ℕ)) (cs : List (Option Work)) → AreRows keys cs rows → AreRows keys (cs ++ None ∷ []) rows
+none_put keys rows cs are k i e = are k i e ∙ sym (places_end (has_key k) 0 cs None ∙ append-nil (places_where (has_key k) 0 cs))
