@@ -1,14 +1,12 @@
 -- What the steps of building a tree keep.
-use Rattle.std.proofs.Common.{◌≡◌, ℕ, suc, ◌+◌, ◌<◌, ◌&&◌, ◌==◌, Bool, true, false, not, List, [], ◌∷◌, ◌++◌, append_assoc, length, map, drop, get_or, slice_get, refl, sym, ap, ◌∙◌, arith, nat_eq, nat_lt, Option, None, Some, position, cond, add-one, if◌then◌else◌}
+use Rattle.std.proofs.Common.{◌≡◌, ℕ, zero, suc, ◌+◌, ◌<◌, ◌&&◌, ◌==◌, Bool, true, false, not, List, [], ◌∷◌, ◌++◌, append_assoc, length, map, drop, get_or, slice_get, refl, sym, ap, ◌∙◌, arith, nat_eq, Option, None, Some, position, cond, add-one, if◌then◌else◌}
 use Rattle.std.specs.Str.{bytes_eq}
-use Rattle.std.specs.List.{list_all, find, filter_map, cons_option, position_or_len}
+use Rattle.std.specs.List.{list_all, find, filter_map, position_or_len}
 use Rattle.std.specs.Option.{option_map}
 use Rattle.std.specs.Cmp.Lexicographic.{pointwise}
 use Rattle.std.proofs.lemmas.List.{map-append, length-map}
 use Rattle.std.proofs.lemmas.List.Folds.{find_at}
-use Rattle.std.proofs.lemmas.Bool.{eqb-true, eq-eqb, ltb-true}
-use Rattle.std.proofs.lemmas.Bool.Decides.{nat_tests}
-use Rattle.std.proofs.lemmas.Option.{slice_get-get_or, slice_get-map, slice_get_past}
+use Rattle.std.proofs.lemmas.Bool.{eqb-true, eq-eqb}
 use Rattle.std.proofs.Math.Seq.{drop-cons}
 use Rattle.hv_text.specs.declared.name.Name.{Name}
 use Rattle.hv_text.specs.Names.{text_of}
@@ -17,7 +15,7 @@ use Rattle.hv_judge.specs.Counting.{multiplicity, multiplicities}
 use Rattle.hv_judge.specs.declared.answer.Cause.{Cause}
 use Rattle.hv_judge.specs.declared.tree.TreeFault.{TreeFault}
 use Rattle.hv_judge.specs.declared.tree.TreeFault.TheVariants as faults
-use Rattle.hv_judge.specs.Trees.{IsCause, or_else, ids_of, name_of}
+use Rattle.hv_judge.specs.Trees.{IsCause, or_else, ids_of, name_of, occurs, repeated}
 use Rattle.hv_judge.proofs.CountLemmas.{found_at, place, place-map, same_key}
 
 -- a cause that comes first is the cause
@@ -44,6 +42,21 @@ one_passes p is k whole h e same =
     let first : (p (get_or is k 0) && list_all p (drop (suc k) is)) ≡ whole = rw (drop-cons is k 0 h) at same in
     rw (add-one k) (rw e at first)
 
+-- what stands at a place begins what stands from there on
+pub from_there : {A : Type 0} (xs : List A) (i : ℕ) (x : A) → slice_get xs i ≡ Some x → drop i xs ≡ x ∷ drop (i + 1) xs
+from_there [] i x e = let bad : None ≡ Some x = e in cc
+from_there (y ∷ xs) zero x e = let same : y ≡ x = (let f : Some y ≡ Some x = e in cc) in ap (λ z. z ∷ xs) same
+from_there (y ∷ xs) (suc i) x e =
+    let again : drop i xs ≡ x ∷ drop (i + 1) xs = from_there xs i x e in
+    let one : suc i + 1 ≡ suc (i + 1) = omega arith in
+    rw one again
+
+-- something stands at each place
+pub some_there : {A : Type 0} (xs : List A) (i : ℕ) → i < length xs → None ≡ slice_get xs i → ⊥
+some_there [] i h e = absurd (omega arith)
+some_there (x ∷ xs) zero h e = let bad : None ≡ Some x = e in cc
+some_there (x ∷ xs) (suc i) h e = some_there xs i (omega arith) e
+
 -- one number more was read
 pub more_read : {A X : Type 0} (g : ℕ → X) (f : A → X) (xs : List A) (i : ℕ) (d : A) (done new : List ℕ) (k : ℕ) (whole : List X) → i < length xs
     → map g done ++ map f (drop i xs) ≡ whole → g k ≡ f (get_or xs i d) → new ≡ done ++ k ∷ [] → map g new ++ map f (drop (i + 1) xs) ≡ whole
@@ -51,25 +64,59 @@ more_read g f xs i d done new k whole h e at n =
     let apart : map g done ++ (f (get_or xs i d) ∷ map f (drop (suc i) xs)) ≡ whole = rw (drop-cons xs i d h) at e in
     rw (n, map-append g done (k ∷ []), add-one i, at, append_assoc) apart
 
-pub more_seen : {A B X : Type 0} (g : ℕ → X) (f : A → X) (v : B → A) (xs : List B) (i : ℕ) (d : B) (done new : List ℕ) (k : ℕ) (whole : List X) → i < length xs
-    → map g done ++ map f (map v (drop i xs)) ≡ whole → g k ≡ f (v (get_or xs i d)) → new ≡ done ++ k ∷ [] → map g new ++ map f (map v (drop (i + 1) xs)) ≡ whole
-more_seen g f v xs i d done new k whole h e at n =
-    let apart : map g done ++ (f (v (get_or xs i d)) ∷ map f (map v (drop (suc i) xs))) ≡ whole = rw (drop-cons xs i d h) at e in
-    rw (n, map-append g done (k ∷ []), add-one i, at, append_assoc) apart
+pub more_seen : {A X : Type 0} (g : ℕ → X) (f : A → X) (xs : List A) (i : ℕ) (x : A) (done new : List ℕ) (k : ℕ) (whole : List X) → slice_get xs i ≡ Some x
+    → map g done ++ map f (drop i xs) ≡ whole → g k ≡ f x → new ≡ done ++ k ∷ [] → map g new ++ map f (drop (i + 1) xs) ≡ whole
+more_seen g f xs i x done new k whole there e at n =
+    let apart : map g done ++ (f x ∷ map f (drop (i + 1) xs)) ≡ whole = rw (from_there xs i x there) at e in
+    rw (n, map-append g done (k ∷ []), at, append_assoc) apart
+
+-- one id more was seen
+pub more_ids : (ls : List Action) (i : ℕ) (l : Action) (done new whole : List ℕ) → slice_get ls i ≡ Some l
+    → done ++ ids_of (drop i ls) ≡ whole → new ≡ done ++ l.id ∷ [] → new ++ ids_of (drop (i + 1) ls) ≡ whole
+more_ids ls i l done new whole there e n =
+    let apart : done ++ (l.id ∷ ids_of (drop (i + 1) ls)) ≡ whole = rw (from_there ls i l there) at e in
+    rw (n, append_assoc) apart
+
+module _ (ls : List Action) (i : ℕ) (l : Action) (seen : List ℕ) (whole : Option Action) (there : slice_get ls i ≡ Some l)
+    (same : repeated (λ a. a.id) seen (drop i ls) ≡ whole) where
+  decides : (if occurs l.id seen then Some l else repeated (λ a. a.id) (seen ++ l.id ∷ []) (drop (i + 1) ls)) ≡ whole
+  decides = rw (from_there ls i l there) at same
+
+  -- the first line that is left and whose id was seen is the first of all
+  pub repeated_there : (new : Bool) → new ≡ not (occurs l.id seen) → new ≡ false → whole ≡ Some l
+  repeated_there new n f =
+      let old : occurs l.id seen ≡ true = was_there (occurs l.id seen) new n f in
+      sym (rw old at decides)
+    where
+      was_there : (b c : Bool) → c ≡ not b → c ≡ false → b ≡ true
+      was_there true c e f = refl
+      was_there false c e f = cc
+
+  -- its id is new, and the others decide
+  pub not_repeated : (new : Bool) (seen' : List ℕ) → new ≡ not (occurs l.id seen) → new ≡ true → seen' ≡ (if occurs l.id seen then seen else seen ++ l.id ∷ [])
+      → (seen' ≡ seen ++ l.id ∷ []) × (repeated (λ a. a.id) seen' (drop (i + 1) ls) ≡ whole)
+  not_repeated new seen' n t k =
+      let fresh : occurs l.id seen ≡ false = was_new (occurs l.id seen) new n t in
+      let more : seen' ≡ seen ++ l.id ∷ [] = rw fresh at k in
+      (more, rw more (rw fresh at decides))
+    where
+      was_new : (b c : Bool) → c ≡ not b → c ≡ true → b ≡ false
+      was_new true c e t = cc
+      was_new false c e t = refl
 
 -- the first that is left is the first of all that passes
-pub found_first : {A B : Type 0} (p : A → Bool) (v : B → A) (xs : List B) (i : ℕ) (d : B) (whole : Option A) → i < length xs → p (v (get_or xs i d)) ≡ true
-    → find p (map v (drop i xs)) ≡ whole → whole ≡ Some (v (get_or xs i d))
-found_first p v xs i d whole h e same =
-    let first : cond (p (v (get_or xs i d))) (Some (v (get_or xs i d))) (find p (map v (drop (suc i) xs))) ≡ whole = rw (drop-cons xs i d h) at same in
+pub found_first : {A : Type 0} (p : A → Bool) (xs : List A) (i : ℕ) (x : A) (whole : Option A) → slice_get xs i ≡ Some x → p x ≡ true
+    → find p (drop i xs) ≡ whole → whole ≡ Some x
+found_first p xs i x whole there e same =
+    let first : cond (p x) (Some x) (find p (drop (i + 1) xs)) ≡ whole = rw (from_there xs i x there) at same in
     sym (rw e at first)
 
 -- it does not pass, and the others decide
-pub passed_first : {A B : Type 0} (p : A → Bool) (v : B → A) (xs : List B) (i : ℕ) (d : B) (whole : Option A) → i < length xs → p (v (get_or xs i d)) ≡ false
-    → find p (map v (drop i xs)) ≡ whole → find p (map v (drop (i + 1) xs)) ≡ whole
-passed_first p v xs i d whole h e same =
-    let first : cond (p (v (get_or xs i d))) (Some (v (get_or xs i d))) (find p (map v (drop (suc i) xs))) ≡ whole = rw (drop-cons xs i d h) at same in
-    rw (add-one i) (rw e at first)
+pub passed_first : {A : Type 0} (p : A → Bool) (xs : List A) (i : ℕ) (x : A) (whole : Option A) → slice_get xs i ≡ Some x → p x ≡ false
+    → find p (drop i xs) ≡ whole → find p (drop (i + 1) xs) ≡ whole
+passed_first p xs i x whole there e same =
+    let first : cond (p x) (Some x) (find p (drop (i + 1) xs)) ≡ whole = rw (from_there xs i x there) at same in
+    rw e at first
 
 place_get : (q : List ℕ) (ds : List (List ℕ)) → place q ds < length ds → slice_get ds (place q ds) ≡ Some q
 place_get q [] h = absurd (omega arith)
@@ -134,35 +181,6 @@ children_named ls (k ∷ ks) (i ∷ root) e =
 pub same_tables : (ds vs ws : List (List ℕ)) → pointwise nat_eq (multiplicities ds vs) (multiplicities ds ws) ≡ list_all (λ d. multiplicity d vs == multiplicity d ws) ds
 same_tables [] vs ws = refl
 same_tables (d ∷ ds) vs ws = ap (λ b. (multiplicity d vs == multiplicity d ws) && b) (same_tables ds vs ws)
-
--- the names so far, with that of one place more
-more_names : (ls : List Action) (places : List ℕ) (i : ℕ) (done whole : List (List ℕ)) → i < length places
-    → done ++ filter_map (λ k. option_map (λ a. a.name) (slice_get ls k)) (drop i places) ≡ whole
-    → done ++ cons_option (option_map (λ a. a.name) (slice_get ls (get_or places i 0))) (filter_map (λ k. option_map (λ a. a.name) (slice_get ls k)) (drop (i + 1) places)) ≡ whole
-more_names ls places i done whole h e = rw (add-one i) (rw (drop-cons places i 0 h) at e)
-
--- a line is found at the place, and its name was read
-pub name_found : {A : Type 0} (view : A → Action) (xs : List A) (places : List ℕ) (i : ℕ) (done new : List Name) (x : A) (n : Name) (whole : List (List ℕ)) → i < length places
-    → true ≡ nat_lt (get_or places i 0) (length xs) → x ≡ get_or xs (get_or places i 0) x → text_of n ≡ (view x).name → new ≡ done ++ n ∷ []
-    → map text_of done ++ filter_map (λ k. option_map (λ a. a.name) (slice_get (map view xs) k)) (drop i places) ≡ whole
-    → map text_of new ++ filter_map (λ k. option_map (λ a. a.name) (slice_get (map view xs) k)) (drop (i + 1) places) ≡ whole
-name_found view xs places i done new x n whole h t is named pushed e =
-    let more = more_names (map view xs) places i (map text_of done) whole h e in
-    let here : slice_get xs (get_or places i 0) ≡ Some x
-    = slice_get-get_or xs (get_or places i 0) x (ltb-true (get_or places i 0) (length xs) (sym t)) ∙ ap (λ y. Some y) (sym is) in
-    let seen : slice_get (map view xs) (get_or places i 0) ≡ Some (view x) = slice_get-map view xs (get_or places i 0) ∙ ap (option_map view) here in
-    rw (pushed, map-append text_of done (n ∷ []), append_assoc, named) (rw seen at more)
-
--- no line is at the place
-pub name_missing : {A : Type 0} (view : A → Action) (xs : List A) (places : List ℕ) (i : ℕ) (done : List Name) (whole : List (List ℕ)) → i < length places
-    → false ≡ nat_lt (get_or places i 0) (length xs)
-    → map text_of done ++ filter_map (λ k. option_map (λ a. a.name) (slice_get (map view xs) k)) (drop i places) ≡ whole
-    → map text_of done ++ filter_map (λ k. option_map (λ a. a.name) (slice_get (map view xs) k)) (drop (i + 1) places) ≡ whole
-name_missing view xs places i done whole h t e =
-    let more = more_names (map view xs) places i (map text_of done) whole h e in
-    let past : slice_get xs (get_or places i 0) ≡ None = slice_get_past xs (get_or places i 0) (grind (arith, nat_tests, t)) in
-    let none : slice_get (map view xs) (get_or places i 0) ≡ None = slice_get-map view xs (get_or places i 0) ∙ ap (option_map view) past in
-    rw none at more
 
 -- equal numbers make no cause
 pub same_count : (m n : ℕ) (x : Cause) → m ≡ n → (if m == n then None else Some x) ≡ None

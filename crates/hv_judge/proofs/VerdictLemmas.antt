@@ -1,9 +1,9 @@
 -- From what the parts of the judge know to the verdict.
-use Rattle.std.proofs.Common.{◌≡◌, ◌<◌, ◌≤◌, ◌++◌, ◌||◌, ℕ, zero, suc, Bool, true, false, List, [], ◌∷◌, length, map, get_or, Option, Some, None, Result, Ok, Err, IfOk, refl, sym, ◌∙◌, ap, subst, arith, nat_lt}
+use Rattle.std.proofs.Common.{◌≡◌, ◌+◌, ◌<◌, ◌≤◌, ◌++◌, ◌&&◌, ◌||◌, ℕ, zero, suc, Bool, true, false, List, [], ◌∷◌, length, map, drop, get_or, Option, Some, None, Result, Ok, Err, IfOk, refl, sym, ◌∙◌, ap, subst, arith, nat_lt}
 use Rattle.std.proofs.lemmas.Slice.Eq.{bytes_eq-Decides, slice_eq-Decides}
 use Rattle.std.proofs.lemmas.Bool.{ltb-false}
 use Rattle.std.proofs.lemmas.Option.{slice_get-map}
-use Rattle.std.proofs.lemmas.List.{length-map}
+use Rattle.std.proofs.lemmas.List.{length-map, drop_more}
 use Rattle.std.proofs.lemmas.List.Folds.{list_any-append}
 use Rattle.std.specs.Cmp.Lexicographic.{pointwise}
 use Rattle.std.specs.List.{slice_get, filter_map, find, list_all, list_any}
@@ -29,6 +29,7 @@ use Rattle.hv_judge.specs.Statics.{names, is_among, undeclared, repeated, action
 use Rattle.hv_judge.specs.Counting.{subtask_names, stands_in}
 use Rattle.hv_judge.specs.Trees.{cause_of, IsCause, AreNumbers}
 use Rattle.hv_judge.specs.Causes.{IsTreeCause}
+use Rattle.hv_judge.proofs.TreeLemmas.{from_there}
 use Rattle.hv_judge.proofs.CauseLemmas.{all_among, none_where_fits, fits_where_none, found_is_cause, cause_is_found}
 use Rattle.hv_judge.specs.Verdicts.{action_named, actions_of, subtasks_of, first_state, FitsProblem, IsVerdict, by_tree, by_action, IsFailedTree, IsStopWithin, IsStopped}
 
@@ -235,6 +236,18 @@ no_cause_of_fit d p q s h = none_where_fits (action_names d) (subtasks_of p) (kn
 pub cause_of_tree : (d : Domain) (p : Problem) (q : Plan) (c : Cause) → IsStatic d p → IsTreeCause (action_names d) (subtasks_of p) q c
     → cause_of (action_names d) (subtasks_of p) q ≡ Some c
 cause_of_tree d p q c s h = cause_is_found (action_names d) (subtasks_of p) (known_subtasks d p s) q c h
+
+-- names of what is left, the first by the first
+pub order_decides : (ss : List Placed) (ls : List plans.Action) (i : ℕ) (s : Placed) (l : plans.Action) (whole : Bool) → i < length ss → s ≡ get_or ss i s → slice_get ls i ≡ Some l
+    → pointwise bytes_eq (subtask_names (drop i ss)) (map (λ a. a.name) (drop i ls)) ≡ whole → (same : Bool) → same ≡ bytes_eq (text_of s.name) l.name
+    → (same ≡ false → false ≡ whole) × (same ≡ true → pointwise bytes_eq (subtask_names (drop (i + 1) ss)) (map (λ a. a.name) (drop (i + 1) ls)) ≡ whole)
+order_decides ss ls i s l whole h is there e same n =
+    let front : drop i ss ≡ s ∷ drop (i + 1) ss = drop_more ss i s h ∙ ap (λ y. y ∷ drop (i + 1) ss) (sym is) in
+    let first : (bytes_eq (text_of s.name) l.name && pointwise bytes_eq (subtask_names (drop (i + 1) ss)) (map (λ a. a.name) (drop (i + 1) ls))) ≡ whole
+    = rw (front, from_there ls i l there) at e in (
+      λ f. let out : bytes_eq (text_of s.name) l.name ≡ false = sym n ∙ f in rw out at first,
+      λ t. let in' : bytes_eq (text_of s.name) l.name ≡ true = sym n ∙ t in rw in' at first,
+    )
 
 -- names in one order
 pub in_order : (xs ys : List (List ℕ)) (b : Bool) → b ≡ pointwise bytes_eq xs ys → b ≡ true → xs ≡ ys

@@ -105,7 +105,7 @@ pub(crate) fn reported_plan(fault: PlanFault) -> Option<Fault>
 fn decomposition_fault(plan: &PlanText<'_>) -> Option<Fault>
     ensures { result ≡ decomposition_fault (plan_view plan.now).decompositions }
 {
-    match plan.decompositions().first() {
+    match plan.decompositions().get(0) {
         Some(line) => at_line(FaultKind::BadLine, line.line()),
         None => None,
     }

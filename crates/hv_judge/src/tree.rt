@@ -4,7 +4,7 @@ ghost use Rattle.std.specs.Prelude.{◌≡◌, ◌==◌, ℕ, [], not, if◌then
 ghost use Rattle.std.specs.List.{list_all, find, filter_map};
 ghost use Rattle.std.specs.Option.{option_map};
 ghost use Rattle.hv_text.specs.Names.{text_of};
-ghost use Rattle.hv_plan.specs.LineViews.{action_view, plan_view};
+ghost use Rattle.hv_plan.specs.LineViews.{actions_view, plan_view};
 ghost use Rattle.hv_judge.specs.Counting.{multiplicity, stands_in, subtask_names};
 ghost use Rattle.hv_judge.specs.Trees.{declared_names, at_line, at_action, at_root, ids_of, occurs, repeated, has_arguments, tree_cause, fit_cause, children_cause, cause_of, IsCause, AreNumbers, ArePlaces, AreFirstPlaces};
 ghost use Rattle.hv_judge.specs.declared.answer.CauseKind.TheVariants as kinds;
@@ -13,7 +13,7 @@ ghost use Rattle.hv_judge.specs.declared.tree.TreeFault.TheVariants as faults;
 use crate::answer::{Cause, CauseKind};
 use crate::matching::{multiplicities, subtask_names};
 use crate::syntax::word::Placed;
-use hv_plan::{ActionLine, PlanText};
+use hv_plan::{ActionLines, PlanText};
 use hv_text::Name;
 use indexmap::IndexSet;
 use std::alloc::{AllocError, AllocFailed, Global};
@@ -152,15 +152,17 @@ fn check_children<'s>(
 }
 
 // The ids of the lines, each of which begins one line.
-fn read_ids(alloc: Global, actions: &[ActionLine<'_>]) -> Result<IndexSet<u64>, TreeFault>
-    ensures once { OnOk result (at_action kinds.RepeatedId (repeated (λ a. a.id) [] (map action_view actions.now)) ≡ None) }
-    ensures ids { IfOk result (λ s. s.keys ≡ ids_of (map action_view actions.now)) }
-    ensures err { IfErr result (IsCause (at_action kinds.RepeatedId (repeated (λ a. a.id) [] (map action_view actions.now)))) }
+fn read_ids(alloc: Global, actions: &ActionLines<'_>) -> Result<IndexSet<u64>, TreeFault>
+    ensures once { OnOk result (at_action kinds.RepeatedId (repeated (λ a. a.id) [] (actions_view actions.now)) ≡ None) }
+    ensures ids { IfOk result (λ s. s.keys ≡ ids_of (actions_view actions.now)) }
+    ensures err { IfErr result (IsCause (at_action kinds.RepeatedId (repeated (λ a. a.id) [] (actions_view actions.now)))) }
 {
     let mut ids = IndexSet::new(alloc);
-    for action in actions {
-        if !ids.insert(action.id())? {
-            return Err(fault(CauseKind::RepeatedId, action.line()));
+    for place in 0..actions.len() {
+        if let Some(action) = actions.get(place) {
+            if !ids.insert(action.id())? {
+                return Err(fault(CauseKind::RepeatedId, action.line()));
+            }
         }
     }
     Ok(ids)
@@ -203,13 +205,15 @@ fn read_reached(alloc: Global, root: &[u64], line: u32) -> Result<IndexSet<u64>,
 }
 
 // Each line is a child.
-fn check_reached(reached: &IndexSet<u64>, actions: &[ActionLine<'_>]) -> Result<(), TreeFault>
-    ensures ok { OnOk result (at_action kinds.Unreached (find (λ a. not (occurs a.id reached.now.keys)) (map action_view actions.now)) ≡ None) }
-    ensures err { IfErr result (IsCause (at_action kinds.Unreached (find (λ a. not (occurs a.id reached.now.keys)) (map action_view actions.now)))) }
+fn check_reached(reached: &IndexSet<u64>, actions: &ActionLines<'_>) -> Result<(), TreeFault>
+    ensures ok { OnOk result (at_action kinds.Unreached (find (λ a. not (occurs a.id reached.now.keys)) (actions_view actions.now)) ≡ None) }
+    ensures err { IfErr result (IsCause (at_action kinds.Unreached (find (λ a. not (occurs a.id reached.now.keys)) (actions_view actions.now)))) }
 {
-    for action in actions {
-        if !reached.contains(&action.id()) {
-            return Err(fault(CauseKind::Unreached, action.line()));
+    for place in 0..actions.len() {
+        if let Some(action) = actions.get(place) {
+            if !reached.contains(&action.id()) {
+                return Err(fault(CauseKind::Unreached, action.line()));
+            }
         }
     }
     Ok(())
@@ -219,30 +223,34 @@ fn check_reached(reached: &IndexSet<u64>, actions: &[ActionLine<'_>]) -> Result<
 fn read_numbers<'s>(
     alloc: Global,
     declared: &IndexSet<Name<'s>>,
-    actions: &[ActionLine<'s>],
+    actions: &ActionLines<'s>,
 ) -> Result<Vec<usize>, TreeFault>
-    ensures known { OnOk result (at_action kinds.UnknownTask (find (λ a. not (stands_in (declared_names declared.now) a.name)) (map action_view actions.now)) ≡ None) }
-    ensures numbers { IfOk result (λ v. map (slice_get (declared_names declared.now)) v.items ≡ map (λ a. Some a.name) (map action_view actions.now)) }
-    ensures err { IfErr result (IsCause (at_action kinds.UnknownTask (find (λ a. not (stands_in (declared_names declared.now) a.name)) (map action_view actions.now)))) }
+    ensures known { OnOk result (at_action kinds.UnknownTask (find (λ a. not (stands_in (declared_names declared.now) a.name)) (actions_view actions.now)) ≡ None) }
+    ensures numbers { IfOk result (λ v. map (slice_get (declared_names declared.now)) v.items ≡ map (λ a. Some a.name) (actions_view actions.now)) }
+    ensures err { IfErr result (IsCause (at_action kinds.UnknownTask (find (λ a. not (stands_in (declared_names declared.now) a.name)) (actions_view actions.now)))) }
 {
     let mut numbers = Vec::new(alloc);
-    for action in actions {
-        let Some(number) = declared.get_index_of(&action.name()) else {
-            return Err(fault(CauseKind::UnknownTask, action.line()));
-        };
-        numbers.push(number)?;
+    for place in 0..actions.len() {
+        if let Some(action) = actions.get(place) {
+            let Some(number) = declared.get_index_of(&action.name()) else {
+                return Err(fault(CauseKind::UnknownTask, action.line()));
+            };
+            numbers.push(number)?;
+        }
     }
     Ok(numbers)
 }
 
 // No line has an argument.
-fn check_arguments(actions: &[ActionLine<'_>]) -> Result<(), TreeFault>
-    ensures ok { OnOk result (at_action kinds.UnknownObject (find has_arguments (map action_view actions.now)) ≡ None) }
-    ensures err { IfErr result (IsCause (at_action kinds.UnknownObject (find has_arguments (map action_view actions.now)))) }
+fn check_arguments(actions: &ActionLines<'_>) -> Result<(), TreeFault>
+    ensures ok { OnOk result (at_action kinds.UnknownObject (find has_arguments (actions_view actions.now)) ≡ None) }
+    ensures err { IfErr result (IsCause (at_action kinds.UnknownObject (find has_arguments (actions_view actions.now)))) }
 {
-    for action in actions {
-        if !action.arguments().is_empty() {
-            return Err(fault(CauseKind::UnknownObject, action.line()));
+    for place in 0..actions.len() {
+        if let Some(action) = actions.get(place) {
+            if !action.arguments().is_empty() {
+                return Err(fault(CauseKind::UnknownObject, action.line()));
+            }
         }
     }
     Ok(())
@@ -252,9 +260,9 @@ fn check_arguments(actions: &[ActionLine<'_>]) -> Result<(), TreeFault>
 fn read_names<'s>(
     alloc: Global,
     places: &[usize],
-    actions: &[ActionLine<'s>],
+    actions: &ActionLines<'s>,
 ) -> Result<Vec<Name<'s>>, TreeFault>
-    ensures names { IfOk result (λ v. map text_of v.items ≡ filter_map (λ k. option_map (λ a. a.name) (slice_get (map action_view actions.now) k)) places.now) }
+    ensures names { IfOk result (λ v. map text_of v.items ≡ filter_map (λ k. option_map (λ a. a.name) (slice_get (actions_view actions.now) k)) places.now) }
     ensures err { IfErr result (λ f. f ≡ faults.Memory) }
 {
     let mut names = Vec::new(alloc);

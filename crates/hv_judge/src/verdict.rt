@@ -1,10 +1,10 @@
 //! The verdict on a plan in a world.
 
-ghost use Rattle.std.specs.Prelude.{◌≡◌, [], map, length, IfOk};
+ghost use Rattle.std.specs.Prelude.{◌≡◌, [], map, length, option_map, slice_get, IfOk};
 ghost use Rattle.std.specs.Cmp.Lexicographic.{pointwise};
 ghost use Rattle.std.specs.Str.{bytes_eq};
 ghost use Rattle.hv_text.specs.Names.{text_of};
-ghost use Rattle.hv_plan.specs.LineViews.{action_view, plan_view};
+ghost use Rattle.hv_plan.specs.LineViews.{action_view, actions_view, plan_view};
 ghost use Rattle.hv_judge.specs.Atoms.{atoms_of};
 ghost use Rattle.hv_judge.specs.Counting.{subtask_names};
 ghost use Rattle.hv_judge.specs.States.{AreApplicable};
@@ -22,7 +22,7 @@ use crate::trace::{Stop, run};
 use crate::tree::{Tree, TreeFault};
 use crate::world::World;
 use hv_order::laws::sequence_law;
-use hv_plan::{ActionLine, PlanText};
+use hv_plan::{ActionLine, ActionLines, PlanText};
 use hv_text::Memory;
 use std::alloc::Global;
 
@@ -37,21 +37,24 @@ fn is_goal_true(world: &World<'_>, state: &Atoms<'_>) -> bool
 }
 
 // Whether a line names a subtask.
-fn is_named(action: &ActionLine<'_>, subtask: &Placed<'_>) -> bool
-    ensures { result ≡ bytes_eq (text_of subtask.now.name) (action_view action.now).name }
+fn is_named(action: ActionLine<'_, '_>, subtask: &Placed<'_>) -> bool
+    ensures { result ≡ bytes_eq (text_of subtask.now.name) (action_view action.entry).name }
 {
     subtask.name == action.name()
 }
 
 // Whether the plan's actions are those of the subtasks, in the same order.
-fn is_in_order(subtasks: &[Placed<'_>], actions: &[ActionLine<'_>]) -> bool
-    ensures { result ≡ pointwise bytes_eq (subtask_names subtasks.now) (map (λ a. a.name) (map action_view actions.now)) }
+fn is_in_order(subtasks: &[Placed<'_>], actions: &ActionLines<'_>) -> bool
+    ensures { result ≡ pointwise bytes_eq (subtask_names subtasks.now) (map (λ a. a.name) (actions_view actions.now)) }
 {
     if subtasks.len() != actions.len() {
         return false;
     }
     for place in 0..subtasks.len() {
-        if !is_named(&actions[place], &subtasks[place]) {
+        let Some(action) = actions.get(place) else {
+            return false;
+        };
+        if !is_named(action, &subtasks[place]) {
             return false;
         }
     }
@@ -59,14 +62,16 @@ fn is_in_order(subtasks: &[Placed<'_>], actions: &[ActionLine<'_>]) -> bool
 }
 
 // The certificate of a plan whose actions stand in the order of the subtasks.
-fn certificate<'s>(alloc: Global, actions: &[ActionLine<'s>]) -> Result<Certificate<'s>, Memory>
-    ensures children { IfOk result (λ c. c.root.children.items ≡ ids_of (map action_view actions.now)) }
+fn certificate<'s>(alloc: Global, actions: &ActionLines<'s>) -> Result<Certificate<'s>, Memory>
+    ensures children { IfOk result (λ c. c.root.children.items ≡ ids_of (actions_view actions.now)) }
     ensures objects { IfOk result (λ c. c.root.objects.items ≡ []) }
     ensures lines { IfOk result (λ c. c.lines.items ≡ []) }
 {
     let mut children = Vec::new(alloc);
-    for action in actions {
-        children.push(action.id())?;
+    for place in 0..actions.len() {
+        if let Some(action) = actions.get(place) {
+            children.push(action.id())?;
+        }
     }
     Ok(Certificate {
         root: Choice {
@@ -121,15 +126,23 @@ fn failed_tree<'s>(fault: TreeFault) -> Result<Answer<'s>, Memory>
     }
 }
 
+// The number of the line of a place, where there is one.
+fn line_at(actions: &ActionLines<'_>, place: usize) -> Option<u32>
+    ensures { result ≡ option_map (λ a. a.line) (slice_get (actions_view actions.now) place) }
+{
+    let action = actions.get(place)?;
+    Some(action.line())
+}
+
 // A plan with an action that is not applicable fails at that action's line.
-fn stopped<'s>(stop: Stop, actions: &[ActionLine<'_>]) -> Result<Answer<'s>, Memory>
-    requires { IsStopWithin (length actions.now) stop }
-    ensures { IfOk result (IsStopped (map action_view actions.now) stop) }
+fn stopped<'s>(stop: Stop, actions: &ActionLines<'_>) -> Result<Answer<'s>, Memory>
+    requires { IsStopWithin (length (actions_view actions.now)) stop }
+    ensures { IfOk result (IsStopped (actions_view actions.now) stop) }
 {
     match stop {
         Stop::Inapplicable(place) => Ok(Answer::Fails(Cause {
             kind: CauseKind::Inapplicable,
-            line: Some(actions[place].line()),
+            line: line_at(actions, place),
         })),
         Stop::Memory => Err(Memory),
     }

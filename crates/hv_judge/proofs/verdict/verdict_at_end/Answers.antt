@@ -4,7 +4,7 @@ use Rattle.std.specs.Str.{bytes_eq}
 use Rattle.hv_judge.specs.DomainViews.{domain_view}
 use Rattle.hv_judge.specs.ProblemViews.{problem_view}
 use Rattle.hv_judge.specs.Counting.{count}
-use Rattle.hv_plan.specs.LineViews.{action_view, plan_view}
+use Rattle.hv_plan.specs.LineViews.{actions_view, plan_view}
 use Rattle.hv_judge.specs.Solutions.{IsMatching, IsOrderedBy}
 use Rattle.hv_judge.specs.Trees.{ids_of}
 use Rattle.hv_judge.specs.Verdicts.{is_goal_true, subtasks_of, count_of, IsRun, by_goal, by_order}
@@ -37,7 +37,7 @@ returns-then-not-is_in_order c =
     ap (λ ns. nat_lt c.args.limit (count ns)) (sym c.subtasks-subtasks.ensures) ∙ (sym c.in_ok-exceeds.ensures ∙ c.if-branch.false) in
     let tested : c.is_in_order.result ≡ pointwise bytes_eq (subtasks_of p) (map (λ a. a.name) q.actions) =
     c.is_in_order.ensures
-    ∙ (ap (λ xs. pointwise bytes_eq xs (map (λ a. a.name) (map action_view c.actions-2.result.now))) c.subtasks-subtasks.ensures
+    ∙ (ap (λ xs. pointwise bytes_eq xs (map (λ a. a.name) (actions_view c.actions-2.result.now))) c.subtasks-subtasks.ensures
     ∙ ap (λ ls. pointwise bytes_eq (subtasks_of p) (map (λ a. a.name) ls)) c.actions-2.ensures) in
     by_order run (not_less c.args.limit (count_of p) counted)
     (λ (children, matching, ordered).
@@ -59,7 +59,7 @@ returns c =
     ap (λ ns. nat_lt c.args.limit (count ns)) (sym c.subtasks-subtasks.ensures) ∙ (sym c.in_ok-exceeds.ensures ∙ c.if-branch.false) in
     let tested : c.is_in_order.result ≡ pointwise bytes_eq (subtasks_of p) (map (λ a. a.name) q.actions) =
     c.is_in_order.ensures
-    ∙ (ap (λ xs. pointwise bytes_eq xs (map (λ a. a.name) (map action_view c.actions-2.result.now))) c.subtasks-subtasks.ensures
+    ∙ (ap (λ xs. pointwise bytes_eq xs (map (λ a. a.name) (actions_view c.actions-2.result.now))) c.subtasks-subtasks.ensures
     ∙ ap (λ ls. pointwise bytes_eq (subtasks_of p) (map (λ a. a.name) ls)) c.actions-2.ensures) in
     let solved = in_order_solves c.sequence_law.ensures.sequence (subtasks_of p) q c.requires.tree.tree
     (in_order (subtasks_of p) (map (λ a. a.name) q.actions) c.is_in_order.result tested c.if-not-is_in_order.false) in

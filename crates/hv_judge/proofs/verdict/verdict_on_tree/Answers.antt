@@ -1,10 +1,8 @@
 use Rattle.std.proofs.Common.{◌≡◌, IfOk, length, map, ap, sym, subst, ◌∙◌}
-use Rattle.std.proofs.lemmas.List.{length-map}
 use Rattle.hv_judge.specs.Views.{literal_view}
 use Rattle.hv_judge.specs.DomainViews.{action_view, domain_view}
 use Rattle.hv_judge.specs.ProblemViews.{problem_view}
-use Rattle.hv_plan.specs.LineViews.{plan_view}
-use Rattle.hv_plan.specs.LineViews as lines
+use Rattle.hv_plan.specs.LineViews.{actions_view, plan_view}
 use Rattle.hv_judge.specs.States.{state_after}
 use Rattle.hv_judge.specs.Traces.{first_stop, IsStop}
 use Rattle.hv_judge.specs.Verdicts.{actions_of, first_state, IsStopped}
@@ -48,9 +46,9 @@ stopped-requires c =
     c.action_texts.ensures c.actions.ensures in
     let stops = subst (λ o. IsStop o c.in-Err.stop)
     (run_as first_stop (map literal_view c.init.result.now) p.init _ (actions_of d q) c.init.ensures same) c.in-Err.ensures.stop in
-    let lent = c.actions-in-Err.result.now in
+    let lent = actions_view c.actions-in-Err.result.now in
     let many : length (actions_of d q) ≡ length lent =
-    as_many_actions d p q c.args.tree.now.actions.items c.requires.sound c.requires.numbers ∙ (ap length (sym c.actions-in-Err.ensures) ∙ length-map lent lines.action_view) in
+    as_many_actions d p q c.args.tree.now.actions.items c.requires.sound c.requires.numbers ∙ ap length (sym c.actions-in-Err.ensures) in
     stop_within (first_state p) (actions_of d q) (length lent) c.in-Err.stop stops many
 
 pub returns-in-Err : goal.returns-in-Err
