@@ -2,7 +2,7 @@
 
 ghost use Rattle.std.specs.Prelude.{◌<◌, length, IfSome};
 ghost use Rattle.hv_world.specs.WorldViews.{world_view};
-ghost use Rattle.hv_plan.specs.TreeViews.{tree_view};
+ghost use Rattle.hv_plan.specs.BuiltTrees.{tree_view};
 ghost use Rattle.hv_match.specs.Candidates.{IsNode};
 
 mod slow;
@@ -11,19 +11,18 @@ use crate::texts::{
     EMPTY, NO_RELIC, NO_RELIC_FOR_MANY, ONE, ORDERS, PLAN1, THREE, TRANSPORT, TWENTY, TWENTY_ONE,
     WIDE, WIDE_APART,
 };
-use crate::worlds::{tree_of, world_of};
+use crate::worlds::{plan_of, tree_of, world_of};
 use hv_match::{Candidate, Candidates, count, exceeds};
 use hv_plan::Tree;
 use hv_world::World;
 use std::alloc::Global;
 
 // The number of the node of an id, which the root line's has none.
-fn node_of(tree: &Tree, id: Option<u64>) -> Option<usize>
+fn node_of(tree: &Tree<'_, '_>, id: Option<u64>) -> Option<usize>
     ensures { IfSome result (λ v. v < length (tree_view tree.now).nodes) }
 {
-    let nodes = tree.nodes();
-    for number in 0..nodes.len() {
-        if nodes[number].id() == id {
+    for number in 0..tree.nodes().len() {
+        if tree.node(number)?.id() == id {
             return Some(number);
         }
     }
@@ -31,7 +30,7 @@ fn node_of(tree: &Tree, id: Option<u64>) -> Option<usize>
 }
 
 // The candidates of a node, where they are fewer than a thousand.
-fn all(alloc: Global, world: &World<'_>, tree: &Tree, node: usize) -> Option<Vec<Candidate>>
+fn all(alloc: Global, world: &World<'_>, tree: &Tree<'_, '_>, node: usize) -> Option<Vec<Candidate>>
     requires { IsNode (world_view world.now) (tree_view tree.now) node }
 {
     let mut candidates = Candidates::new(alloc, world, tree, node).ok()?;
@@ -46,7 +45,7 @@ fn all(alloc: Global, world: &World<'_>, tree: &Tree, node: usize) -> Option<Vec
 }
 
 // Whether the count of a node is this one.
-fn is_count(world: &World<'_>, tree: &Tree, node: usize, wanted: u64) -> bool
+fn is_count(world: &World<'_>, tree: &Tree<'_, '_>, node: usize, wanted: u64) -> bool
     requires { IsNode (world_view world.now) (tree_view tree.now) node }
 {
     if wanted > 0 && !exceeds(world, tree, node, wanted - 1) {
@@ -62,7 +61,8 @@ type Question = (&'static [u8], &'static [u8], &'static [u8], Option<u64>);
 fn found(alloc: Global, question: Question, wanted: u64) -> Option<usize> {
     let (domain, problem, plan, id) = question;
     let world = world_of(alloc, domain, problem)?;
-    let tree = tree_of(alloc, &world, plan)?;
+    let plan = plan_of(alloc, plan)?;
+    let tree = tree_of(alloc, &world, &plan)?;
     let node = node_of(&tree, id)?;
     if !is_count(&world, &tree, node, wanted) {
         return None;
@@ -133,7 +133,8 @@ fn root_count(
     plan: &'static [u8],
 ) -> Option<(u64, bool, bool)> {
     let world = world_of(alloc, ORDERS, problem)?;
-    let tree = tree_of(alloc, &world, plan)?;
+    let plan = plan_of(alloc, plan)?;
+    let tree = tree_of(alloc, &world, &plan)?;
     let node = node_of(&tree, None)?;
     let number = count(&world, &tree, node);
     let below = number.checked_sub(1)?;
@@ -234,7 +235,8 @@ const PLANS: [(&[u8], usize); 13] = [
 // How many candidates line 10 has, where they are those of the slow list.
 fn compared(alloc: Global, plan: &'static [u8]) -> Option<usize> {
     let world = world_of(alloc, STEPS, STEP)?;
-    let tree = tree_of(alloc, &world, plan)?;
+    let plan = plan_of(alloc, plan)?;
+    let tree = tree_of(alloc, &world, &plan)?;
     let node = node_of(&tree, Some(10))?;
     let found = all(alloc, &world, &tree, node)?;
     let wanted = slow::candidates(alloc, &world, &tree, node)?;

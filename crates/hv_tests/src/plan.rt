@@ -1,22 +1,34 @@
 //! What is read of plans, and the faults of their texts.
 
 use crate::texts::LINES;
-use hv_plan::{ActionLine, DecompositionLine, PlanFault, PlanText, read_plan};
+use hv_plan::{
+    ActionLine, ActionLines, DecompositionLine, DecompositionLines, PlanFault, PlanText, read_plan,
+};
 use std::alloc::Global;
 
 // The id of an action line of this name, how many arguments it has, and the number of the line.
-fn says_action(line: &ActionLine<'_>, name: &[u8]) -> Option<(u64, usize, u32)> {
+fn says_action(line: ActionLine<'_, '_>, name: &[u8]) -> Option<(u64, usize, u32)> {
     if !line.name().is(name) {
         return None;
     }
     Some((line.id(), line.arguments().len(), line.line()))
 }
 
+fn has_two_actions(lines: &ActionLines<'_>) -> bool {
+    !lines.is_empty() && lines.len() == 2 && lines.get(2).is_none()
+}
+
 fn has_actions(plan: &PlanText<'_>) -> bool {
-    let [first, second] = plan.actions() else {
+    let lines = plan.actions();
+    let Some(first) = lines.get(0) else {
         return false;
     };
-    says_action(first, b"move") == Some((7, 2, 3)) && says_action(second, b"2") == Some((1, 1, 6))
+    let Some(second) = lines.get(1) else {
+        return false;
+    };
+    has_two_actions(lines)
+        && says_action(first, b"move") == Some((7, 2, 3))
+        && says_action(second, b"2") == Some((1, 1, 6))
 }
 
 fn lends_actions(alloc: Global) -> Option<bool> {
@@ -30,22 +42,31 @@ fn lends_action_lines(rt: HostRuntime) {
 }
 
 // The same of a decomposition line.
-fn says_decomposition(line: &DecompositionLine<'_>, name: &[u8]) -> Option<(u64, usize, u32)> {
+fn says_decomposition(line: DecompositionLine<'_, '_>, name: &[u8]) -> Option<(u64, usize, u32)> {
     if !line.name().is(name) {
         return None;
     }
     Some((line.id(), line.arguments().len(), line.line()))
 }
 
-fn has_children(line: &DecompositionLine<'_>, method: &[u8], children: &[u64]) -> bool {
+fn has_children(line: DecompositionLine<'_, '_>, method: &[u8], children: &[u64]) -> bool {
     line.method().is(method) && line.children() == children
 }
 
+fn has_two(lines: &DecompositionLines<'_>) -> bool {
+    !lines.is_empty() && lines.len() == 2 && lines.get(2).is_none()
+}
+
 fn has_decompositions(plan: &PlanText<'_>) -> bool {
-    let [first, second] = plan.decompositions() else {
+    let lines = plan.decompositions();
+    let Some(first) = lines.get(0) else {
         return false;
     };
-    says_decomposition(first, b"go") == Some((0, 1, 8))
+    let Some(second) = lines.get(1) else {
+        return false;
+    };
+    has_two(lines)
+        && says_decomposition(first, b"go") == Some((0, 1, 8))
         && has_children(first, b"m1", &[7, 1])
         && says_decomposition(second, b"stay") == Some((18446744073709551615, 0, 9))
         && has_children(second, b"m2", &[])

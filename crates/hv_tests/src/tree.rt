@@ -1,7 +1,7 @@
 //! Trees of plans in a world, and why the lines of a plan form none.
 
 use crate::texts::{ONE, PLAN1, TRANSPORT};
-use crate::worlds::{tree_of, world_of};
+use crate::worlds::{plan_of, tree_of, world_of};
 use hv_plan::{Child, Node, Tree, TreeFault, read_plan};
 use hv_world::{ObjectId, World};
 use std::alloc::Global;
@@ -18,14 +18,8 @@ fn cause(alloc: Global, world: &World<'static>, text: &'static [u8]) -> (u32, u3
     }
 }
 
-// The tree of the plan for the package.
-fn delivery(alloc: Global) -> Option<Tree> {
-    let world = world_of(alloc, TRANSPORT, ONE)?;
-    tree_of(alloc, &world, PLAN1)
-}
-
 // Whether the actions are those of the plan, in its order.
-fn has_actions(tree: &Tree) -> bool {
+fn has_actions(tree: &Tree<'_, '_>) -> bool {
     let [load, drive, unload] = tree.actions() else {
         return false;
     };
@@ -33,22 +27,12 @@ fn has_actions(tree: &Tree) -> bool {
         && load.objects.as_slice() == [ObjectId(0), ObjectId(1), ObjectId(2)].as_slice()
 }
 
-fn has_action_ids(tree: &Tree) -> bool {
+fn has_action_ids(tree: &Tree<'_, '_>) -> bool {
     tree.action_id(0) == Some(1) && tree.action_id(2) == Some(3) && tree.action_id(3).is_none()
 }
 
-fn lists_actions(alloc: Global) -> Option<bool> {
-    let tree = delivery(alloc)?;
-    Some(has_actions(&tree) && has_action_ids(&tree))
-}
-
-#[test]
-fn the_actions_stand_in_plan_order(rt: HostRuntime) {
-    assert!(rt; lists_actions(rt.alloc()) == Some(true));
-}
-
 // The id of a node, its line, and the numbers of its task and its method.
-fn says(node: &Node) -> (Option<u64>, u32, Option<usize>, Option<usize>) {
+fn says(node: Node<'_>) -> (Option<u64>, u32, Option<usize>, Option<usize>) {
     let task = match node.task() {
         Some(task) => Some(task.0),
         None => None,
@@ -60,34 +44,33 @@ fn says(node: &Node) -> (Option<u64>, u32, Option<usize>, Option<usize>) {
     (node.id(), node.line(), task, method)
 }
 
-fn has_root(tree: &Tree) -> Option<bool> {
+fn has_root(tree: &Tree<'_, '_>) -> Option<bool> {
     let root = tree.node(3)?;
     Some(says(root) == (None, 5, None, None) && root.children().len() == 1)
 }
 
-fn begins_with_root(alloc: Global) -> Option<bool> {
-    let tree = delivery(alloc)?;
+fn begins_with_root(tree: &Tree<'_, '_>) -> Option<bool> {
     let is_last = tree.nodes().len() == 4 && tree.node_at(0) == Some(3);
-    Some(is_last && tree.node_at(4).is_none() && has_root(&tree)?)
-}
-
-#[test]
-fn the_root_line_comes_first_and_has_the_last_number(rt: HostRuntime) {
-    assert!(rt; begins_with_root(rt.alloc()) == Some(true));
+    Some(is_last && tree.node_at(4).is_none() && has_root(tree)?)
 }
 
 // The k-th node in the order of nodes.
-fn nth(tree: &Tree, k: usize) -> Option<&Node> {
+fn nth<'a>(tree: &'a Tree<'_, '_>, k: usize) -> Option<Node<'a>> {
     tree.node(tree.node_at(k)?)
 }
 
+// The k-th node in the order of nodes as a child.
+fn child_at(tree: &Tree<'_, '_>, k: usize) -> Option<Child> {
+    Some(Child::Node(u32::try_from(tree.node_at(k)?).ok()?))
+}
+
 // Whether the node of the delivery says what its line says, and its children stand in the order of the line.
-fn is_delivery(tree: &Tree) -> Option<bool> {
+fn is_delivery(tree: &Tree<'_, '_>) -> Option<bool> {
     let node = nth(tree, 1)?;
     let children = [
-        Child::Node(tree.node_at(2)?),
+        child_at(tree, 2)?,
         Child::Action(0),
-        Child::Node(tree.node_at(3)?),
+        child_at(tree, 3)?,
         Child::Action(2),
     ];
     let is_said = says(node) == (Some(10), 6, Some(0), Some(0));
@@ -96,20 +79,28 @@ fn is_delivery(tree: &Tree) -> Option<bool> {
 }
 
 // Whether the last node says what its line says.
-fn is_drive(tree: &Tree) -> Option<bool> {
+fn is_drive(tree: &Tree<'_, '_>) -> Option<bool> {
     let node = nth(tree, 3)?;
     let is_said = says(node) == (Some(12), 8, Some(1), Some(1));
     Some(is_said && node.children() == [Child::Action(1)].as_slice())
 }
 
-fn says_lines(alloc: Global) -> Option<bool> {
-    let tree = delivery(alloc)?;
-    Some(is_delivery(&tree)? && is_drive(&tree)?)
+// Whether the actions, the root line's node and the other nodes of the tree of the plan for the
+// package are as its lines say.
+fn is_as_said(alloc: Global) -> Option<(bool, bool, bool)> {
+    let world = world_of(alloc, TRANSPORT, ONE)?;
+    let plan = plan_of(alloc, PLAN1)?;
+    let tree = tree_of(alloc, &world, &plan)?;
+    let has_actions = has_actions(&tree) && has_action_ids(&tree);
+    let has_nodes = is_delivery(&tree)? && is_drive(&tree)?;
+    Some((has_actions, begins_with_root(&tree)?, has_nodes))
 }
 
+// The actions stand in plan order, the root line comes first in the order of nodes and has the last
+// number, and a node says what its line says.
 #[test]
-fn a_node_says_what_its_line_says(rt: HostRuntime) {
-    assert!(rt; says_lines(rt.alloc()) == Some(true));
+fn a_tree_says_what_the_lines_say(rt: HostRuntime) {
+    assert_eq!(rt; is_as_said(rt.alloc()), Some((true, true, true)));
 }
 
 // Plans for the package, each with the number of its cause and the line.
@@ -436,7 +427,7 @@ fn accepts_trees(rt: HostRuntime) {
 }
 
 // Whether the k-th nodes have these numbers.
-fn are_in_order(tree: &Tree, numbers: &[usize]) -> bool {
+fn are_in_order(tree: &Tree<'_, '_>, numbers: &[usize]) -> bool {
     for (k, number) in numbers.iter().enumerate() {
         if tree.node_at(k) != Some(*number) {
             return false;
@@ -445,24 +436,27 @@ fn are_in_order(tree: &Tree, numbers: &[usize]) -> bool {
     true
 }
 
-fn is_node(node: &Node, id: Option<u64>, children: &[Child]) -> bool {
-    node.id() == id && node.children() == children
+fn is_node(tree: &Tree<'_, '_>, node: usize, id: Option<u64>, children: &[Child]) -> bool {
+    match tree.node(node) {
+        Some(node) => node.id() == id && node.children() == children,
+        None => false,
+    }
 }
 
-fn are_nodes(nodes: &[Node]) -> bool {
-    let [three, two, zero, root] = nodes else {
-        return false;
-    };
-    is_node(three, Some(3), &[])
-        && is_node(two, Some(2), &[Child::Node(0), Child::Action(0)])
-        && is_node(zero, Some(0), &[Child::Node(1), Child::Action(1)])
-        && is_node(root, None, &[Child::Node(2)])
+fn are_nodes(tree: &Tree<'_, '_>) -> bool {
+    tree.nodes().len() == 4
+        && is_node(tree, 0, Some(3), &[])
+        && is_node(tree, 1, Some(2), &[Child::Node(0), Child::Action(0)])
+        && is_node(tree, 2, Some(0), &[Child::Node(1), Child::Action(1)])
+        && is_node(tree, 3, None, &[Child::Node(2)])
+        && tree.nodes().get(4).is_none()
 }
 
 fn is_numbered(alloc: Global) -> Option<bool> {
     let world = world_of(alloc, STEPS, STEP)?;
-    let tree = tree_of(alloc, &world, MIXED)?;
-    Some(are_in_order(&tree, &[3, 1, 0, 2]) && are_nodes(tree.nodes()))
+    let plan = plan_of(alloc, MIXED)?;
+    let tree = tree_of(alloc, &world, &plan)?;
+    Some(are_in_order(&tree, &[3, 1, 0, 2]) && are_nodes(&tree))
 }
 
 #[test]

@@ -1,12 +1,14 @@
-//! Worlds and trees of texts, and the numbers of names.
+//! Worlds, plans and trees of texts, and the numbers of names.
 
 ghost use Rattle.std.specs.Prelude.{◌<◌, ℕ, length, IfSome};
 ghost use Rattle.hv_world.specs.WorldViews.{world_view};
-ghost use Rattle.hv_plan.specs.TreeViews.{tree_view};
+ghost use Rattle.hv_plan.specs.BuiltTrees.{tree_view};
+ghost use Rattle.hv_plan.specs.LineViews.{plan_view};
+ghost use Rattle.hv_plan.specs.Shapes.{IsInTextOrder};
 ghost use Rattle.hv_match.specs.Candidates.{IsNode};
 
 use hv_match::nodes_have_methods;
-use hv_plan::{Tree, read_plan};
+use hv_plan::{PlanText, Tree, read_plan};
 use hv_syntax::{read_domain, read_problem};
 use hv_text::Name;
 use hv_world::{ObjectId, TypeId, World};
@@ -35,16 +37,28 @@ pub(crate) fn type_of<'s>(world: &World<'s>, name: &'s [u8]) -> Option<TypeId> {
     world.type_named(Name::new(name)?)
 }
 
+/// The plan of a text, where it has no fault.
+pub(crate) fn plan_of<'s>(alloc: Global, text: &'s [u8]) -> Option<PlanText<'s>>
+    ensures { IfSome result (λ p. IsInTextOrder (plan_view p)) }
+{
+    match read_plan(alloc, text) {
+        Ok(plan) => Some(plan),
+        Err(_) => None,
+    }
+}
+
 /// The tree of a plan in a world.
-pub(crate) fn tree_of<'s>(alloc: Global, world: &World<'s>, text: &'s [u8]) -> Option<Tree>
+pub(crate) fn tree_of<'p, 's>(
+    alloc: Global,
+    world: &World<'s>,
+    plan: &'p PlanText<'s>,
+) -> Option<Tree<'p, 's>>
+    requires { IsInTextOrder (plan_view plan.now) }
     ensures { IfSome result (λ t. (v : ℕ) → v < length (tree_view t).nodes → IsNode (world_view world.now) (tree_view t) v) }
 {
     nodes_have_methods();
-    match read_plan(alloc, text) {
-        Ok(plan) => match Tree::build(alloc, world, &plan) {
-            Ok(tree) => Some(tree),
-            Err(_) => None,
-        },
+    match Tree::build(alloc, world, plan) {
+        Ok(tree) => Some(tree),
         Err(_) => None,
     }
 }

@@ -24,16 +24,16 @@ fn are(objects: &[ObjectId], terms: &[Term], wanted: &[ObjectId]) -> bool {
 }
 
 // Whether a child does a subtask.
-fn does(tree: &Tree, child: Child, subtask: &Subtask, objects: &[ObjectId]) -> bool {
+fn does(tree: &Tree<'_, '_>, child: Child, subtask: &Subtask, objects: &[ObjectId]) -> bool {
     match child {
-        Child::Action(place) => match tree.actions().get(place) {
+        Child::Action(place) => match tree.actions().get(place as usize) {
             Some(action) => {
                 subtask.name == TaskName::Primitive(action.action)
                     && are(objects, &subtask.terms, &action.objects)
             }
             None => false,
         },
-        Child::Node(number) => match tree.node(number) {
+        Child::Node(number) => match tree.node(number as usize) {
             Some(node) => match node.task() {
                 Some(task) => {
                     subtask.name == TaskName::Compound(task)
@@ -48,8 +48,8 @@ fn does(tree: &Tree, child: Child, subtask: &Subtask, objects: &[ObjectId]) -> b
 
 // Whether the children of these places do the subtasks.
 fn do_all(
-    tree: &Tree,
-    node: &Node,
+    tree: &Tree<'_, '_>,
+    node: &Node<'_>,
     subtasks: &[Subtask],
     children: &[usize],
     objects: &[ObjectId],
@@ -87,7 +87,7 @@ fn are_typed(world: &World<'_>, types: &[TypeId], objects: &[ObjectId]) -> bool 
 }
 
 // Whether the method's task has the objects of the node's.
-fn fits_task(node: &Node, method: &Method<'_>, objects: &[ObjectId]) -> bool {
+fn fits_task(node: &Node<'_>, method: &Method<'_>, objects: &[ObjectId]) -> bool {
     match method.task() {
         Some(task) => are(objects, &task.terms, node.objects()),
         None => node.objects().is_empty(),
@@ -137,8 +137,8 @@ fn objects_by(alloc: Global, number: usize, base: usize, len: usize) -> Option<V
 fn add(
     alloc: Global,
     world: &World<'_>,
-    tree: &Tree,
-    node: &Node,
+    tree: &Tree<'_, '_>,
+    node: &Node<'_>,
     method: &Method<'_>,
     children: &[usize],
     found: &mut Vec<Candidate>,
@@ -164,7 +164,7 @@ fn add(
 pub(crate) fn candidates(
     alloc: Global,
     world: &World<'_>,
-    tree: &Tree,
+    tree: &Tree<'_, '_>,
     node: usize,
 ) -> Option<Vec<Candidate>> {
     let node = tree.node(node)?;
@@ -174,7 +174,7 @@ pub(crate) fn candidates(
     for number in 0..power(many, many)? {
         let children = digits(alloc, number, many, many)?;
         if are_once(&children) {
-            add(alloc, world, tree, node, method, &children, &mut found)?;
+            add(alloc, world, tree, &node, method, &children, &mut found)?;
         }
     }
     Some(found)
