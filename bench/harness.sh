@@ -3,6 +3,7 @@ set -euo pipefail
 here=$(cd "$(dirname "$0")" && pwd)
 top=$(cd "$here/../.." && pwd)
 work=$(mktemp -d "/tmp/$(basename "$here").XXXXXX")
+export PYTHONPATH=$top/bench PYTHONDONTWRITEBYTECODE=1
 trap 'rm -rf "$work"' EXIT
 
 # Builds main.rt.txt, in a small repository of its own under $work, with copies of the crates that are named, lowest first.

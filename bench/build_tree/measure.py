@@ -4,22 +4,11 @@ import os
 import subprocess
 import sys
 
+from runs import numbers
+
 ROUNDS = 5
 SIZES = [10_000, 100_000, 1_000_000]
 HERE = os.path.dirname(os.path.abspath(__file__))
-
-
-def run(harness, texts):
-    """The times to read and to build, the depth of the tree, and the peak of the memory in bytes."""
-    with subprocess.Popen([harness, *texts], stdout=subprocess.PIPE, text=True) as child:
-        said = child.stdout.read()
-        _, status, usage = os.wait4(child.pid, 0)
-        child.returncode = status
-    words = said.split()
-    if status != 0 or "micros" not in words:
-        sys.exit(f"{harness} ended with {status}: {said}")
-    numbers = [int(word) for word in words if word.isdigit()]
-    return numbers, usage.ru_maxrss * 1024
 
 
 def main():
@@ -29,7 +18,7 @@ def main():
     for kind in ("flat", "wide", "chain"):
         for size in SIZES:
             subprocess.run(["python3", os.path.join(HERE, "make_texts.py"), kind, str(size), *texts], check=True)
-            rounds = [run(harness, texts) for _ in range(ROUNDS)]
+            rounds = [numbers(harness, *texts) for _ in range(ROUNDS)]
             read, built, walked = (min(r[0][k] for r in rounds) for k in range(3))
             depth, peak = rounds[0][0][3], max(r[1] for r in rounds)
             length = os.path.getsize(texts[2]) / 1048576

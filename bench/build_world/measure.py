@@ -4,20 +4,17 @@ import os
 import subprocess
 import sys
 
+from runs import run
+
 ROUNDS = 3
 SIZES = [(1000, 10000, 10, 20), (10000, 100000, 10, 20), (100000, 1000000, 10, 20), (100, 100, 1000, 10000)]
 HERE = os.path.dirname(os.path.abspath(__file__))
 
 
-def run(harness, domain, problem):
+def measured(harness, domain, problem):
     """The microseconds to read and to build, and the peak of the memory in bytes."""
-    with subprocess.Popen([harness, domain, problem], stdout=subprocess.PIPE, text=True) as child:
-        words = child.stdout.read().split()
-        _, status, usage = os.wait4(child.pid, 0)
-        child.returncode = status
-    if status != 0 or "atoms" not in words:
-        sys.exit(f"{harness} ended with {status}: {' '.join(words)}")
-    return int(words[2]), int(words[6]), usage.ru_maxrss * 1024
+    said, peak = run(harness, domain, problem)
+    return int(said[2]), int(said[6]), peak
 
 
 def main():
@@ -26,7 +23,7 @@ def main():
     print("  objects |     atoms | subtasks |  pairs |     text |    to read |   to build | memory")
     for size in SIZES:
         subprocess.run(["python3", os.path.join(HERE, "make_texts.py"), *map(str, size), domain, problem], check=True)
-        rounds = [run(harness, domain, problem) for _ in range(ROUNDS)]
+        rounds = [measured(harness, domain, problem) for _ in range(ROUNDS)]
         bytes_in = os.path.getsize(domain) + os.path.getsize(problem)
         read, built, peak = min(r[0] for r in rounds), min(r[1] for r in rounds), max(r[2] for r in rounds)
         print(

@@ -4,22 +4,12 @@ import os
 import subprocess
 import sys
 
+from runs import numbers
+
 ROUNDS = 3
 RUNS = [("tour", 9), ("late", 5), ("late", 6), ("late", 7), ("free", 20), ("free", 50), ("free", 100), ("equal", 100)]
 RUNS += [(kind, size) for kind in ("names", "objects") for size in (10, 100, 1000, 10000)]
 HERE = os.path.dirname(os.path.abspath(__file__))
-
-
-def run(harness, texts):
-    """The time and the number of candidates, and the peak of the memory in bytes."""
-    with subprocess.Popen([harness, *texts], stdout=subprocess.PIPE, text=True) as child:
-        said = child.stdout.read()
-        _, status, usage = os.wait4(child.pid, 0)
-        child.returncode = status
-    words = said.split()
-    if status != 0 or "micros" not in words:
-        sys.exit(f"{harness} ended with {status}: {said}")
-    return [int(word) for word in words if word.isdigit()], usage.ru_maxrss * 1024
 
 
 def main():
@@ -28,7 +18,7 @@ def main():
     print("   kind |   size | candidates |        time | memory")
     for kind, size in RUNS:
         subprocess.run(["python3", os.path.join(HERE, "make_texts.py"), kind, str(size), *texts], check=True)
-        rounds = [run(harness, texts) for _ in range(ROUNDS)]
+        rounds = [numbers(harness, *texts) for _ in range(ROUNDS)]
         took, count = min(r[0][0] for r in rounds), rounds[0][0][1]
         print(f"{kind:>7} | {size:6,d} | {count:10,d} | {took / 1000:8.2f} ms | {max(r[1] for r in rounds) / 1048576:,.0f} MiB")
 

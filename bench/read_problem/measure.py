@@ -1,28 +1,24 @@
 #!/usr/bin/env python3
 """Runs the harness over each file, and prints the best of some rounds: measure.py HARNESS FILE.."""
 import os
-import subprocess
 import sys
+
+from runs import run
 
 ROUNDS = 5
 
 
-def run(harness, path):
+def measured(harness, path):
     """The literals that were read, the microseconds as expressions and as a problem, and the peak of the memory in bytes."""
-    with subprocess.Popen([harness, path], stdout=subprocess.PIPE, text=True) as child:
-        words = child.stdout.read().split()
-        _, status, usage = os.wait4(child.pid, 0)
-        child.returncode = status
-    if status != 0 or "literals" not in words:
-        sys.exit(f"{harness} {path} ended with {status}: {' '.join(words)}")
-    return int(words[2]), int(words[4]), int(words[8]), usage.ru_maxrss * 1024
+    said, peak = run(harness, path)
+    return int(said[2]), int(said[4]), int(said[8]), peak
 
 
 def main():
     harness, files = sys.argv[1], sys.argv[2:]
     print("   literals |       text | as expressions | as a problem | times | memory")
     for path in files:
-        rounds = [run(harness, path) for _ in range(ROUNDS)]
+        rounds = [measured(harness, path) for _ in range(ROUNDS)]
         literals, size = rounds[0][0], os.path.getsize(path)
         read, whole, peak = min(r[1] for r in rounds), min(r[2] for r in rounds), max(r[3] for r in rounds)
         print(

@@ -1,21 +1,17 @@
 #!/usr/bin/env python3
 """Runs two readers in turn over the same files, and prints the best of some rounds for each: compare.py ONE OTHER FILE.."""
 import os
-import subprocess
 import sys
+
+from runs import run
 
 ROUNDS = 7
 
 
-def run(program, path):
+def measured(program, path):
     """The microseconds of the reading, what was read, and the peak of the memory in bytes."""
-    with subprocess.Popen([program, path], stdout=subprocess.PIPE, text=True) as child:
-        words = child.stdout.read().split()
-        _, status, usage = os.wait4(child.pid, 0)
-        child.returncode = status
-    if status != 0:
-        sys.exit(f"{program} {path} ended with {status}")
-    return int(words[-2]), words[:-2], usage.ru_maxrss * 1024
+    said, peak = run(program, path)
+    return int(said[-2]), said[:-2], peak
 
 
 def main():
@@ -28,7 +24,7 @@ def main():
         for _ in range(ROUNDS):
             seen = []
             for k, program in enumerate((one, other)):
-                micros, words, peak = run(program, path)
+                micros, words, peak = measured(program, path)
                 times[k].append(micros)
                 peaks[k][at] = max(peaks[k][at], peak)
                 seen.append(words)

@@ -4,6 +4,8 @@ import os
 import subprocess
 import sys
 
+from runs import run
+
 ROUNDS = 3
 TIMES = 20  # how often the harness asks for the truth of a goal
 GOALS = [("formula", size, 10000) for size in (1000, 10000, 100000)] + [("exists", size, 10000) for size in (1000, 3000, 9000)]
@@ -11,22 +13,16 @@ TRACES = [1000, 2000, 5000, 10000]
 HERE = os.path.dirname(os.path.abspath(__file__))
 
 
-def run(harness, domain, problem, count):
-    """The numbers that the harness prints, and the peak of the memory in bytes."""
-    with subprocess.Popen([harness, domain, problem, str(count)], stdout=subprocess.PIPE, text=True) as child:
-        said = child.stdout.read()
-        _, status, usage = os.wait4(child.pid, 0)
-        child.returncode = status
-    if status != 0 or "micros" not in said:
-        sys.exit(f"{harness} ended with {status}: {said}")
-    words = said.split()
-    return [int(word) for word, unit in zip(words, words[1:]) if unit == "micros"], usage.ru_maxrss * 1024
+def measured(harness, domain, problem, count):
+    """The times that the harness prints, in microseconds, and the peak of the memory in bytes."""
+    said, peak = run(harness, domain, problem, str(count))
+    return [int(word) for word, unit in zip(said, said[1:]) if unit == "micros"], peak
 
 
 def best(harness, folder, kind, size, atoms, count):
     domain, problem = os.path.join(folder, "domain.hddl"), os.path.join(folder, "problem.hddl")
     subprocess.run(["python3", os.path.join(HERE, "make_texts.py"), kind, str(size), str(atoms), domain, problem], check=True)
-    rounds = [run(harness, domain, problem, count) for _ in range(ROUNDS)]
+    rounds = [measured(harness, domain, problem, count) for _ in range(ROUNDS)]
     return [min(times) for times in zip(*(r[0] for r in rounds))], max(r[1] for r in rounds)
 
 
