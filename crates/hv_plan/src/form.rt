@@ -39,7 +39,7 @@ pub(crate) struct DecompositionForm<'s> {
 }
 
 impl<'s> ActionForm<'s> {
-    /// The line.
+    /// The line as a plan lends it, with the lists that stand here.
     pub(crate) fn lend(&self) -> ActionLine<'_, 's>
         ensures { action_view result ≡ action_form_view self.now }
     {
@@ -53,7 +53,7 @@ impl<'s> ActionForm<'s> {
 }
 
 impl<'s> DecompositionForm<'s> {
-    /// The line.
+    /// The line as a plan lends it, with the lists that stand here.
     pub(crate) fn lend(&self) -> DecompositionLine<'_, 's>
         ensures { decomposition_view result ≡ decomposition_form_view self.now }
     {
