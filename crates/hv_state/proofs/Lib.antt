@@ -6,3 +6,8 @@ pub mod RowLemmas
 pub mod SortLemmas
 pub mod StateLemmas
 pub mod PlanLemmas
+pub mod ChangeLemmas
+pub mod HistoryLemmas
+pub mod GrowLemmas
+pub mod NoteLemmas
+pub mod NextLemmas

@@ -1,8 +1,7 @@
 -- The states that a plan passes, as the code finds them.
-use Rattle.std.proofs.Common.{◌≡◌, ◌<◌, ◌≤◌, ◌+◌, ◌-◌, ◌++◌, ◌↔◌, ◌⊎◌, inl, inr, ℕ, zero, suc, List, [], ◌∷◌, length, map, take, get_or, slice_get, Option, None, Some, IsSomeAnd, sym, ap, ◌∙◌, subst, arith}
+use Rattle.std.proofs.Common.{◌≡◌, ◌<◌, ◌+◌, ◌++◌, ◌↔◌, inl, inr, ℕ, zero, suc, List, [], ◌∷◌, length, map, take, get_or, slice_get, Option, None, Some, IsSomeAnd, sym, ap, ◌∙◌, subst, arith}
 use Rattle.std.specs.List.{Contains}
-use Rattle.std.proofs.lemmas.Bool.{cases_lt}
-use Rattle.std.proofs.lemmas.List.{take_more, length-append}
+use Rattle.std.proofs.lemmas.List.{take_more}
 use Rattle.hv_world.specs.Values.{Atom, Formula, Formulas, holds, and, or, not, imply, forall, exists, equal, no_formulas, more_formulas}
 use Rattle.hv_world.specs.Types.{Typing}
 use Rattle.hv_world.specs.Bindings.{GroundAction, ground_action_view}
@@ -10,7 +9,7 @@ use Rattle.hv_world.specs.Worlds.{World, Action}
 use Rattle.hv_world.specs.declared.binding.GroundAction as code
 use Rattle.hv_state.specs.Atoms.{GroundAtom, Atoms, Same, After, atoms_under, atom_under}
 use Rattle.hv_state.specs.Truth.{ForEach, ForSome, True, AllTrue, SomeTrue}
-use Rattle.hv_state.specs.Plans.{Plan, IsApplicableIn, AfterAction, AfterActions, Start, StateAt, IsApplicable, CanRun, StopsAt, ArePassed}
+use Rattle.hv_state.specs.Plans.{Plan, IsApplicableIn, AfterAction, AfterActions, Start, StateAt, IsApplicable}
 
 -- sets with the same atoms
 pub same_itself : (S : Atoms) → Same S S
@@ -97,7 +96,7 @@ after_push : (w : World) (xs : List GroundAction) (a : GroundAction) (S : Atoms)
 after_push w [] a S = same_itself (AfterAction w S a)
 after_push w (x ∷ xs) a S = after_push w xs a (AfterAction w S x)
 
-read_there : {X : Type 0} (xs : List X) (k : ℕ) (x : X) → slice_get xs k ≡ Some x → (k < length xs) × (get_or xs k x ≡ x)
+pub read_there : {X : Type 0} (xs : List X) (k : ℕ) (x : X) → slice_get xs k ≡ Some x → (k < length xs) × (get_or xs k x ≡ x)
 read_there [] k x e = absurd cc
 read_there (y ∷ ys) zero x e = (omega arith, cc)
 read_there (y ∷ ys) (suc k) x e = let rest = read_there ys k x e in (omega (arith, rest.0), rest.1)
@@ -117,65 +116,15 @@ module _ (p : Plan) (k : ℕ) (a : GroundAction) (there : slice_get p.actions k 
   next_taken : take (k + 1) p.actions ≡ take k p.actions ++ a ∷ []
   next_taken = let read = read_there p.actions k a there in take_more p.actions k a read.0 ∙ ap (λ b. take k p.actions ++ b ∷ []) read.1
 
-  next_state : Same (StateAt p (k + 1)) (AfterAction p.world (StateAt p k) a)
+  pub next_state : Same (StateAt p (k + 1)) (AfterAction p.world (StateAt p k) a)
   next_state = subst (λ xs. Same (AfterActions p.world (Start p.world) xs) (AfterAction p.world (StateAt p k) a)) (sym next_taken) (after_push p.world (take k p.actions) a (Start p.world))
 
 -- what holds of each element and its place, after one more
-push_at : {X : Type 0} (P : ℕ → X → Type 0) (xs : List X) (y : X) → ((j : ℕ) (d : X) → j < length xs → P j (get_or xs j d)) → P (length xs) y → (j : ℕ) (d : X) → j < length (xs ++ y ∷ []) → P j (get_or (xs ++ y ∷ []) j d)
+pub push_at : {X : Type 0} (P : ℕ → X → Type 0) (xs : List X) (y : X) → ((j : ℕ) (d : X) → j < length xs → P j (get_or xs j d)) → P (length xs) y → (j : ℕ) (d : X) → j < length (xs ++ y ∷ []) → P j (get_or (xs ++ y ∷ []) j d)
 push_at P [] y h q zero d lt = q
 push_at P [] y h q (suc j) d lt = absurd (omega arith)
 push_at P (x ∷ xs) y h q zero d lt = h 0 d (omega arith)
 push_at P (x ∷ xs) y h q (suc j) d lt = push_at (λ n. P (suc n)) xs y (λ n e l. h (suc n) e (omega arith)) q j d (omega arith)
-
-module _ {S : Type 0} (atoms : S → Atoms) (p : Plan) where
-  -- the first state
-  pub passed_first : (s : S) → Same (atoms s) (Start p.world) → ArePassed atoms p (s ∷ [])
-  passed_first s e = record { begun = omega arith; same = first; applicable = λ k lt. absurd (omega arith) }
-    where
-      first : (k : ℕ) (d : S) → k < 1 → Same (atoms (get_or (s ∷ []) k d)) (StateAt p k)
-      first zero d lt = e
-      first (suc k) d lt = absurd (omega arith)
-
-  module _ (states : List S) (passed : ArePassed atoms p states) (k : ℕ) (long : length states ≡ k + 1) (s : S) (is : s ≡ get_or states k s) (a : GroundAction) (there : slice_get p.actions k ≡ Some a) where
-    same_there : Same (atoms s) (StateAt p k)
-    same_there = subst (λ t. Same (atoms t) (StateAt p k)) (sym is) (passed.same k s (omega arith))
-
-    pub not_applicable : (IsApplicableIn p.world (atoms s) a → ⊥) → IsApplicable p k → ⊥
-    not_applicable h m = h (applicable_same p.world (StateAt p k) (atoms s) a (same_back (atoms s) (StateAt p k) same_there) (only_if p k a there m))
-
-    pub passed_more : (next : S) → IsApplicableIn p.world (atoms s) a → Same (atoms next) (AfterAction p.world (atoms s) a) → ArePassed atoms p (states ++ next ∷ [])
-    passed_more next h e = record {
-      begun = omega (arith, length-append states (next ∷ []));
-      same = push_at (λ j t. Same (atoms t) (StateAt p j)) states next passed.same (subst (λ n. Same (atoms next) (StateAt p n)) (sym long) reached);
-      applicable = λ j lt. by j (cases_lt j k) (omega (arith, lt, long, length-append states (next ∷ [])));
-    }
-      where
-        reached : Same (atoms next) (StateAt p (k + 1))
-        reached =
-            same_through (atoms next) (AfterAction p.world (atoms s) a) (StateAt p (k + 1)) e
-            (same_through (AfterAction p.world (atoms s) a) (AfterAction p.world (StateAt p k) a) (StateAt p (k + 1)) (after_same p.world (atoms s) (StateAt p k) a same_there) (same_back (StateAt p (k + 1)) (AfterAction p.world (StateAt p k) a) (next_state p k a there)))
-
-        now : IsApplicable p k
-        now = applicable_if p k a there (applicable_same p.world (atoms s) (StateAt p k) a same_there h)
-
-        by : (j : ℕ) → (j < k) ⊎ (k ≤ j) → j < k + 1 → IsApplicable p j
-        by j (inl before) lt = passed.applicable j (omega (arith, before, long))
-        by j (inr behind) lt = let here_is : k ≡ j = omega (arith, behind, lt) in subst (IsApplicable p) here_is now
-
-  -- truth in a state that was found
-  pub true_found : (states : List S) → ArePassed atoms p states → (k : ℕ) (s : S) → k < length states → s ≡ get_or states k s → (Y : Type 0) (f : Formula) (env : List ℕ) → Y ↔ True p.world.typing (atoms s) f env → Y ↔ True p.world.typing (StateAt p k) f env
-  true_found states passed k s lt is Y f env h =
-      let there = subst (λ t. Same (atoms t) (StateAt p k)) (sym is) (passed.same k s lt) in
-      let alike = true_same p.world.typing (atoms s) (StateAt p k) there f env in
-      (λ y. alike.0 (h.0 y), λ m. h.1 (alike.1 m))
-
-  -- all actions were done
-  pub all_ran : (states : List S) → ArePassed atoms p states → length p.actions < length states → CanRun p
-  all_ran states passed long k lt = passed.applicable k (omega (arith, long, lt))
-
-  -- the one behind the last state is the first that was not
-  pub stops : (states : List S) → ArePassed atoms p states → length states ≤ length p.actions → (IsApplicable p (length states - 1) → ⊥) → StopsAt p (length states - 1)
-  stops states passed short out = (omega (arith, short, passed.begun), out, λ j lt. passed.applicable j (omega (arith, lt)))
 
 -- what is true after deletes and adds
 module _ (old deletes adds : List GroundAtom) (g : GroundAtom) where

@@ -19,10 +19,10 @@ use Rattle.hv_state.specs.Atoms.{atom_under}
 use Rattle.hv_state.specs.Rows.{row_of, rows_under, rows_in, IsBelow, Ascend, IsGap, IsPlace, IsWithout, IsWith}
 
 -- the order of rows
-below_itself : (x : List ℕ) → IsBelow x x → ⊥
+pub below_itself : (x : List ℕ) → IsBelow x x → ⊥
 below_itself x lt = let tie : slice_cmp nat_cmp x x ≡ Equal = tied_itself nat_list_cmp_total x in let clash : Less ≡ Equal = sym lt ∙ tie in absurd cc
 
-below_from : (x y : List ℕ) → slice_cmp nat_cmp x y ≡ Greater → IsBelow y x
+pub below_from : (x y : List ℕ) → slice_cmp nat_cmp x y ≡ Greater → IsBelow y x
 below_from x y e = nat_list_cmp_total.antisymm y x ∙ ap ordering_reverse e
 
 same_step : (x y : ℕ) (xs ys : List ℕ) (o : Ordering) → o ≡ nat_cmp x y → (slice_cmp nat_cmp xs ys ≡ Equal → xs ≡ ys) → ordering_then o (slice_cmp nat_cmp xs ys) ≡ Equal → x ∷ xs ≡ y ∷ ys
@@ -30,7 +30,7 @@ same_step x y xs ys Less is rest e = absurd cc
 same_step x y xs ys Equal is rest e = λ i. ranked x y Equal is i ∷ rest e i
 same_step x y xs ys Greater is rest e = absurd cc
 
-same_rows : (xs ys : List ℕ) → slice_cmp nat_cmp xs ys ≡ Equal → xs ≡ ys
+pub same_rows : (xs ys : List ℕ) → slice_cmp nat_cmp xs ys ≡ Equal → xs ≡ ys
 same_rows [] [] e = refl
 same_rows [] (y ∷ ys) e = absurd cc
 same_rows (x ∷ xs) [] e = absurd cc
@@ -41,7 +41,7 @@ at_most_two Less = omega arith
 at_most_two Equal = omega arith
 at_most_two Greater = omega arith
 
-step_rises : (a b r : List ℕ) → IsBelow a b → ordering_index (slice_cmp nat_cmp a r) ≤ ordering_index (slice_cmp nat_cmp b r)
+pub step_rises : (a b r : List ℕ) → IsBelow a b → ordering_index (slice_cmp nat_cmp a r) ≤ ordering_index (slice_cmp nat_cmp b r)
 step_rises a b r lt = by (slice_cmp nat_cmp b r) refl
   where
     under : (o : Ordering) → slice_cmp nat_cmp a r ≡ Less → ordering_index (slice_cmp nat_cmp a r) ≤ ordering_index o
@@ -289,7 +289,7 @@ put_there (Ok a) there old new ok e = e
 put_there (Err b) there old new ok e = absurd (true≢false (sym ok))
 
 -- nothing is left to take out, or to put in
-contains_none : {X : Type 0} (x : X) → Contains [] x → ⊥
+pub contains_none : {X : Type 0} (x : X) → Contains [] x → ⊥
 contains_none x m = omega (arith, m.1)
 
 pub taken_out : (now left : List (List ℕ)) (Q : List ℕ → Type 0) → left ≡ [] → ((r : List ℕ) → (Contains now r × (Contains left r → ⊥)) ↔ Q r) → (r : List ℕ) → Contains now r ↔ Q r

@@ -10,7 +10,7 @@ abbrev atom_of : List ℕ → GroundAtom
 atom_of [] = ground_atom 0 []
 atom_of (p ∷ os) = ground_atom p os
 
-same_atom : (g h : GroundAtom) → row_of g ≡ row_of h → g ≡ h
+pub same_atom : (g h : GroundAtom) → row_of g ≡ row_of h → g ≡ h
 same_atom g h e = ap atom_of e
 
 pub atom_listed : (gs : List GroundAtom) (g : GroundAtom) → Contains (map row_of gs) (row_of g) → Contains gs g

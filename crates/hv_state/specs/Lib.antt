@@ -3,3 +3,5 @@ pub mod Codes
 pub mod Truth
 pub mod Rows
 pub mod Plans
+pub mod Changes
+pub mod Notes

@@ -1,9 +1,9 @@
 -- The states that a plan passes.
-use Rattle.std.specs.Prelude.{ℕ, ◌<◌, ◌+◌, List, [], ◌∷◌, take, length, slice_get, slice_index_or, IsSomeAnd, MatchOption, Some, None}
+use Rattle.std.specs.Prelude.{ℕ, ◌<◌, List, [], ◌∷◌, take, length, slice_get, IsSomeAnd, MatchOption, Some, None}
 use Rattle.std.specs.List.{Contains}
 use Rattle.hv_world.specs.Bindings.{GroundAction}
 use Rattle.hv_world.specs.Worlds.{World}
-use Rattle.hv_state.specs.Atoms.{Atoms, Same, After, atoms_under}
+use Rattle.hv_state.specs.Atoms.{Atoms, After, atoms_under}
 use Rattle.hv_state.specs.Truth.{True}
 use Rattle.hv_state.specs.declared.trace.Stop as code_stop
 use Rattle.hv_state.specs.declared.trace.Stop.TheVariants as stops
@@ -57,9 +57,3 @@ IsStop p stops.Memory = Unit {0}
 -- the goal is true at the end of the plan; where there is none, so it is
 abbrev pub GoalHolds : Plan → Type 0
 GoalHolds p = MatchOption p.world.goal (Unit {0}) (λ f. True p.world.typing (StateAt p (length p.actions)) f [])
-
--- these are states of the plan, from the first on, and the actions between them are applicable
-pub record ArePassed {S : Type 0} (atoms : S → Atoms) (p : Plan) (states : List S) : Type 0 where
-  pub begun : 0 < length states
-  pub same : (k : ℕ) (d : S) → k < length states → Same (atoms (slice_index_or states k d)) (StateAt p k)
-  pub applicable : (k : ℕ) → k + 1 < length states → IsApplicable p k

@@ -3,16 +3,23 @@
 #![tactic(auto)]
 
 mod atom;
+mod changes;
 mod evaluate;
+mod facts;
 mod laws;
+mod next;
+mod pass;
 mod rows;
 mod sorted;
 mod state;
+mod touched;
 mod trace;
 
 pub use atom::AtomView;
 pub use evaluate::truth;
-pub use laws::{adds_come_last, no_object_fails_and_none_serves, truth_is_of_sets};
+pub use laws::{
+    adds_come_last, changes_tell, no_object_fails_and_none_serves, truth_is_of_sets, truth_stays,
+};
 pub use sorted::SortedState;
 pub use state::State;
 pub use trace::{Stop, Trace};

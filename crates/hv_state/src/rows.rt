@@ -1,6 +1,6 @@
 //! Sorted lists of atoms, each as a row of numbers: that of its predicate, then those of its objects.
 
-ghost use Rattle.std.specs.Prelude.{◌≡◌, ◌+◌, ◌<◌, ◌≤◌, map, length, IfOk};
+ghost use Rattle.std.specs.Prelude.{◌≡◌, ◌+◌, ◌<◌, ◌≤◌, ◌++◌, map, length, IfOk};
 ghost use Rattle.std.specs.Ordering.{nat_cmp};
 ghost use Rattle.std.specs.Cmp.Lexicographic.{slice_cmp};
 ghost use Rattle.std.specs.Vec.{vec_len, vec_capacity};
@@ -19,7 +19,7 @@ use std::rc::Rc;
 /// The row of an atom. A state and its copies share it.
 #[derive(PartialEq, Eq, PartialOrd, Ord, Drop)]
 pub(crate) struct Row {
-    numbers: Rc<Vec<usize>>,
+    pub(crate) numbers: Rc<Vec<usize>>,
 }
 
 // How objects stand to those of terms.
@@ -43,8 +43,8 @@ fn compare_objects(objects: &[usize], terms: &[Term], binding: &Binding<'_>) -> 
     }
 }
 
-// How a row stands to that of an atom.
-fn compare(row: &[usize], atom: &AtomView<'_>) -> Ordering
+/// How a row stands to that of an atom.
+pub(crate) fn compare(row: &[usize], atom: &AtomView<'_>) -> Ordering
     ensures { result ≡ slice_cmp nat_cmp row.now (row_of (atom_read atom.now)) }
 {
     match row {
@@ -136,6 +136,23 @@ fn row_of(alloc: Global, atom: &AtomView<'_>) -> Result<Vec<usize>, Memory>
     Ok(row)
 }
 
+/// Puts the rows of atoms behind others.
+pub(crate) fn push_rows(
+    alloc: Global,
+    rows: &mut Vec<Row>,
+    atoms: &[Atom],
+    binding: &Binding<'_>,
+) -> Result<(), Memory>
+    ensures { IfOk result (λ _. rows_in rows.new.items ≡ rows_in rows.old.items ++ rows_under (objects_in binding.now) (map atom_view atoms.now)) }
+{
+    for atom in atoms {
+        let row = row_of(alloc, &AtomView::new(atom, &*binding))?;
+        let numbers = Rc::new(alloc, row)?;
+        rows.push(Row { numbers })?;
+    }
+    Ok(())
+}
+
 /// The rows of atoms.
 pub(crate) fn rows_of(
     alloc: Global,
@@ -145,11 +162,7 @@ pub(crate) fn rows_of(
     ensures { IfOk result (λ rows. rows_in rows.items ≡ rows_under (objects_in binding.now) (map atom_view atoms.now)) }
 {
     let mut rows = Vec::new(alloc);
-    for atom in atoms {
-        let row = row_of(alloc, &AtomView::new(atom, &*binding))?;
-        let numbers = Rc::new(alloc, row)?;
-        rows.push(Row { numbers })?;
-    }
+    push_rows(alloc, &mut rows, atoms, binding)?;
     Ok(rows)
 }
 

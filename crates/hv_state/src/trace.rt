@@ -1,15 +1,19 @@
 //! The states that a plan passes.
 
-ghost use Rattle.std.specs.Prelude.{◌≡◌, ◌<◌, ◌≤◌, ◌↔◌, ◌+◌, ◌-◌, ℕ, length, map, IsTrue, IfOk, IfErr, MatchOption};
+ghost use Rattle.std.specs.Prelude.{◌≡◌, ◌≤◌, ◌<◌, ◌↔◌, ◌+◌, ℕ, length, map, IsTrue, IfOk, IfErr, MatchOption};
 ghost use Rattle.hv_world.specs.Views.{formula_view};
 ghost use Rattle.hv_world.specs.Bindings.{objects_in, ground_action_view};
 ghost use Rattle.hv_world.specs.WorldViews.{world_view};
-ghost use Rattle.hv_state.specs.Atoms.{Same};
 ghost use Rattle.hv_state.specs.Truth.{True};
-ghost use Rattle.hv_state.specs.Plans.{Plan, plan, AfterAction, StateAt, CanRun, StopsAt, IsStop, IsApplicableIn, IsApplicable, GoalHolds, ArePassed};
+ghost use Rattle.hv_state.specs.Plans.{Plan, plan, StateAt, CanRun, IsStop, GoalHolds};
+ghost use Rattle.hv_state.specs.Changes.{IsNextChange, AreFalse, IsFirstTrue};
 
-use crate::evaluate::truth;
+use crate::changes::{Changes, Moment};
+use crate::evaluate::evaluate;
+use crate::next::next_change;
+use crate::pass::pass;
 use crate::state::State;
+use crate::touched::touched;
 use hv_text::Memory;
 use hv_world::{Binding, Formula, GroundAction, World};
 use std::alloc::Global;
@@ -34,21 +38,23 @@ impl From<Memory> for Stop {
     }
 }
 
-/// A plan that runs, with each state that it passes.
+/// A plan that runs: what is true at its start, and each change on its way.
 #[derive(Drop)]
 pub struct Trace<'a, 's, S: State> {
     world: &'a World<'s>,
     actions: &'a [GroundAction],
-    states: Vec<S>,
+    first: S,
+    changes: Changes,
 }
 
 impl<'a, 's, S: State> Model for Trace<'a, 's, S> {
-    ghost use Rattle.std.specs.Prelude.{◌≡◌, ◌+◌, length, map};
+    ghost use Rattle.std.specs.Prelude.{map};
     ghost use Rattle.std.specs.Coded.{codes};
     ghost use Rattle.hv_world.specs.Bindings.{ground_action_view};
     ghost use Rattle.hv_world.specs.WorldViews.{world_view};
     ghost use Rattle.hv_state.specs.Codes.{formula_code};
-    ghost use Rattle.hv_state.specs.Plans.{Plan, plan, ArePassed};
+    ghost use Rattle.hv_state.specs.Plans.{Plan, plan};
+    ghost use Rattle.hv_state.specs.Notes.{IsRecorded};
 
     ghost Value = { Plan };
 
@@ -56,49 +62,7 @@ impl<'a, 's, S: State> Model for Trace<'a, 's, S> {
 
     ghost view = { λ t. plan (world_view t.world.now) (map ground_action_view t.actions.now) };
 
-    ghost invariant = { λ t. ArePassed S.atoms (plan (world_view t.world.now) (map ground_action_view t.actions.now)) t.states.items × (length t.states.items ≡ length t.actions.now + 1) };
-}
-
-// The state after an action, or none where it is not applicable.
-fn state_after<S: State>(
-    alloc: Global,
-    world: &World<'_>,
-    state: &S,
-    step: &GroundAction,
-) -> Result<Option<S>, Memory>
-    ensures { IfOk result (λ next. MatchOption next (IsApplicableIn (world_view world.now) (S.atoms state.now) (ground_action_view step.now) → ⊥) (λ s. IsApplicableIn (world_view world.now) (S.atoms state.now) (ground_action_view step.now) × Same (S.atoms s) (AfterAction (world_view world.now) (S.atoms state.now) (ground_action_view step.now)))) }
-{
-    let Some(action) = world.action(step.action) else {
-        return Ok(None);
-    };
-    let objects = Binding::Given(&step.objects);
-    if !truth(world, state, action.precondition(), &objects) {
-        return Ok(None);
-    }
-    let mut next = state.copy(alloc)?;
-    next.apply(action.deletes(), action.adds(), &objects)?;
-    Ok(Some(next))
-}
-
-// The states of a plan up to the first action that is not applicable, or to the end.
-fn states_of<S: State>(
-    alloc: Global,
-    world: &World<'_>,
-    actions: &[GroundAction],
-) -> Result<Vec<S>, Memory>
-    ensures passed { IfOk result (λ states. ArePassed S.atoms (plan (world_view world.now) (map ground_action_view actions.now)) states.items) }
-    ensures within { IfOk result (λ states. length states.items ≤ length actions.now + 1) }
-    ensures stopped { IfOk result (λ states. length states.items ≤ length actions.now → IsApplicable (plan (world_view world.now) (map ground_action_view actions.now)) (length states.items - 1) → ⊥) }
-{
-    let mut states = Vec::new(alloc);
-    states.push(S::initial(alloc, world)?)?;
-    for (number, step) in actions.iter().enumerate() {
-        match state_after(alloc, world, &states[number], step)? {
-            Some(next) => states.push(next)?,
-            None => return Ok(states),
-        }
-    }
-    Ok(states)
+    ghost invariant = { λ t. IsRecorded (plan (world_view t.world.now) (map ground_action_view t.actions.now)) (S.atoms t.first) t.changes };
 }
 
 impl<'a, 's, S: State> Trace<'a, 's, S> {
@@ -117,14 +81,19 @@ impl<'a, 's, S: State> Trace<'a, 's, S> {
         ensures ran { IfOk result (λ _. CanRun (plan (world_view world.now) (map ground_action_view actions.now))) }
         ensures stop { IfErr result (IsStop (plan (world_view world.now) (map ground_action_view actions.now))) }
     {
-        let states = states_of(alloc, world, actions)?;
-        if states.len() <= actions.len() {
-            return Err(Stop::Inapplicable(states.len() - 1));
+        let first = S::initial(alloc, world)?;
+        let mut state = first.copy(alloc)?;
+        let mut changes = Changes::none(alloc, touched(alloc, world, actions)?)?;
+        for (number, step) in actions.iter().enumerate() {
+            if !pass(world, step, &first, &mut state, &mut changes, number + 1)? {
+                return Err(Stop::Inapplicable(number));
+            }
         }
         Ok(Trace {
             world,
             actions,
-            states,
+            first,
+            changes,
         })
     }
 
@@ -133,7 +102,52 @@ impl<'a, 's, S: State> Trace<'a, 's, S> {
         requires { k ≤ length self.now.actions }
         ensures { IsTrue result ↔ True self.now.world.typing (StateAt self.now k) (formula_view formula.now) (objects_in binding.now) }
     {
-        truth(self.world, &self.states[k], formula, binding)
+        let moment = Moment {
+            first: &self.first,
+            changes: &self.changes,
+            index: k,
+        };
+        evaluate(self.world, &moment, formula, binding)
+    }
+
+    /// The first index after `k` at which an atom changes that a formula speaks of, or one past the
+    /// last. Until there the formula stays as it is after `k` actions.
+    pub fn unchanged_until(&self, k: usize, formula: &Formula, binding: &Binding<'_>) -> usize
+        requires { k ≤ length self.now.actions }
+        ensures next { IsNextChange self.now k (formula_view formula.now) (objects_in binding.now) result }
+        ensures same { (j : ℕ) → k ≤ j → j < result → True self.now.world.typing (StateAt self.now j) (formula_view formula.now) (objects_in binding.now) ↔ True self.now.world.typing (StateAt self.now k) (formula_view formula.now) (objects_in binding.now) }
+    {
+        next_change(
+            self.world,
+            &self.changes,
+            k,
+            self.actions.len() + 1,
+            formula,
+            binding,
+        )
+    }
+
+    /// The first index between two, both with, at which a formula is true, and the last one up to
+    /// which no atom changes then that it speaks of, so that it stays true.
+    pub fn first_true(
+        &self,
+        from: usize,
+        upto: usize,
+        formula: &Formula,
+        binding: &Binding<'_>,
+    ) -> Option<(usize, usize)>
+        requires { upto ≤ length self.now.actions }
+        ensures { MatchOption result (AreFalse self.now (formula_view formula.now) (objects_in binding.now) from (upto + 1)) (λ r. IsFirstTrue self.now (formula_view formula.now) (objects_in binding.now) from upto r.0 r.1) }
+    {
+        let mut at = from;
+        while at <= upto {
+            let until = self.unchanged_until(at, formula, binding);
+            if self.holds_at(at, formula, binding) {
+                return Some((at, until - 1));
+            }
+            at = until;
+        }
+        None
     }
 
     /// Whether the goal of the world is true after all actions. It is where there is none.

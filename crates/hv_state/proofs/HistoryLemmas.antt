@@ -1,0 +1,161 @@
+-- Histories in the order of their rows.
+use Rattle.std.proofs.Common.{◌≡◌, ◌<◌, ◌≤◌, ◌-◌, ◌⊎◌, inl, inr, ℕ, zero, suc, Bool, true, false, nat_le, List, [], ◌∷◌, length, map, get_or, Option, Some, None, if◌then◌else◌, Result, Ok, Err, refl, sym, ap, ◌∙◌, subst, arith, bytes_eq}
+use Rattle.std.specs.List.{All}
+use Rattle.std.specs.List.Sorted.{IsNonDecreasingBy, IsSearchInRange, IsBinarySearchResult, IsPartitionPoint}
+use Rattle.std.specs.Ordering.{nat_cmp, ordering_index}
+use Rattle.std.specs.Cmp.Lexicographic.{slice_cmp, bytes_decides}
+use Rattle.std.proofs.lemmas.Bool.{cases_lt}
+use Rattle.std.proofs.lemmas.List.{get_or-map, length-map}
+use Rattle.hv_state.specs.declared.changes.Change as code
+use Rattle.hv_state.specs.declared.changes.History.{History}
+use Rattle.hv_state.specs.Rows.{IsBelow, Ascend, IsGap, IsPlace}
+use Rattle.hv_state.specs.Changes.{Change, Table, Rise, told_from, told, beside, rows_of, change_view, history_view}
+use Rattle.hv_state.proofs.RowLemmas.{some_of, below_itself, below_from, same_rows, step_rises}
+
+-- what a search finds
+module _ {X : Type 0} (f : X → List ℕ) (xs : List X) (row : List ℕ) (ascend : Ascend (map f xs)) where
+  row_at : (k : ℕ) (d : X) → k < length xs → get_or (map f xs) k [] ≡ f (get_or xs k d)
+  row_at k d lt = get_or-map f xs k d [] lt
+
+  rises : IsNonDecreasingBy (λ v. ordering_index (slice_cmp nat_cmp (f v) row)) xs
+  rises i j d le lt = by (cases_lt i j)
+    where
+      by : (i < j) ⊎ (j ≤ i) → ordering_index (slice_cmp nat_cmp (f (get_or xs i d)) row) ≤ ordering_index (slice_cmp nat_cmp (f (get_or xs j d)) row)
+      by (inl before) =
+          let at : IsBelow (get_or (map f xs) i []) (get_or (map f xs) j []) = ascend i j [] before (omega (arith, lt, length-map xs f)) in
+          step_rises _ _ row (subst (λ x. IsBelow x (f (get_or xs j d))) (row_at i d (omega (arith, before, lt))) (subst (λ y. IsBelow (get_or (map f xs) i []) y) (row_at j d lt) at))
+      by (inr behind) =
+          let same : i ≡ j = omega (arith, behind, le) in
+          subst (λ k. ordering_index (slice_cmp nat_cmp (f (get_or xs i d)) row) ≤ ordering_index (slice_cmp nat_cmp (f (get_or xs k d)) row)) same (omega arith)
+
+  pub searched : (r : Result ℕ ℕ) → IsSearchInRange r (length xs) → IsBinarySearchResult (λ v. slice_cmp nat_cmp (f v) row) xs r → IsPlace (map f xs) row r
+  searched (Ok i) in_range equal =
+      let d = some_of xs (omega (arith, in_range)) in
+      (omega (arith, in_range, length-map xs f), row_at i d in_range ∙ same_rows (f (get_or xs i d)) row (equal d))
+  searched (Err i) in_range parted = (omega (arith, in_range, length-map xs f), before, behind)
+    where
+      before : (k : ℕ) → k < i → IsBelow (get_or (map f xs) k []) row
+      before k lt =
+          let d = some_of xs (omega (arith, in_range, lt)) in
+          subst (λ x. IsBelow x row) (sym (row_at k d (omega (arith, in_range, lt)))) ((parted rises).0 k d (omega arith) lt)
+
+      behind : (k : ℕ) → i ≤ k → k < length (map f xs) → IsBelow row (get_or (map f xs) k [])
+      behind k le lt =
+          let within : k < length xs = omega (arith, lt, length-map xs f) in
+          let d = some_of xs (omega (arith, within)) in
+          subst (λ x. IsBelow row x) (sym (row_at k d within)) (below_from (f (get_or xs k d)) row ((parted rises).1 k d le within))
+
+-- the rows of histories
+pub rows_are : (hs : List History) → rows_of (map history_view hs) ≡ map (λ h. h.row.numbers.value.items) hs
+rows_are [] = refl
+rows_are (h ∷ hs) = ap (λ rows. h.row.numbers.value.items ∷ rows) (rows_are hs)
+
+-- indices rise, as the code has them
+pub from_rises : (cs : List code.Change) → Rise (map change_view cs) → IsNonDecreasingBy (λ c. c.from) cs
+from_rises cs rise i j d le lt = by (cases_lt i j)
+  where
+    at : (k : ℕ) → k < length cs → (get_or (map change_view cs) k (change_view d)).0 ≡ (get_or cs k d).from
+    at k within = ap (λ c. c.0) (get_or-map change_view cs k d (change_view d) within)
+
+    by : (i < j) ⊎ (j ≤ i) → (get_or cs i d).from ≤ (get_or cs j d).from
+    by (inl before) =
+        let h : (get_or (map change_view cs) i (change_view d)).0 < (get_or (map change_view cs) j (change_view d)).0 = rise i j (change_view d) before (omega (arith, lt, length-map cs change_view)) in
+        let a = at i (omega (arith, before, lt)) in
+        let b = at j lt in
+        omega (arith, h, a, b)
+    by (inr behind) = let same : i ≡ j = omega (arith, behind, le) in subst (λ k. (get_or cs i d).from ≤ (get_or cs k d).from) same (omega arith)
+
+-- the last change before a place
+abbrev at_place : Option Bool → List code.Change → ℕ → Option Bool
+at_place o cs zero = o
+at_place o [] (suc i) = o
+at_place o (c ∷ cs) (suc i) = at_place (Some c.is_true) cs i
+
+pub if_true : {A : Type 0} (b : Bool) (x y : A) → b ≡ true → (if b then x else y) ≡ x
+if_true true x y e = refl
+if_true false x y e = absurd cc
+
+pub if_false : {A : Type 0} (b : Bool) (x y : A) → b ≡ false → (if b then x else y) ≡ y
+if_false true x y e = absurd cc
+if_false false x y e = refl
+
+told_by : (k : ℕ) (o : Option Bool) (cs : List code.Change) (i : ℕ) → i ≤ length cs → ((j : ℕ) (d : code.Change) → j < i → nat_le (get_or cs j d).from k ≡ true) → ((j : ℕ) (d : code.Change) → i ≤ j → j < length cs → nat_le (get_or cs j d).from k ≡ false)
+    → told_from o k (map change_view cs) ≡ at_place o cs i
+told_by k o [] zero le low high = refl
+told_by k o [] (suc i) le low high = refl
+told_by k o (c ∷ cs) zero le low high =
+    ap (λ x. told_from x k (map change_view cs)) (if_false (nat_le c.from k) (Some c.is_true) o (high 0 c (omega arith) (omega arith)))
+    ∙ told_by k o cs zero (omega arith) (λ j d lt. absurd (omega (arith, lt))) (λ j d from lt. high (suc j) d (omega arith) (omega (arith, lt)))
+told_by k o (c ∷ cs) (suc i) le low high =
+    ap (λ x. told_from x k (map change_view cs)) (if_true (nat_le c.from k) (Some c.is_true) o (low 0 c (omega arith)))
+    ∙ told_by k (Some c.is_true) cs i (omega (arith, le)) (λ j d lt. low (suc j) d (omega (arith, lt))) (λ j d from lt. high (suc j) d (omega (arith, from)) (omega (arith, lt)))
+
+there : (o : Option Bool) (cs : List code.Change) (i : ℕ) (d : code.Change) → i < length cs → at_place o cs (suc i) ≡ Some (get_or cs i d).is_true
+there o [] i d lt = absurd (omega (arith, lt))
+there o (c ∷ cs) zero d lt = refl
+there o (c ∷ cs) (suc i) d lt = there (Some c.is_true) cs i d (omega (arith, lt))
+
+module _ (cs : List code.Change) (k past : ℕ) (within : past ≤ length cs) (point : IsPartitionPoint (λ c. nat_le c.from k ≡ true) (λ c. nat_le c.from k ≡ false) cs past) where
+  parted : told k (map change_view cs) ≡ at_place None cs past
+  parted = told_by k None cs past within (λ j d lt. point.0 j d (omega arith) lt) (λ j d from lt. point.1 j d from lt)
+
+  pub none_up_to : past ≡ 0 → None ≡ told k (map change_view cs)
+  none_up_to e = sym (parted ∙ ap (at_place None cs) e)
+
+  pub last_is : (d : code.Change) → 0 < past → Some (get_or cs (past - 1) d).is_true ≡ told k (map change_view cs)
+  last_is d some =
+      let next : past ≡ suc (past - 1) = omega (arith, some) in
+      sym (parted ∙ ap (at_place None cs) next ∙ there None cs (past - 1) d (omega (arith, some, within)))
+
+-- what stands beside a row
+pub is_row : (x y : List ℕ) → x ≡ y → bytes_eq x y ≡ true
+is_row x y e = (bytes_decides x y).1 e
+
+pub no_row : (x y : List ℕ) → (x ≡ y → ⊥) → bytes_eq x y ≡ false
+no_row x y out = by (bytes_eq x y) (bytes_decides x y).0
+  where
+    by : (b : Bool) → (b ≡ true → x ≡ y) → b ≡ false
+    by true h = absurd (out (h refl))
+    by false h = refl
+
+pub tail_ascends : (x : List ℕ) (xs : List (List ℕ)) → Ascend (x ∷ xs) → Ascend xs
+tail_ascends x xs h = λ i j d lt within. h (suc i) (suc j) d (omega (arith, lt)) (omega (arith, within))
+
+pub beside_at : (es : Table) (row : List ℕ) (i : ℕ) (d : List ℕ × List Change) → Ascend (rows_of es) → i < length es → get_or (rows_of es) i [] ≡ row → beside es row ≡ (get_or es i d).1
+beside_at [] row i d h lt e = absurd (omega (arith, lt))
+beside_at (x ∷ es) row zero d h lt e = if_true (bytes_eq row x.0) x.1 (beside es row) (is_row row x.0 (sym e))
+beside_at (x ∷ es) row (suc i) d h lt e =
+    let below : IsBelow x.0 (get_or (rows_of es) i []) = h 0 (suc i) [] (omega arith) (omega (arith, lt, length-map es (λ (f : List ℕ × List Change). f.0))) in
+    let apart : row ≡ x.0 → ⊥ = λ same. below_itself x.0 (subst (IsBelow x.0) (e ∙ same) below) in
+    if_false (bytes_eq row x.0) x.1 (beside es row) (no_row row x.0 apart) ∙ beside_at es row i d (tail_ascends x.0 (rows_of es) h) (omega (arith, lt)) e
+
+pub nothing_beside : (es : Table) (row : List ℕ) → ((k : ℕ) → k < length es → get_or (rows_of es) k [] ≡ row → ⊥) → beside es row ≡ []
+nothing_beside [] row out = refl
+nothing_beside (x ∷ es) row out =
+    if_false (bytes_eq row x.0) x.1 (beside es row) (no_row row x.0 (λ same. out 0 (omega arith) (sym same)))
+    ∙ nothing_beside es row (λ k lt e. out (suc k) (omega (arith, lt)) e)
+
+-- a row with a gap stands nowhere
+pub gap_is_none : (rows : List (List ℕ)) (row : List ℕ) (i : ℕ) → IsGap rows row i → (k : ℕ) → k < length rows → get_or rows k [] ≡ row → ⊥
+gap_is_none rows row i gap k lt e = by (cases_lt k i)
+  where
+    by : (k < i) ⊎ (i ≤ k) → ⊥
+    by (inl before) = below_itself row (subst (λ x. IsBelow x row) e (gap.1 k before))
+    by (inr behind) = below_itself row (subst (IsBelow row) e (gap.2 k behind lt))
+
+-- the history at a place
+module _ (hs : List History) (row : List ℕ) (i : ℕ) (h : History) (ascend : Ascend (rows_of (map history_view hs))) (lt : i < length (rows_of (map history_view hs))) (at : get_or (rows_of (map history_view hs)) i [] ≡ row) (is : h ≡ get_or hs i h) where
+  pub in_views : i < length (map history_view hs)
+  in_views = omega (arith, lt, length-map (map history_view hs) (λ (e : List ℕ × List Change). e.0))
+
+  pub entry : get_or (map history_view hs) i (history_view h) ≡ history_view h
+  entry = get_or-map history_view hs i h (history_view h) (omega (arith, in_views, length-map hs history_view)) ∙ ap history_view (sym is)
+
+  pub changes_beside : beside (map history_view hs) row ≡ map change_view h.changes.items
+  changes_beside = beside_at (map history_view hs) row i (history_view h) ascend in_views at ∙ ap (λ e. e.1) entry
+
+  pub list_rises : All (λ e. Rise e.1) (map history_view hs) → Rise (map change_view h.changes.items)
+  list_rises all = subst (λ e. Rise e.1) entry (all i (history_view h) in_views)
+
+pub none_beside : (hs : List History) (row : List ℕ) (i : ℕ) → IsGap (rows_of (map history_view hs)) row i → beside (map history_view hs) row ≡ []
+none_beside hs row i gap = nothing_beside (map history_view hs) row (λ k lt e. gap_is_none (rows_of (map history_view hs)) row i gap k (omega (arith, lt, length-map (map history_view hs) (λ (e' : List ℕ × List Change). e'.0))) e)

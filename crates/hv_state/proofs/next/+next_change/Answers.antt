@@ -1,0 +1,68 @@
+use Rattle.std.proofs.Common.{◌<◌, ◌+◌, ◌++◌, ◌∷◌, [], map, get_or, sym, subst, ap, arith, rules, ◌∙◌}
+use Rattle.hv_world.specs.Bindings.{objects_in}
+use Rattle.hv_world.specs.WorldViews.{world_view}
+use Rattle.hv_world.specs.Values.{formulas_of}
+use Rattle.hv_world.specs.Views.{formula_view, type_number}
+use Rattle.hv_state.specs.Atoms.{GroundAtom}
+use Rattle.hv_state.specs.Truth.{ForSome}
+use Rattle.hv_state.specs.Changes.{Mentions, SomeMention, IsNext}
+use Rattle.hv_state.proofs.Levels.{levels, most_levels}
+use Rattle.hv_state.proofs.FormulaLemmas.{view-Forall, view-Exists, part_below}
+use Rattle.hv_state.proofs.Chosen.{front}
+use Rattle.hv_state.proofs.NextLemmas.{SomeOf, next_like, next_push, next_all, mentioned_parts, mentioned_objects}
+use Rattle.hv_state.proofs.next.+next_change.Goals as goal
+
+pub next_change-returns-in-Forall : goal.next_change-returns-in-Forall
+next_change-returns-in-Forall t c =
+    let w = (world_view c.args.world.now).typing in
+    let env = objects_in c.args.binding.now in
+    let Q = λ (M : GroundAtom → Type 0). IsNext c.args.changes.now c.args.k c.args.end M c.next_of_some.result in
+    subst (λ f. Q (λ g. Mentions w g f env)) (sym (ap formula_view c.in-Forall.is ∙ view-Forall _ _))
+    (subst (λ ts. Q (λ g. ForSome w (Mentions w g (formula_view c.in-Forall.part.value)) (map type_number ts) env)) c.deref-in-Forall-2.ensures.value
+    (subst (λ f. Q (λ g. ForSome w (Mentions w g (formula_view f)) (map type_number c.deref-in-Forall-2.result.now) env)) c.deref-in-Forall.ensures c.next_of_some.ensures))
+
+pub next_change-returns-in-Exists : goal.next_change-returns-in-Exists
+next_change-returns-in-Exists t c =
+    let w = (world_view c.args.world.now).typing in
+    let env = objects_in c.args.binding.now in
+    let Q = λ (M : GroundAtom → Type 0). IsNext c.args.changes.now c.args.k c.args.end M c.next_of_some-in-Exists.result in
+    subst (λ f. Q (λ g. Mentions w g f env)) (sym (ap formula_view c.in-Exists.is ∙ view-Exists _ _))
+    (subst (λ ts. Q (λ g. ForSome w (Mentions w g (formula_view c.in-Exists.part.value)) (map type_number ts) env)) c.deref-in-Exists-2.ensures.value
+    (subst (λ f. Q (λ g. ForSome w (Mentions w g (formula_view f)) (map type_number c.deref-in-Exists-2.result.now) env)) c.deref-in-Exists.ensures c.next_of_some-in-Exists.ensures))
+
+pub next_of_parts-next_change-requires : goal.next_of_parts-next_change-requires
+next_of_parts-next_change-requires t c =
+    let below : levels (formula_view c.part-item.result) < most_levels (formulas_of (map formula_view c.args.parts.now)) + 1 = part_below _ _ _ c.loop-part-test.true c.part-item.is in
+    search (rules, below)
+
+pub next_of_parts-loop-part-preserved : goal.next_of_parts-loop-part-preserved
+next_of_parts-loop-part-preserved t c =
+    let w = (world_view c.args.world.now).typing in
+    let env = objects_in c.args.binding.now in
+    next_push c.args.changes.now c.args.k c.args.end (λ f g. Mentions w g (formula_view f) env) c.args.parts.now c.loop-part.part-index c.part-item.result c.loop-part.until c.next_change.result c.least-until.result c.loop-part-test.true c.part-item.is c.loop-part.invariant c.next_change.ensures c.least-until.ensures
+
+pub next_of_parts-returns : goal.next_of_parts-returns
+next_of_parts-returns t c =
+    let w = (world_view c.args.world.now).typing in
+    let env = objects_in c.args.binding.now in
+    let parts = c.args.parts.now in
+    let all = next_all c.args.changes.now c.args.k c.args.end (λ f g. Mentions w g (formula_view f) env) parts c.loop-part.part-index c.loop-part.until c.loop-part-test.false c.loop-part.invariant in
+    next_like c.args.changes.now c.args.k c.args.end (λ g. SomeOf (λ f. Mentions w g (formula_view f) env) parts) (λ g. SomeMention w g (formulas_of (map formula_view parts)) env) c.loop-part.until (λ g. mentioned_parts w g env parts) all
+
+pub next_of_some-loop-object-preserved : goal.next_of_some-loop-object-preserved
+next_of_some-loop-object-preserved t c =
+    let w = (world_view c.args.world.now).typing in
+    let env = objects_in c.args.binding.now in
+    let objects = c.objects_of-object-items.result.now in
+    next_push c.args.changes.now c.args.k c.args.end (λ o g. ForSome w (Mentions w g (formula_view c.args.formula.now)) _ (env ++ o.0 ∷ [])) objects c.loop-object.object-index (get_or objects c.loop-object.object-index (record { 0 = 0 })) c.loop-object.until c.next_of_some.result c.least-until.result c.loop-object-test.true (search rules) c.loop-object.invariant c.next_of_some.ensures c.least-until.ensures
+
+pub next_of_some-returns-after-loop-object : goal.next_of_some-returns-after-loop-object
+next_of_some-returns-after-loop-object t c =
+    let w = (world_view c.args.world.now).typing in
+    let env = objects_in c.args.binding.now in
+    let f = formula_view c.args.formula.now in
+    let objects = c.objects_of-object-items.result.now in
+    let first = get_or c.args.of.now 0 (record { 0 = 0 }) in
+    let all = next_all c.args.changes.now c.args.k c.args.end (λ o g. ForSome w (Mentions w g f) _ (env ++ o.0 ∷ [])) objects c.loop-object.object-index c.loop-object.until (omega arith) c.loop-object.invariant in
+    subst (λ ts. IsNext c.args.changes.now c.args.k c.args.end (λ g. ForSome w (Mentions w g f) ts env) c.loop-object.until) (sym (front c.args.of.now (record { 0 = 0 }) (omega arith)))
+    (next_like c.args.changes.now c.args.k c.args.end _ _ c.loop-object.until (λ g. mentioned_objects w first.0 objects c.objects_of-object-items.ensures.exact (Mentions w g f) _ env) all)
