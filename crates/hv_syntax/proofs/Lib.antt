@@ -29,3 +29,4 @@ pub mod FittingSections
 pub mod FittingTexts
 pub mod ReadBack
 pub mod ReadBackProblems
+pub mod StreamLemmas

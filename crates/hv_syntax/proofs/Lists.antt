@@ -20,7 +20,7 @@ pub no_member_at : (es : List Sexp) (i : ℕ) → length es ≤ i → trees (dro
 no_member_at es i le = ap trees (drop_all i es le)
 
 module _ {A X : Type 0} (f : Tree → Option A) (view : X → A) where
-  behind_both : (front : List A) (a : A) (r : Option (List A)) → behind front (both ◌∷◌ (Some a) r) ≡ behind (front ++ a ∷ []) r
+  pub behind_both : (front : List A) (a : A) (r : Option (List A)) → behind front (both ◌∷◌ (Some a) r) ≡ behind (front ++ a ∷ []) r
   behind_both front a None = refl
   behind_both front a (Some xs) = ap Some (sym (append_assoc front (a ∷ []) xs))
 

@@ -27,3 +27,4 @@ pub mod Canonical
 pub mod CanonicalSections
 pub mod Bare
 pub mod ReadBack
+pub mod Streams

@@ -7,8 +7,9 @@ ghost use Rattle.hv_syntax.specs.ProblemViews.{problem_view};
 
 use crate::domain::{DomainText, read_domain_of};
 use crate::fault::SyntaxFault;
-use crate::problem::{ProblemText, read_problem_of};
-use hv_text::read_sexps;
+use crate::problem::{ProblemText, read_problem_at, read_problem_of};
+use crate::refusal::Refusal;
+use hv_text::{Cursor, read_sexps};
 use std::alloc::Global;
 
 /// Reads the domain that a text says.
@@ -32,6 +33,19 @@ pub fn read_domain<'s>(alloc: Global, text: &'s [u8]) -> Result<DomainText<'s>, 
 /// The fault of the text: that it has no expressions, or the first one of these; and that memory ran
 /// out.
 pub fn read_problem<'s>(alloc: Global, text: &'s [u8]) -> Result<ProblemText<'s>, SyntaxFault>
+    ensures ok { IfOk result (λ p. IsProblemText text.now (problem_view p)) }
+    ensures err { IfErr result (λ f. IsProblemFault text.now f.kind f.span) }
+{
+    let start = Cursor::new(alloc, text)?;
+    match read_problem_at(alloc, start) {
+        Ok(problem) => Ok(problem),
+        Err(Refusal::Memory) => Err(SyntaxFault::memory()),
+        Err(Refusal::NoSpelling) => read_whole_problem(alloc, text),
+    }
+}
+
+// Reads the problem that a text says by the tree of all its expressions, which tells the fault.
+fn read_whole_problem<'s>(alloc: Global, text: &'s [u8]) -> Result<ProblemText<'s>, SyntaxFault>
     ensures ok { IfOk result (λ p. IsProblemText text.now (problem_view p)) }
     ensures err { IfErr result (λ f. IsProblemFault text.now f.kind f.span) }
 {

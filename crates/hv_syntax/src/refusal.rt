@@ -1,5 +1,6 @@
 //! Why an expression was not read.
 
+use hv_text::Memory;
 use std::alloc::{AllocError, AllocFailed};
 
 /// Why an expression was not read.
@@ -29,6 +30,17 @@ impl From<AllocError> for Refusal {
     ghost from_gives = { λ _ e. e ≡ refusals.Memory };
 
     fn from(_refused: AllocError) -> Refusal {
+        Refusal::Memory
+    }
+}
+
+impl From<Memory> for Refusal {
+    ghost use Rattle.std.specs.Prelude.{◌≡◌};
+    ghost use Rattle.hv_syntax.specs.declared.refusal.Refusal.TheVariants as refusals;
+
+    ghost from_gives = { λ _ e. e ≡ refusals.Memory };
+
+    fn from(_refused: Memory) -> Refusal {
         Refusal::Memory
     }
 }

@@ -131,8 +131,8 @@ pub(crate) fn read_keywords<'s>(alloc: Global, es: &[Sexp<'s>]) -> Result<Vec<Pl
     Ok(keywords)
 }
 
-// The name of `(word name)`.
-fn title<'s>(e: &Sexp<'s>, word: &[u8]) -> Option<Placed<'s>>
+/// The name of `(word name)`.
+pub(crate) fn title<'s>(e: &Sexp<'s>, word: &[u8]) -> Option<Placed<'s>>
     ensures { option_map word_view result ≡ title_of (lower word.now) (tree e.now) }
 {
     let Sexp::List(members, _) = e else {

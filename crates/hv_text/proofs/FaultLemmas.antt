@@ -49,7 +49,7 @@ pub if_none : {X : Type 0} (b : Bool) (x : X) (y : Option X) → (if b then Some
 if_none true x y e = cc
 if_none false x y e = (refl, e)
 
-not_zero : (n : ℕ) → (n == 0) ≡ false → n ≢ 0
+pub not_zero : (n : ℕ) → (n == 0) ≡ false → n ≢ 0
 not_zero n e z = grind (arith, common_steps)
 
 sound_from : (ps : List Piece) (n : ℕ) → fault_from n ps ≡ None → (k : ℕ) → fault_behind n ps k ≡ None

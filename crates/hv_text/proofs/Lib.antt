@@ -9,3 +9,4 @@ pub mod CommentLemmas
 pub mod CoverLemmas
 pub mod TreeLemmas
 pub mod ShapeLemmas
+pub mod RestLemmas

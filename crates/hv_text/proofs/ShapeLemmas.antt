@@ -25,13 +25,13 @@ use Rattle.hv_text.proofs.TreeLemmas.{list_spelled}
 use Rattle.hv_text.proofs.FaultLemmas.{if_none, is_sound, is_first_fault, none_open}
 
 -- a word is one in lower case, and a parenthesis is one byte
-abbrev IsWhole : Piece → Type 0
+abbrev pub IsWhole : Piece → Type 0
 IsWhole (found.word w s) = (is_word w ≡ true) × (lower w ≡ w)
 IsWhole (left s) = s.past ≡ s.start + 1
 IsWhole (right s) = s.past ≡ s.start + 1
 IsWhole (bad s) = Unit {0}
 
-abbrev AreWhole : List Piece → Type 0
+abbrev pub AreWhole : List Piece → Type 0
 AreWhole [] = Unit {0}
 AreWhole (p ∷ ps) = IsWhole p × AreWhole ps
 
@@ -74,7 +74,7 @@ pieces_whole after p [] = tt
 pieces_whole after p (b ∷ bs) =
     both_whole (beginning (class_of b) after p (b ∷ bs)) (pieces_from (is_word_byte b) (p + 1) bs) (begun_whole (class_of b) after p b bs refl) (pieces_whole (is_word_byte b) (p + 1) bs)
 
-text_whole : (text : List ℕ) → AreWhole (pieces text)
+pub text_whole : (text : List ℕ) → AreWhole (pieces text)
 text_whole text = pieces_whole false 0 (uncommented false text)
 
 mutual

@@ -9,3 +9,5 @@ pub mod Memory
 pub mod Faltering
 pub mod Runs
 pub mod Shapes
+pub mod Rests
+pub mod Cursors

@@ -1,6 +1,8 @@
 //! The text layer: words, expressions and names of a text, places in it, and the bytes that come in and go out.
 #![tactic(auto)]
 
+mod at;
+mod cursor;
 mod faltering;
 mod fault;
 mod files;
@@ -14,6 +16,8 @@ mod sexps;
 mod span;
 mod words;
 
+pub use at::Cursor;
+pub use cursor::check_text;
 pub use faltering::{Falter, FalteringReader, FalteringWriter};
 pub use fault::{MOST_BYTES, MOST_OPEN, TextFault, TextKind};
 pub use files::{FromReader, ToWriter};

@@ -1,12 +1,10 @@
-use Rattle.hv_text.specs.Trees.{trees}
+use Rattle.std.proofs.Common.{Ok}
+use Rattle.hv_text.specs.Rests.{here}
+use Rattle.hv_text.specs.Cursors.{rest_at}
 use Rattle.hv_syntax.specs.ProblemViews.{problem_view}
-use Rattle.hv_syntax.proofs.TextLemmas.{problem_of_text, fault_of_problem}
+use Rattle.hv_syntax.proofs.TextLemmas.{problem_of_text}
 use Rattle.hv_syntax.proofs.read.read_problem.Goals as goal
 
-pub returns-clause-ok : goal.returns-clause-ok
-returns-clause-ok c =
-    problem_of_text c.args.text.now (trees c.deref.result.now) (rw c.deref.ensures.value c.in_ok-es.ensures.ok) problem_view c.read_problem_of.result c.read_problem_of.ensures
-
-pub returns-clause-err : goal.returns-clause-err
-returns-clause-err c =
-    fault_of_problem c.args.text.now (trees c.deref.result.now) (rw c.deref.ensures.value c.in_ok-es.ensures.ok) problem_view c.read_problem_of.result c.read_problem_of.ensures
+pub returns-in-Ok-clause-ok : goal.returns-in-Ok-clause-ok
+returns-in-Ok-clause-ok c =
+    problem_of_text c.args.text.now (here (rest_at c.in_ok-start.start)) c.in_ok-start.ensures.are problem_view (Ok c.in-Ok.problem) c.in-Ok.ensures

@@ -1,0 +1,128 @@
+-- Expressions that are read one at a time.
+use Rattle.std.proofs.Common.{◌≡◌, ◌||◌, ℕ, Bool, true, false, List, [], ◌∷◌, ◌++◌, map, Option, Some, None, Result, Ok, refl, sym, ap, ◌∙◌}
+use Rattle.std.proofs.lemmas.List.{append-nil, append_assoc, map-append}
+use Rattle.std.specs.Prelude.{codes, is_some, IfNone}
+use Rattle.hv_text.specs.Trees.{Tree, Trees, word, list, none, more, place_of}
+use Rattle.hv_text.specs.Rests.{Rest, last, upto, add, enclose, here, ended}
+use Rattle.hv_text.specs.declared.span.Span.{Span}
+use Rattle.hv_syntax.specs.Reading.{both, every, behind}
+use Rattle.hv_syntax.specs.Values.{WordAt, Literal, Problem}
+use Rattle.hv_syntax.specs.Words.{is, is_the_word}
+use Rattle.hv_syntax.specs.Literals.{ground_literal_of}
+use Rattle.hv_syntax.specs.Sections.{headed, is_head, occurs, title_of}
+use Rattle.hv_syntax.specs.Problems.{ProblemSection, has_init, problem_standing, problem_section_by, problem_section, Parts, add_part, no_parts, parts_from, whole, problem_of}
+use Rattle.hv_syntax.specs.Streams.{head_word, heads, has_head, IsSectionRead}
+use Rattle.hv_syntax.specs.declared.section.Standing.TheVariants as standings
+use Rattle.hv_syntax.specs.declared.fault.SyntaxKind.{SyntaxKind}
+use Rattle.hv_syntax.proofs.Lists.{behind_both}
+use Rattle.hv_syntax.proofs.SpellingLemmas.{same_word}
+
+pub here_add : (t : Tree) (r : Rest) → here (add t r) ≡ more t (here r)
+here_add t (last ts) = refl
+here_add t (upto ts e r) = refl
+
+pub ended_add : (t : Tree) (r : Rest) → ended (add t r) ≡ ended r
+ended_add t (last ts) = refl
+ended_add t (upto ts e r) = refl
+
+pub ended_none : (r : Rest) → here r ≡ none → r ≡ ended r
+ended_none (last ts) e = ap last e
+ended_none (upto ts p r) e = ap (λ x. upto x p r) e
+
+module _ {A X : Type 0} (f : Tree → Option A) (view : X → A) (t : Tree) (r r' : Rest) (first : r ≡ add t r') (all : Option (List A)) where
+  pub read_next : (front : List X) (x : X) → f t ≡ Some (view x) → behind (map view front) (every f (here r)) ≡ all
+      → behind (map view (front ++ x ∷ [])) (every f (here r')) ≡ all
+  read_next front x read so_far =
+      let one : behind (map view front) (every f (here r)) ≡ behind (map view front) (both ◌∷◌ (Some (view x)) (every f (here r'))) =
+      ap (λ z. behind (map view front) (every f z)) (ap here first ∙ here_add t r') ∙ ap (λ z. behind (map view front) (both ◌∷◌ z (every f (here r')))) read in
+      ap (λ xs. behind xs (every f (here r'))) (map-append view front (x ∷ [])) ∙ sym (behind_both f view (map view front) (view x) _) ∙ sym one ∙ so_far
+
+  pub read_no_next : (front : List A) → f t ≡ None → behind front (every f (here r)) ≡ all → all ≡ None
+  read_no_next front read so_far =
+      let one : behind front (every f (here r)) ≡ None = ap (λ z. behind front (every f z)) (ap here first ∙ here_add t r') ∙ ap (λ z. behind front (both ◌∷◌ z (every f (here r')))) read in
+      sym so_far ∙ one
+
+pub read_up_to : {A : Type 0} (f : Tree → Option A) (r : Rest) (front : List A) (all : Option (List A)) → here r ≡ none → behind front (every f (here r)) ≡ all → all ≡ Some front
+read_up_to f r front all e so_far = sym so_far ∙ ap (λ z. behind front (every f z)) e ∙ ap Some (append-nil front)
+
+heads_behind : (ts : List Tree) (t : Tree) (w : List ℕ) → head_word (headed t) ≡ w ∷ [] → heads (ts ++ t ∷ []) ≡ heads ts ++ w ∷ []
+heads_behind [] t w e = append-nil (head_word (headed t)) ∙ e
+heads_behind (u ∷ ts) t w e = ap (λ z. head_word (headed u) ++ z) (heads_behind ts t w e) ∙ sym (append_assoc (head_word (headed u)) (heads ts) (w ∷ []))
+
+occurs_by : (v : List ℕ) (h : Option (List ℕ × Trees)) (ws : List (List ℕ)) → (is_head v h || has_head v ws) ≡ has_head v (head_word h ++ ws)
+occurs_by v None ws = refl
+occurs_by v (Some (w, ts)) ws = refl
+
+occurs_among : (v : List ℕ) (ts : List Tree) → occurs v ts ≡ has_head v (heads ts)
+occurs_among v [] = refl
+occurs_among v (t ∷ ts) = ap (λ z. is_head v (headed t) || z) (occurs_among v ts) ∙ occurs_by v (headed t) (heads ts)
+
+is_section_of : (t : Tree) (w : List ℕ) (us : Trees) (x : ProblemSection) (hs : List (List ℕ)) → headed t ≡ Some (w, us) → problem_standing w ≡ standings.Once → has_head w hs ≡ false
+    → problem_section_by w (place_of t) us ≡ Some x → (ts : List Tree) → heads ts ≡ hs → problem_section ts t ≡ Ok x
+is_section_of t w us x hs h st fresh by ts e =
+    let none : occurs w ts ≡ false = occurs_among w ts ∙ ap (has_head w) e ∙ fresh in
+    rw (h, st, none, by) refl
+
+-- a section that was read by its expression
+pub listed_read : (hs : List (List ℕ)) (t : Tree) (from after : Rest) (w : List ℕ) (us : Trees) (x : ProblemSection) (s : Span) → from ≡ add t after → Some (w, us) ≡ headed t
+    → standings.Once ≡ problem_standing w → has_head w hs ≡ false → s ≡ place_of t → problem_section_by w s us ≡ Some x → IsSectionRead hs from x w after
+listed_read hs t from after w us x s f h st fresh p by =
+    record { tree = t; first = f; head = ap head_word (sym h); is_section = is_section_of t w us x hs (sym h) (sym st) fresh (ap (λ z. problem_section_by w z us) (sym p) ∙ by) }
+
+init_standing : (w : List ℕ) → w ≡ codes ":init" → problem_standing w ≡ standings.Once
+init_standing w e = rw e refl
+
+init_by : (w : List ℕ) (s : Span) (us : Trees) (ls : List Literal) → w ≡ codes ":init" → every ground_literal_of us ≡ Some ls → problem_section_by w s us ≡ Some (has_init ls)
+init_by w s us ls e r = rw (e, r) refl
+
+-- `:init`, that was read one literal at a time
+pub init_read : (hs : List (List ℕ)) (start place : Span) (w : List ℕ) (ls : List Literal) (from m e after : Rest) (p : ℕ) → from ≡ enclose start (add (word w place) m)
+    → is w (codes ":init") ≡ true → has_head w hs ≡ false → every ground_literal_of (here m) ≡ Some ls → e ≡ ended m → e ≡ upto none p after → IsSectionRead hs from (has_init ls) w after
+init_read hs start place w ls from (last us) e after p f h fresh r k q = absurd (never (sym k ∙ q))
+  where
+    never : last none ≡ upto none p after → ⊥
+    never z = cc
+init_read hs start place w ls from (upto us n b) e after p f h fresh r k q =
+    let same : upto none n b ≡ upto none p after = sym k ∙ q in
+    let behind_it : b ≡ after = cc in
+    let word_is : w ≡ codes ":init" = same_word w (codes ":init") h in
+    let t : Tree = list (more (word w place) us) (record { start = start.start; past = n }) in
+    record {
+      tree = t;
+      first = f ∙ ap (add t) behind_it;
+      head = refl;
+      is_section = is_section_of t w us (has_init ls) hs refl (init_standing w word_is) fresh (init_by w (place_of t) us ls word_is r);
+    }
+
+-- one more section
+pub section_more : (hs : List (List ℕ)) (from after : Rest) (x : ProblemSection) (w : List ℕ) (parts : Parts) (all : Result Parts (SyntaxKind × Span)) → IsSectionRead hs from x w after
+    → (ts : List Tree) × (heads ts ≡ hs) × (parts_from parts ts (here from) ≡ all)
+    → (ts : List Tree) × (heads ts ≡ hs ++ w ∷ []) × (parts_from (add_part parts x) ts (here after) ≡ all)
+section_more hs from after x w parts all r (ts, e, g) =
+    let one : parts_from parts ts (here from) ≡ parts_from parts ts (more r.tree (here after)) = ap (λ z. parts_from parts ts z) (ap here r.first ∙ here_add r.tree after) in
+    let two : parts_from parts ts (more r.tree (here after)) ≡ parts_from (add_part parts x) (ts ++ r.tree ∷ []) (here after) = rw (r.is_section ts e) refl in
+    (ts ++ r.tree ∷ [], heads_behind ts r.tree w r.head ∙ ap (λ z. z ++ w ∷ []) e, sym two ∙ sym one ∙ g)
+
+pub section_ended : (hs : List (List ℕ)) (from after : Rest) (x : ProblemSection) (w : List ℕ) (all : Rest) → IsSectionRead hs from x w after → ended from ≡ all → ended after ≡ all
+section_ended hs from after x w all r e = sym (ended_add r.tree after) ∙ ap ended (sym r.first) ∙ e
+
+-- the whole definition
+pub problem_read : (from first second third e b : Rest) (start : Span) (d k : Tree) (p : ℕ) (n : WordAt) (parts : Parts) (v : Problem) → from ≡ enclose start first → first ≡ add d second
+    → is_the_word (codes "define") d ≡ true → second ≡ add k third → Some n ≡ title_of (codes "problem") k → parts_from no_parts [] (here third) ≡ Ok parts → e ≡ ended third → e ≡ upto none p b → b ≡ last none
+    → whole (record { start = start.start; past = p }) n parts ≡ Ok v → problem_of (here from) ≡ Ok v
+problem_read from first second (last us) e b start d k p n parts v f g h i j l m o q w = absurd (never (sym m ∙ o))
+  where
+    never : last none ≡ upto none p b → ⊥
+    never z = cc
+problem_read from first second (upto us z c) e b start d k p n parts v f g h i j l m o q w =
+    let same : upto none z c ≡ upto none p b = sym m ∙ o in
+    let ends : z ≡ p = cc in
+    let tail : c ≡ b = cc in
+    let place : Span = record { start = start.start; past = p } in
+    let all : from ≡ enclose start (add d (add k (upto us z c))) = f ∙ ap (enclose start) (g ∙ ap (add d) i) in
+    let one : here from ≡ more (list (more d (more k us)) place) none = ap here (rw (ends, tail, q) at all) in
+    rw (one, h, sym j, l) w
+
+pub nothing_next : {X : Type 0} {P : Type 0} (o : Option X) (b : Bool) → b ≡ is_some o → b ≡ false → IfNone o P → P
+nothing_next None b e f p = p
+nothing_next (Some x) b e f p = absurd cc
