@@ -1,7 +1,7 @@
 -- A plan without decomposition lines is a solution exactly where its lines have the names of the subtasks, in their order.
 use Rattle.std.proofs.Common.{◌≡◌, ◌+◌, ◌<◌, ◌≤◌, ℕ, suc, true, List, [], ◌∷◌, length, map, Some, refl, sym, ap, ◌∙◌, subst, inl, inr, arith}
 use Rattle.hv_plan.specs.Trees.{Item, Act, Task, Pre, Mem, Distinct, itself, IsSubtask, IsTree, IsWithin, HasActions}
-use Rattle.hv_order.specs.Candidates.{Candidate, IsOrder, AreCandidates}
+use Rattle.hv_order.specs.Candidates.{Candidate, IsOrder, AreCandidates, listed, listed_for}
 use Rattle.hv_order.specs.Finishes.{FitTogether, RootFitsBy, Fits, FitsAll}
 use Rattle.hv_order.specs.Laws.{SequenceLaw}
 use Rattle.hv_judge.proofs.Members.{MappedFrom, mem_map, mem_map_from, not_true, act_same}
@@ -86,7 +86,7 @@ module _ (p : Plan) (root : IsRooted p) where
     passed (Task v) y z e f = not_true e
     passed (Pre v) y z e f = not_true e
 
-    flat_candidates : AreCandidates (tree_of p) (candidate_of p children ∷ []) (λ v. [])
+    flat_candidates : AreCandidates (tree_of p) (listed (candidate_of p children ∷ [])) (listed_for (λ v. []))
     flat_candidates = record { of_root = λ c m. of_root c m; of_lines = λ v c m. absurd m }
       where
         of_root : (c : Candidate) → Mem c (candidate_of p children ∷ []) → IsOrder (map (item_of p) p.root.ids) c.before
@@ -106,7 +106,7 @@ module _ (p : Plan) (root : IsRooted p) where
   finish_of (Task v) = 0
   finish_of (Pre v) = 0
 
-  fits_at : (x : Item) → OfChild p x → Fits (λ v. []) (λ v. []) 0 x (start_of x) (finish_of x)
+  fits_at : (x : Item) → OfChild p x → Fits (λ v. []) (listed_for (λ v. [])) 0 x (start_of x) (finish_of x)
   unfolding start_of finish_of
   fits_at (Act k) c = (omega arith, omega arith)
   fits_at (Task v) c = absurd (no_task p v c)
@@ -133,7 +133,7 @@ module _ (p : Plan) (root : IsRooted p) where
   in_plan_order (Task v) y e = not_true e
   in_plan_order (Pre v) y e = not_true e
 
-  lines_fit : FitsAll (tree_of p) (candidate_of p (ids_of p.actions) ∷ []) (λ v. []) 0 0 (length p.actions)
+  lines_fit : FitsAll (tree_of p) (listed (candidate_of p (ids_of p.actions) ∷ [])) (listed_for (λ v. [])) 0 0 (length p.actions)
   lines_fit = record {
     candidate = candidate_of p (ids_of p.actions);
     listed = inl refl;
@@ -166,7 +166,7 @@ module _ (p : Plan) (root : IsRooted p) where
   -- children that are ordered as the plan is stand in plan order
   module _ (children : List ℕ) (once : Distinct children) (all : (i : ℕ) → Mem i p.root.ids → Mem i children)
       (only : (i : ℕ) → Mem i children → Mem i p.root.ids) where
-    row_from : FitTogether (map (item_of p) p.root.ids) (orders (map (place_of p.actions) children)) (Fits (λ v. []) (λ v. []) 0) 0 (length p.actions)
+    row_from : FitTogether (map (item_of p) p.root.ids) (orders (map (place_of p.actions) children)) (Fits (λ v. []) (listed_for (λ v. [])) 0) 0 (length p.actions)
         → map (place_of p.actions) children ≡ numbers 0 (length p.actions)
     row_from fit = are_numbers 0 (length p.actions) (map (place_of p.actions) children) (rising_from _ keeps) every within
       where
@@ -197,10 +197,10 @@ module _ (p : Plan) (root : IsRooted p) where
             let at = from.image in
             (omega arith, omega arith)
 
-    fit_of : FitsAll (tree_of p) (candidate_of p children ∷ []) (λ v. []) 0 0 (length p.actions)
-        → FitTogether (map (item_of p) p.root.ids) (orders (map (place_of p.actions) children)) (Fits (λ v. []) (λ v. []) 0) 0 (length p.actions)
+    fit_of : FitsAll (tree_of p) (listed (candidate_of p children ∷ [])) (listed_for (λ v. [])) 0 0 (length p.actions)
+        → FitTogether (map (item_of p) p.root.ids) (orders (map (place_of p.actions) children)) (Fits (λ v. []) (listed_for (λ v. [])) 0) 0 (length p.actions)
     fit_of fits =
-        let fact = subst (λ (c : Candidate). RootFitsBy (map (item_of p) p.root.ids) (Fits (λ v. []) (λ v. []) 0) 0 (length p.actions) c) (only_candidate fits.candidate fits.listed) fits.fact in
+        let fact = subst (λ (c : Candidate). RootFitsBy (map (item_of p) p.root.ids) (Fits (λ v. []) (listed_for (λ v. [])) 0) 0 (length p.actions) c) (only_candidate fits.candidate fits.listed) fits.fact in
         fact.together
       where
         only_candidate : (c : Candidate) → Mem c (candidate_of p children ∷ []) → c ≡ candidate_of p children

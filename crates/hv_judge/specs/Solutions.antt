@@ -2,7 +2,7 @@
 use Rattle.std.specs.Prelude.{◌≡◌, ◌==◌, ℕ, Bool, true, false, List, [], ◌∷◌, length, map, Some, if◌then◌else◌}
 use Rattle.std.specs.List.{position_or_len}
 use Rattle.hv_plan.specs.Trees.{Item, Act, Task, Pre, Mem, Distinct, Tree}
-use Rattle.hv_order.specs.Candidates.{Candidate}
+use Rattle.hv_order.specs.Candidates.{Candidate, listed, listed_for}
 use Rattle.hv_order.specs.Sequences.{HasSolution}
 use Rattle.hv_plan.specs.Values.{Action, Plan}
 use Rattle.hv_judge.specs.Trees.{name_of, occurs}
@@ -46,4 +46,4 @@ pub record IsMatching (names : List (List ℕ)) (p : Plan) (children : List ℕ)
 -- with this matching there is a derivation, and an executable sequence of its end that has the plan's actions in plan order,
 -- goal and applicability aside
 abbrev pub IsOrderedBy : Plan → List ℕ → Type 0
-IsOrderedBy p children = HasSolution (tree_of p) (candidate_of p children ∷ []) (λ v. []) (length p.actions)
+IsOrderedBy p children = HasSolution (tree_of p) (listed (candidate_of p children ∷ [])) (listed_for (λ v. [])) (length p.actions)
