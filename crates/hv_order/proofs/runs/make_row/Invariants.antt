@@ -1,0 +1,14 @@
+use Rattle.std.proofs.Common.{◌+◌, ◌-◌, ◌++◌, ◌≡◌, ◌<◌, ◌≤◌, ℕ, length, Some, None, Option, List}
+use Rattle.hv_order.specs.Runs.{IsRow}
+use Rattle.hv_order.specs.declared.runs.Run.{Run}
+use Rattle.hv_order.proofs.runs.make_row.Given as goal
+
+-- what the rest comes to, the whole row does
+abbrev pub invariant-loop-start : goal.invariant-loop-start
+invariant-loop-start g l = record {
+  within : l.start ≤ l.last + 1;
+  rest : (rest : List Run) → IsRow (g.T.Settling.fit l.table (length l.rows)) l.last l.start rest → IsRow (g.T.Settling.fit l.table (length l.rows)) l.last 0 (l.runs.items ++ rest);
+}
+
+abbrev pub decreases-loop-start : goal.decreases-loop-start
+decreases-loop-start g l = l.last + 1 - l.start
