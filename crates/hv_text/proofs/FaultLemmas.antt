@@ -8,7 +8,7 @@ use Rattle.std.proofs.lemmas.Grind.{common_steps}
 use Rattle.hv_text.specs.Words.{Piece, word, left, right, bad, pieces}
 use Rattle.hv_text.specs.Trees.{trees}
 use Rattle.hv_text.specs.Sexps.{is_left, is_right, open_before, IsUnclosed, fault_of, fault_at, IsSound, IsFirstFault, AreExpressions, IsTextFault}
-use Rattle.hv_text.specs.Scan.{open_from, fault_from, IsScanned, IsScanFault}
+use Rattle.hv_text.specs.inside.Scan.{open_from, fault_from, IsScanned, IsScanFault}
 use Rattle.hv_text.proofs.SexpLemmas.{same_spelling}
 use Rattle.hv_text.specs.declared.sexp.Sexp.{Sexp}
 use Rattle.hv_text.specs.declared.fault.TextFault.{TextFault}

@@ -1,3 +1,4 @@
+pub mod ListLemmas
 pub mod NameLemmas
 pub mod RunLemmas
 pub mod WordLemmas
@@ -10,3 +11,5 @@ pub mod CoverLemmas
 pub mod TreeLemmas
 pub mod ShapeLemmas
 pub mod RestLemmas
+pub mod TextFaults
+pub mod WriteLemmas

@@ -6,8 +6,8 @@ use Rattle.hv_text.specs.Trees.{Tree, Trees, tree, trees, word, list, none, more
 use Rattle.hv_text.specs.Words as found
 use Rattle.hv_text.specs.Words.{Piece, left, right, bad, pieces}
 use Rattle.hv_text.specs.Sexps.{spelled, spelled_all, opening, closing, AreExpressions, IsTextFault}
-use Rattle.hv_text.specs.Scan.{fault_from, open_from, IsScanFault}
-use Rattle.hv_text.specs.Rests.{Rest, last, upto, add, add_all, enclose, rest_of, here, to_come, IsBalanced}
+use Rattle.hv_text.specs.inside.Scan.{fault_from, open_from, IsScanFault, IsBalanced}
+use Rattle.hv_text.specs.Rests.{Rest, last, upto, add, add_all, enclose, rest_of, here, to_come}
 use Rattle.hv_text.specs.declared.sexp.Sexp.{Sexp}
 use Rattle.hv_text.specs.declared.span.Span.{Span}
 use Rattle.hv_text.specs.declared.fault.TextFault.{TextFault}

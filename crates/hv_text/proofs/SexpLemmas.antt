@@ -9,7 +9,7 @@ use Rattle.hv_text.specs.declared.sexp.Open.{Open}
 use Rattle.hv_text.specs.Words.{Piece, left, right}
 use Rattle.hv_text.specs.Trees.{tree, trees, list}
 use Rattle.hv_text.specs.Sexps.{spelled, spelled_all, opening, closing}
-use Rattle.hv_text.specs.Scan.{spellings, spelling_of_open, places_of_open, fault_from, open_from}
+use Rattle.hv_text.specs.inside.Scan.{spellings, spelling_of_open, places_of_open, fault_from, open_from}
 use Rattle.hv_text.specs.declared.span.Span.{Span}
 use Rattle.hv_text.specs.declared.sexp.Sexp.{Sexp}
 

@@ -10,7 +10,7 @@ use Rattle.hv_text.specs.Trees.{Tree, Trees, word, list, none, more}
 use Rattle.hv_text.specs.Words as found
 use Rattle.hv_text.specs.Words.{Piece, left, right, bad, nowhere, class_of, beginning, pieces_from, pieces, uncommented}
 use Rattle.hv_text.specs.Sexps.{spelled, spelled_all, opening, closing, IsSound, AreExpressions}
-use Rattle.hv_text.specs.Scan.{fault_from, open_from}
+use Rattle.hv_text.specs.inside.Scan.{fault_from, open_from}
 use Rattle.hv_text.specs.Shapes.{bare_piece, bare_tree, bare_trees, IsTidy, AreTidy, depth, depth_all}
 use Rattle.hv_text.specs.declared.span.Span.{Span}
 use Rattle.hv_text.specs.declared.fault.TextKind.{TextKind}

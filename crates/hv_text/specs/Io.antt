@@ -1,6 +1,6 @@
 -- What a reader gave and a writer took.
-use Rattle.std.specs.Prelude.{◌<◌, ◌≤◌, ℕ, Bool, true, false, suc, zero, List, length, Option, Result, Ok, Err}
-use Rattle.std.specs.Io.KnownBytes.{Consumes, IsAtEnd}
+use Rattle.std.specs.Prelude.{◌<◌, ◌≤◌, ℕ, Bool, true, false, suc, zero, List, length, take, Option, Result, Ok, Err}
+use Rattle.std.specs.Io.KnownBytes.{Appends, Consumes, IsAtEnd}
 use Rattle.hv_text.specs.declared.io.DeviceFault.{DeviceFault}
 use Rattle.hv_text.specs.declared.io.ReadFault.{ReadFault}
 use Rattle.hv_text.specs.declared.io.ReadFault.TheVariants.{Device, TooLong, Memory}
@@ -30,3 +30,7 @@ is_device_fault (Ok x) = false
 is_device_fault (Err Device) = true
 is_device_fault (Err TooLong) = false
 is_device_fault (Err Memory) = false
+
+-- a beginning of the text, perhaps all of it, was added to what a writer took
+abbrev pub AppendsBeginning : Option (List ℕ) → Option (List ℕ) → List ℕ → Type 0
+AppendsBeginning old new text = (n : ℕ) × Appends old new (take n text)

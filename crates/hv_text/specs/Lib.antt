@@ -3,11 +3,11 @@ pub mod Names
 pub mod Words
 pub mod Trees
 pub mod Sexps
-pub mod Scan
-pub mod Io
-pub mod Memory
-pub mod Faltering
 pub mod Runs
 pub mod Shapes
 pub mod Rests
 pub mod Cursors
+pub mod Io
+pub mod Memory
+pub mod Lists
+pub mod inside

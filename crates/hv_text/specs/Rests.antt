@@ -1,11 +1,9 @@
 -- What stands from a place on: expressions up to the end of the list there, and so on for each list around it.
-use Rattle.std.specs.Prelude.{◌≡◌, ◌≤◌, ℕ, List, [], ◌∷◌, None, length}
+use Rattle.std.specs.Prelude.{ℕ, List, [], ◌∷◌}
 use Rattle.hv_text.specs.Trees.{Tree, Trees, word, list, none, more}
 use Rattle.hv_text.specs.Words as found
 use Rattle.hv_text.specs.Words.{Piece, left, right, bad, pieces, pieces_at}
-use Rattle.hv_text.specs.Scan.{fault_from, open_from}
 use Rattle.hv_text.specs.declared.span.Span.{Span}
-use Rattle.hv_text.specs.declared.fault.TheConstants.{MOST_BYTES}
 
 -- expressions up to the end of the text; or up to a `)` that ends at this place, and what stands behind it
 pub data Rest : Type 0 where
@@ -51,9 +49,3 @@ ended (upto ts e r) = upto none e r
 -- what stands from place i on, which is in no comment and behind no word byte
 abbrev pub to_come : List ℕ → ℕ → Rest
 to_come text i = rest_of (pieces_at text i)
-
--- what a check with a stack of parentheses finds: no fault, and none open at the end
-pub record IsBalanced (text : List ℕ) : Type 0 where
-  pub size : length text ≤ MOST_BYTES
-  pub sound : fault_from 0 (pieces text) ≡ None
-  pub closed : open_from [] (pieces text) ≡ []

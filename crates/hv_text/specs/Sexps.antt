@@ -1,5 +1,5 @@
 -- The expressions of a text, and its faults.
-use Rattle.std.specs.Prelude.{◌≡◌, ◌==◌, ◌+◌, ◌-◌, ◌++◌, ◌<◌, ◌≤◌, ℕ, Bool, true, false, List, [], ◌∷◌, length, take, Option, None, Some, count_by, slice_get, if◌then◌else◌}
+use Rattle.std.specs.Prelude.{◌≡◌, ◌≢◌, ◌==◌, ◌+◌, ◌-◌, ◌++◌, ◌<◌, ◌≤◌, ℕ, Bool, true, false, List, [], ◌∷◌, length, take, Option, None, Some, count_by, slice_get, if◌then◌else◌}
 use Rattle.hv_text.specs.Trees.{Tree, Trees, word, list, none, more}
 use Rattle.hv_text.specs.Words as found
 use Rattle.hv_text.specs.Words.{Piece, left, right, bad, pieces, nowhere}
@@ -87,3 +87,15 @@ IsTextFault text kinds.BadByte s = (length text ≤ MOST_BYTES) × IsFirstFault 
 IsTextFault text kinds.Unopened s = (length text ≤ MOST_BYTES) × IsFirstFault (pieces text) kinds.Unopened s
 IsTextFault text kinds.TooDeep s = (length text ≤ MOST_BYTES) × IsFirstFault (pieces text) kinds.TooDeep s
 IsTextFault text kinds.Unclosed s = (length text ≤ MOST_BYTES) × IsSound (pieces text) × IsUnclosed (pieces text) s
+
+-- a text has expressions
+abbrev pub HasExpressions : List ℕ → Type 0
+HasExpressions text = (ts : Trees) × AreExpressions text ts
+
+-- this is a fault of the text itself: any but that memory ran out
+abbrev pub IsOwnFault : List ℕ → TextKind → Span → Type 0
+IsOwnFault text kind s = (kind ≢ kinds.Memory) × IsTextFault text kind s
+
+-- a text has a fault of its own
+abbrev pub HasOwnFault : List ℕ → Type 0
+HasOwnFault text = (kind : TextKind) × (s : Span) × IsOwnFault text kind s

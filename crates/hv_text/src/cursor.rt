@@ -4,8 +4,8 @@ ghost use Rattle.std.specs.Prelude.{◌≡◌, ◌<◌, ◌≤◌, OnOk, IfOk, I
 ghost use Rattle.hv_text.specs.Trees.{tree, trees, list, none};
 ghost use Rattle.hv_text.specs.Words.{piece_of};
 ghost use Rattle.hv_text.specs.Sexps.{AreExpressions, IsTextFault};
-ghost use Rattle.hv_text.specs.Scan.{IsScanFault};
-ghost use Rattle.hv_text.specs.Rests.{last, upto, step, add, add_all, enclose, here, to_come, IsBalanced};
+ghost use Rattle.hv_text.specs.inside.Scan.{IsScanFault, IsBalanced};
+ghost use Rattle.hv_text.specs.Rests.{last, upto, step, add, add_all, enclose, here, to_come};
 ghost use Rattle.hv_text.specs.Cursors.{rest_at, left_at};
 
 use crate::at::Cursor;

@@ -1,8 +1,9 @@
 //! Bytes that come in and go out.
 
-ghost use Rattle.std.specs.Prelude.{◌≡◌, ◌<◌, ◌≤◌, ◌+◌, ◌-◌, ◌^◌, ℕ, List, Option, length, take, IfOk, IsOk, OnOk, OnErr, IsErrOf, IfErr, MatchResult, is_ok, if◌then◌else◌};
+ghost use Rattle.std.specs.Prelude.{◌≡◌, ◌<◌, ◌≤◌, ◌+◌, ◌-◌, ◌^◌, ℕ, List, Option, length, IfOk, IsOk, OnOk, OnErr, IsErrOf, IfErr, MatchResult, is_ok, if◌then◌else◌};
 ghost use Rattle.std.specs.Io.KnownBytes.{Appends, ReadConsumes, WriteAppends};
-ghost use Rattle.hv_text.specs.Io.{IsRead, IsReadFault, failure_of, is_device_fault};
+ghost use Rattle.std.specs.List.{flat_map};
+ghost use Rattle.hv_text.specs.Io.{IsRead, IsReadFault, failure_of, is_device_fault, AppendsBeginning};
 
 use std::alloc::Global;
 use thiserror::Error;
@@ -103,7 +104,7 @@ pub fn read_all<R: Source>(
 pub fn write_all<W: Sink>(out: &mut W, bytes: &[u8]) -> Result<(), WriteFault>
     requires { W.failures out.old < 2 ^ 64 - 1 }
     ensures ok { OnOk result (Appends (W.taken out.old) (W.taken out.new) bytes.now) }
-    ensures err { OnErr result ((n : ℕ) × Appends (W.taken out.old) (W.taken out.new) (take n bytes.now)) }
+    ensures err { OnErr result (AppendsBeginning (W.taken out.old) (W.taken out.new) bytes.now) }
     ensures failures { W.failures out.new ≡ W.failures out.old + (if is_ok result then 0 else 1) }
 {
     let mut at = 0;
@@ -117,6 +118,19 @@ pub fn write_all<W: Sink>(out: &mut W, bytes: &[u8]) -> Result<(), WriteFault>
             }
             Err(_) => return Err(WriteFault::Device),
         }
+    }
+    Ok(())
+}
+
+/// Writes texts one after another. Where a write fails, a beginning of them was written. No memory is taken.
+pub fn write_parts<W: Sink>(out: &mut W, parts: &[&[u8]]) -> Result<(), WriteFault>
+    requires { W.failures out.old < 2 ^ 64 - 1 }
+    ensures ok { OnOk result (Appends (W.taken out.old) (W.taken out.new) (flat_map (λ p. p.now) parts.now)) }
+    ensures err { OnErr result (AppendsBeginning (W.taken out.old) (W.taken out.new) (flat_map (λ p. p.now) parts.now)) }
+    ensures failures { W.failures out.new ≡ W.failures out.old + (if is_ok result then 0 else 1) }
+{
+    for part in parts {
+        write_all(out, part)?;
     }
     Ok(())
 }

@@ -1,21 +1,21 @@
 //! What holds of the words, expressions and names of any text. These functions do nothing: their contracts are the laws.
 
-ghost use Rattle.std.specs.Prelude.{◌≡◌, ◌↔◌, ◌≤◌, ℕ, List, true, false, Some, Contains, length, map, slice_get};
+ghost use Rattle.std.specs.Prelude.{◌≡◌, ◌↔◌, ◌≤◌, ◌⊎◌, ℕ, List, true, false, Some, Contains, length, map, slice_get};
 ghost use Rattle.std.specs.Str.{bytes_eq};
 ghost use Rattle.std.specs.Cmp.Lexicographic.{slice_cmp};
 ghost use Rattle.std.specs.Ordering.{on, nat_cmp, is_eq};
-ghost use Rattle.indexmap.specs.IndexMap.{get};
 ghost use Rattle.hv_text.specs.Bytes.{is_blank};
 ghost use Rattle.hv_text.specs.Names.{text_of, hash_input_of};
 ghost use Rattle.hv_text.specs.Words.{Piece, uncommented, pieces};
 ghost use Rattle.hv_text.specs.Runs.{IsInComment, StandsIn, IsInOrder, IsHeldOnce};
 ghost use Rattle.hv_text.specs.Trees.{Trees};
-ghost use Rattle.hv_text.specs.Sexps.{spelled_all, AreExpressions};
+ghost use Rattle.hv_text.specs.Sexps.{spelled_all, AreExpressions, HasExpressions, IsOwnFault, HasOwnFault};
 ghost use Rattle.hv_text.specs.Shapes.{bare_piece, bare_trees, AreTidy, depth_all};
+ghost use Rattle.hv_text.specs.declared.span.Span.{Span};
+ghost use Rattle.hv_text.specs.declared.fault.TextKind.{TextKind};
 ghost use Rattle.hv_text.specs.declared.fault.TheConstants.{MOST_BYTES, MOST_OPEN};
 
 use crate::name::Name;
-use indexmap::IndexMap;
 
 /// A comment is seen as blanks, and the rest of a text as it is.
 pub fn comments_are_blanks(text: &[u8])
@@ -43,6 +43,13 @@ pub fn a_text_has_one_reading()
     ensures { (text : List ℕ) (ts us : Trees) → AreExpressions text ts → AreExpressions text us → ts ≡ us }
 {}
 
+/// A text has expressions or one fault of its own, never both.
+pub fn expressions_or_one_fault()
+    ensures some { (text : List ℕ) → HasExpressions text ⊎ HasOwnFault text }
+    ensures never_both { (text : List ℕ) (ts : Trees) (k : TextKind) (s : Span) → AreExpressions text ts → IsOwnFault text k s → ⊥ }
+    ensures one { (text : List ℕ) (k l : TextKind) (s t : Span) → IsOwnFault text k s → IsOwnFault text l t → (k ≡ l) × (s ≡ t) }
+{}
+
 /// The words of a text's expressions are words in lower case, and no more parentheses are open at once in them than may be.
 pub fn expressions_are_tidy()
     ensures { (text : List ℕ) (ts : Trees) → AreExpressions text ts → AreTidy ts × (depth_all ts ≤ MOST_OPEN) }
@@ -58,10 +65,4 @@ pub fn names_agree(one: Name<'_>, other: Name<'_>)
     ensures equal { on text_of bytes_eq one.entry other.entry ≡ true ↔ text_of one.entry ≡ text_of other.entry }
     ensures order { is_eq (on text_of (slice_cmp nat_cmp) one.entry other.entry) ≡ on text_of bytes_eq one.entry other.entry }
     ensures hash { text_of one.entry ≡ text_of other.entry → hash_input_of one.entry ≡ hash_input_of other.entry }
-{}
-
-/// What a map has for a name is found by every spelling of the name.
-pub fn every_spelling_finds<V>(map: &IndexMap<Name<'_>, V>, one: Name<'_>, other: Name<'_>)
-    requires { text_of one ≡ text_of other }
-    ensures { get (on text_of bytes_eq) map.now one.entry ≡ get (on text_of bytes_eq) map.now other.entry }
 {}

@@ -3,11 +3,11 @@
 
 mod at;
 mod cursor;
-mod faltering;
 mod fault;
 mod files;
 mod io;
 mod laws;
+mod lists;
 mod memory;
 mod name;
 mod refusal;
@@ -18,15 +18,15 @@ mod words;
 
 pub use at::Cursor;
 pub use cursor::check_text;
-pub use faltering::{Falter, FalteringReader, FalteringWriter};
 pub use fault::{MOST_BYTES, MOST_OPEN, TextFault, TextKind};
 pub use files::{FromReader, ToWriter};
-pub use io::{DeviceFault, ReadFault, Sink, Source, WriteFault, read_all, write_all};
+pub use io::{DeviceFault, ReadFault, Sink, Source, WriteFault, read_all, write_all, write_parts};
 pub use laws::{
-    a_text_has_one_reading, comments_are_blanks, every_spelling_finds, expressions_are_tidy,
+    a_text_has_one_reading, comments_are_blanks, expressions_are_tidy, expressions_or_one_fault,
     names_agree, texts_have_what_they_spell, words_are_in_order, words_are_maximal_runs,
     words_cover_the_text,
 };
+pub use lists::Lists;
 pub use memory::{FromMemory, ToMemory};
 pub use name::Name;
 pub use refusal::Memory;
@@ -34,86 +34,3 @@ pub use sexp::Sexp;
 pub use sexps::read_sexps;
 pub use span::{Span, place};
 pub use words::{Found, Word, next_word, read_words};
-
-#[cfg(test)]
-mod tests {
-    use super::*;
-    use indexmap::IndexMap;
-    use std::test::Fail;
-
-    #[test]
-    fn reads_words(rt: HostRuntime) -> Result<(), Fail> {
-        let words = read_words(rt.alloc(), b"(define ; (x\n  (Domain f))")?;
-        assert_eq!(rt; words.len(), 7);
-        Ok(())
-    }
-
-    #[test]
-    fn reads_expressions(rt: HostRuntime) -> Result<(), Fail> {
-        let es = read_sexps(rt.alloc(), b"a (b ()) ; c\n d")?;
-        assert_eq!(rt; es.len(), 3);
-        Ok(())
-    }
-
-    #[test]
-    fn finds_the_first_fault(rt: HostRuntime) {
-        let kind = |text: &[u8]| read_sexps(rt.alloc(), text)
-            .err()
-            .map(|f| (f.kind, f.span.start));
-        assert_eq!(rt; kind(b"(a"), Some((TextKind::Unclosed, 0)));
-        assert_eq!(rt; kind(b"(a (b) (c"), Some((TextKind::Unclosed, 7)));
-        assert_eq!(rt; kind(b"(a) )"), Some((TextKind::Unopened, 4)));
-        assert_eq!(rt; kind(b"((a)\x01"), Some((TextKind::BadByte, 4)));
-        assert_eq!(rt; kind(b";\x01\n"), None);
-        let deep = [b'('; 257];
-        assert_eq!(rt; kind(&deep), Some((TextKind::TooDeep, 256)));
-        assert_eq!(rt; kind(&deep[..256]), Some((TextKind::Unclosed, 255)));
-    }
-
-    #[test]
-    fn places(rt: HostRuntime) {
-        assert_eq!(rt; place(b"ab\ncd", Span { start: 4, past: 5 }), (2, 2));
-    }
-
-    #[test]
-    fn finds_a_name_by_another_spelling(rt: HostRuntime) -> Result<(), Fail> {
-        let mut numbers: IndexMap<Name<'_>, u32> = IndexMap::new(rt.alloc());
-        if let Some(name) = Name::new(b"Truck-1") {
-            numbers.insert(name, 7)?;
-        }
-        let number = Name::new(b"tRUCK-1").and_then(|name| numbers.get(&name).copied());
-        assert_eq!(rt; number, Some(7));
-        Ok(())
-    }
-
-    #[test]
-    fn reads_all_or_tells_why_not(rt: HostRuntime) {
-        let read = |reads_before: Option<usize>, limit: usize| {
-            let mut reader = FalteringReader::new(b"abc", reads_before);
-            read_all(rt.alloc(), &mut reader, limit).map(|bytes| bytes.len())
-        };
-        assert_eq!(rt; read(None, 3), Ok(3));
-        assert_eq!(rt; read(None, 2), Err(ReadFault::TooLong));
-        assert_eq!(rt; read(Some(0), 3), Err(ReadFault::Device));
-        assert_eq!(rt; read(Some(3), 3), Err(ReadFault::Device));
-    }
-
-    #[test]
-    fn writes_a_beginning_where_a_write_falters(rt: HostRuntime) {
-        let mut broken = FalteringWriter::new(rt.alloc(), Some(2), Falter::Fails);
-        assert_eq!(rt; write_all(&mut broken, b"abc"), Err(WriteFault::Device));
-        assert!(rt; broken.written() == b"ab".as_slice());
-        let mut full = FalteringWriter::new(rt.alloc(), Some(1), Falter::TakesNothing);
-        assert_eq!(rt; write_all(&mut full, b"abc"), Err(WriteFault::Device));
-        assert!(rt; full.written() == b"a".as_slice());
-    }
-
-    #[test]
-    fn copies_memory(rt: HostRuntime) -> Result<(), Fail> {
-        let bytes = read_all(rt.alloc(), &mut FromMemory::new(b"abc"), 3)?;
-        let mut out = ToMemory::new(rt.alloc());
-        write_all(&mut out, &bytes)?;
-        assert!(rt; out.written() == b"abc".as_slice());
-        Ok(())
-    }
-}

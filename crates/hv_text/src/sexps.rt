@@ -3,7 +3,7 @@
 ghost use Rattle.std.specs.Prelude.{◌≡◌, ◌<◌, ◌≤◌, ◌+◌, ◌-◌, ◌++◌, ℕ, [], ◌∷◌, length, IfOk, IfErr, OnErr, MatchResult, vec_len};
 ghost use Rattle.hv_text.specs.Trees.{tree, trees, list};
 ghost use Rattle.hv_text.specs.Sexps.{AreExpressions, IsTextFault};
-ghost use Rattle.hv_text.specs.Scan.{IsScanned, IsScanFault};
+ghost use Rattle.hv_text.specs.inside.Scan.{IsScanned, IsScanFault};
 
 use crate::fault::{MOST_BYTES, MOST_OPEN, TextFault, TextKind};
 use crate::sexp::{Open, Sexp};

@@ -11,7 +11,7 @@ use crate::span::Span;
 use std::alloc::Global;
 
 /// What a byte outside comments is.
-#[derive(Clone, Copy, Debug, PartialEq, Eq)]
+#[derive(Clone, Copy)]
 pub enum Class {
     Blank,
     Semicolon,

@@ -1,6 +1,6 @@
 use Rattle.std.proofs.Common.{◌≡◌, ◌≤◌, ◌-◌, [], length, vec_len}
 use Rattle.hv_text.specs.Words.{pieces, pieces_at}
-use Rattle.hv_text.specs.Scan.{fault_from, open_from}
+use Rattle.hv_text.specs.inside.Scan.{fault_from, open_from}
 use Rattle.hv_text.specs.declared.fault.TheConstants.{MOST_OPEN}
 use Rattle.hv_text.proofs.cursor.balance.Given as goal
 

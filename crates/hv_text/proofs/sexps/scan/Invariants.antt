@@ -1,6 +1,6 @@
 use Rattle.std.proofs.Common.{◌≡◌, ◌≤◌, ◌-◌, ◌++◌, [], length, vec_len}
 use Rattle.hv_text.specs.Words.{pieces, pieces_at}
-use Rattle.hv_text.specs.Scan.{spellings, spelling_of_open, places_of_open, fault_from, open_from}
+use Rattle.hv_text.specs.inside.Scan.{spellings, spelling_of_open, places_of_open, fault_from, open_from}
 use Rattle.hv_text.specs.declared.fault.TheConstants.{MOST_OPEN}
 use Rattle.hv_text.proofs.sexps.scan.Given as goal
 

@@ -1,4 +1,4 @@
--- What the loop of `scan` has read so far: the same faults, with a count and a stack.
+-- How the code reads expressions: the same faults, with a count and a stack.
 use Rattle.std.specs.Prelude.{◌≡◌, ◌==◌, ◌+◌, ◌-◌, ◌++◌, ◌<◌, ◌≤◌, ℕ, List, [], ◌∷◌, length, take, Option, None, Some, map, if◌then◌else◌}
 use Rattle.std.specs.List.{flat_map}
 use Rattle.hv_text.specs.Trees.{tree}
@@ -45,6 +45,12 @@ pub record IsScanned (text : List ℕ) (es : List Sexp) : Type 0 where
   pub sound : fault_from 0 (pieces text) ≡ None
   pub closed : open_from [] (pieces text) ≡ []
   pub spelled : spellings es ≡ pieces text
+
+-- what a check with a stack of parentheses finds: no fault, and none open at the end
+pub record IsBalanced (text : List ℕ) : Type 0 where
+  pub size : length text ≤ MOST_BYTES
+  pub sound : fault_from 0 (pieces text) ≡ None
+  pub closed : open_from [] (pieces text) ≡ []
 
 -- the fault that the loop finds
 abbrev pub IsScanFault : List ℕ → TextKind → Span → Type 0
