@@ -9,11 +9,14 @@ use Rattle.hv_syntax.specs.declared.word.Sort.TheVariants as sorts
 use Rattle.hv_syntax.specs.declared.word.Head.{Head}
 use Rattle.hv_syntax.specs.declared.word.Head.TheVariants as heads
 use Rattle.hv_syntax.specs.Values.{WordAt, word_at, Term, atom_with, TypeOf, no_type, of_type, type_name, Typed}
-use Rattle.hv_syntax.specs.Words.{is, sort_of, is_sort, same_sort, head_of, symbol_by, symbol_of, sorted_word_of}
-use Rattle.hv_syntax.specs.Reading.{both, every, behind}
-use Rattle.hv_syntax.specs.Terms.{term_by, term_of, atom_of}
-use Rattle.hv_syntax.specs.TypedLists.{with_type, is_empty, typed_by, typed_list_of}
-use Rattle.hv_syntax.specs.Lists.{conjuncts, single, listed_by, listed}
+use Rattle.hv_syntax.specs.Words.{is, sort_of, is_sort, same_sort, head_of}
+use Rattle.hv_syntax.specs.inside.Words.{symbol_by, symbol_of, sorted_word_of}
+use Rattle.hv_syntax.specs.inside.Reading.{both, every, behind}
+use Rattle.hv_syntax.specs.inside.Terms.{term_by, term_of, atom_of}
+use Rattle.hv_syntax.specs.TypedLists.{with_type}
+use Rattle.hv_syntax.specs.inside.TypedLists.{is_empty, typed_by, typed_list_of}
+use Rattle.hv_syntax.specs.Lists.{conjuncts}
+use Rattle.hv_syntax.specs.inside.Lists.{single, listed_by, listed}
 use Rattle.hv_syntax.specs.Canonical.{each, conjunction, word_expression, term_expression, atom_expression, typed_members}
 use Rattle.hv_syntax.specs.Bare.{bare_word, bare_term, bare_atom, bare_typed}
 

@@ -7,14 +7,16 @@ use Rattle.hv_text.specs.declared.span.Span.{Span}
 use Rattle.hv_syntax.specs.declared.word.Sort.TheVariants as sorts
 use Rattle.hv_syntax.specs.declared.field.Slot.TheVariants as slots
 use Rattle.hv_syntax.specs.Values.{WordAt, Atom, Typed, Formula, Effect, Subtask, Pair, Constraint, Network, network, Predicate, predicate, Task, task, Method, method, Action, action, Htn, htn}
-use Rattle.hv_syntax.specs.Words.{symbol_of}
-use Rattle.hv_syntax.specs.Reading.{both, tuple}
-use Rattle.hv_syntax.specs.Terms.{atom_of}
-use Rattle.hv_syntax.specs.TypedLists.{typed_list_of}
+use Rattle.hv_syntax.specs.inside.Words.{symbol_of}
+use Rattle.hv_syntax.specs.inside.Reading.{both, tuple}
+use Rattle.hv_syntax.specs.inside.Terms.{atom_of}
+use Rattle.hv_syntax.specs.inside.TypedLists.{typed_list_of}
 use Rattle.hv_syntax.specs.Fields.{field, is_field_list}
-use Rattle.hv_syntax.specs.Networks.{network_of}
-use Rattle.hv_syntax.specs.Declarations.{predicate_of, parameters_at, precondition_at, effect_at, task_at, is_nothing, task_named, task_of, method_slots, method_named, method_of, action_named, action_of}
-use Rattle.hv_syntax.specs.Problems.{htn_slots, htn_of}
+use Rattle.hv_syntax.specs.inside.Networks.{network_of}
+use Rattle.hv_syntax.specs.Declarations.{is_nothing, method_slots}
+use Rattle.hv_syntax.specs.inside.Declarations.{predicate_of, parameters_at, precondition_at, effect_at, task_at, task_named, task_of, method_named, method_of, action_named, action_of}
+use Rattle.hv_syntax.specs.Problems.{htn_slots}
+use Rattle.hv_syntax.specs.inside.Problems.{htn_of}
 use Rattle.hv_syntax.specs.Canonical.{word_expression, atom_expression, typed_members, formula_expression, effect_expression, with_field, network_fields}
 use Rattle.hv_syntax.specs.CanonicalSections.{with_parameters, with_precondition, predicate_expression}
 use Rattle.hv_syntax.specs.Bare.{bare_word, bare_atom, bare_typed, bare_formula, bare_effect, bare_network, bare_predicate, bare_task, bare_method, bare_action, bare_htn}

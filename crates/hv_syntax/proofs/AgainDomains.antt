@@ -7,13 +7,16 @@ use Rattle.hv_text.specs.Words.{nowhere}
 use Rattle.hv_text.specs.declared.span.Span.{Span}
 use Rattle.hv_syntax.specs.declared.word.Sort.TheVariants as sorts
 use Rattle.hv_syntax.specs.Values.{WordAt, Typed, Predicate, Task, Method, Action, Domain}
-use Rattle.hv_syntax.specs.Words.{is, sorted_word_of}
-use Rattle.hv_syntax.specs.Reading.{every}
-use Rattle.hv_syntax.specs.TypedLists.{typed_list_of}
-use Rattle.hv_syntax.specs.Declarations.{predicate_of, task_of, method_of, action_of}
+use Rattle.hv_syntax.specs.Words.{is}
+use Rattle.hv_syntax.specs.inside.Words.{sorted_word_of}
+use Rattle.hv_syntax.specs.inside.Reading.{every}
+use Rattle.hv_syntax.specs.inside.TypedLists.{typed_list_of}
+use Rattle.hv_syntax.specs.inside.Declarations.{predicate_of, task_of, method_of, action_of}
 use Rattle.hv_syntax.specs.Unsupported.{has_unsupported}
-use Rattle.hv_syntax.specs.Sections.{keyword_of, occurs, sections_of, defined_with}
-use Rattle.hv_syntax.specs.Domains.{DomainSection, has_requirements, has_types, has_constants, has_predicates, has_task, has_method, has_action, domain_standing, domain_section_by, domain_section, no_domain, add_section, domain_from, domain_in, domain_of}
+use Rattle.hv_syntax.specs.Sections.{occurs}
+use Rattle.hv_syntax.specs.inside.Sections.{keyword_of, sections_of, defined_with}
+use Rattle.hv_syntax.specs.Domains.{DomainSection, has_requirements, has_types, has_constants, has_predicates, has_task, has_method, has_action, domain_standing, no_domain, add_section}
+use Rattle.hv_syntax.specs.inside.Domains.{domain_section_by, domain_section, domain_from, domain_in, domain_of}
 use Rattle.hv_syntax.specs.Canonical.{form, each, word_expression, typed_members}
 use Rattle.hv_syntax.specs.CanonicalSections.{predicate_expression, task_section, method_section, action_section, unless_empty, section_of_each, domain_sections, domain_expression}
 use Rattle.hv_syntax.specs.Bare.{bare_word, bare_typed, bare_predicate, bare_task, bare_method, bare_action, bare_domain}

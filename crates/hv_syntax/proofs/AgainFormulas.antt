@@ -9,12 +9,13 @@ use Rattle.hv_syntax.specs.declared.word.Head.{Head}
 use Rattle.hv_syntax.specs.declared.word.Head.TheVariants as heads
 use Rattle.hv_syntax.specs.Values.{word_at, Term, constant, variable, Atom, atom_with, Typed, Formula, formulas_of, holds, and, or, not, imply, forall, exists, equal, Literal, literal, Effect, effect}
 use Rattle.hv_syntax.specs.Words.{head_of}
-use Rattle.hv_syntax.specs.Reading.{every, all_some, tuple}
-use Rattle.hv_syntax.specs.Terms.{term_of, atom_of}
-use Rattle.hv_syntax.specs.TypedLists.{typed_list_of}
-use Rattle.hv_syntax.specs.Lists.{negated, listed}
-use Rattle.hv_syntax.specs.Formulas.{few, variables_of, and_all, or_all, negation, implication, quantified, equality, formula_by, formula_of, formula_among, each_formula}
-use Rattle.hv_syntax.specs.Literals.{literal_by, literal_of, effect_of, is_constant, are_constants, if_ground, ground_literal_of}
+use Rattle.hv_syntax.specs.inside.Reading.{every, all_some, tuple}
+use Rattle.hv_syntax.specs.inside.Terms.{term_of, atom_of}
+use Rattle.hv_syntax.specs.inside.TypedLists.{typed_list_of}
+use Rattle.hv_syntax.specs.inside.Lists.{negated, listed}
+use Rattle.hv_syntax.specs.inside.Formulas.{few, variables_of, and_all, or_all, negation, implication, quantified, equality, formula_by, formula_of, formula_among, each_formula}
+use Rattle.hv_syntax.specs.Literals.{is_constant, are_constants}
+use Rattle.hv_syntax.specs.inside.Literals.{literal_by, literal_of, effect_of, if_ground, ground_literal_of}
 use Rattle.hv_syntax.specs.Canonical.{the_list, each, conjunction, term_expression, atom_expression, typed_members, formula_expression, formula_expressions, literal_expression, effect_expression}
 use Rattle.hv_syntax.specs.Bare.{bare_term, bare_atom, bare_typed, bare_formula, bare_formulas, bare_literal, bare_effect}
 use Rattle.hv_syntax.proofs.Again.{if_map, if_both, IsReadAgain, AreReadAgain, term_again, terms_again, atom_again, listed_again, AreTypedAgain, typed_list_again}

@@ -4,12 +4,13 @@ use Rattle.std.specs.Prelude.{IfSome}
 use Rattle.hv_text.specs.Trees.{Tree, word, list, Trees, none, more}
 use Rattle.hv_syntax.specs.declared.field.Slot.TheVariants as slots
 use Rattle.hv_syntax.specs.Values.{WordAt, Term, constant, variable, Atom, Subtask, subtask, Pair, pair, Constraint, constraint, Network, network}
-use Rattle.hv_syntax.specs.Words.{is_the_word, symbol_of}
-use Rattle.hv_syntax.specs.Reading.{both, two, tuple}
-use Rattle.hv_syntax.specs.Terms.{term_of, atom_of}
-use Rattle.hv_syntax.specs.Lists.{negated, listed}
+use Rattle.hv_syntax.specs.Words.{is_the_word}
+use Rattle.hv_syntax.specs.inside.Words.{symbol_of}
+use Rattle.hv_syntax.specs.inside.Reading.{both, two, tuple}
+use Rattle.hv_syntax.specs.inside.Terms.{term_of, atom_of}
+use Rattle.hv_syntax.specs.inside.Lists.{negated, listed}
 use Rattle.hv_syntax.specs.Fields.{field}
-use Rattle.hv_syntax.specs.Networks.{labelled, with_label, subtask_by, subtask_of, pair_by, pair_of, equation_by, equation_of, constraint_by, constraint_of, listed_at, subtasks_by, network_with, network_of}
+use Rattle.hv_syntax.specs.inside.Networks.{labelled, with_label, subtask_by, subtask_of, pair_by, pair_of, equation_by, equation_of, constraint_by, constraint_of, listed_at, subtasks_by, network_with, network_of}
 use Rattle.hv_syntax.specs.Canonical.{each, conjunction, word_expression, term_expression, atom_expression, subtask_expression, pair_expression, constraint_expression, network_fields}
 use Rattle.hv_syntax.specs.Bare.{bare_word, bare_term, bare_atom, bare_subtask, bare_pair, bare_constraint, bare_network}
 use Rattle.hv_syntax.proofs.Again.{if_map, if_both, IsReadAgain, symbol_again, term_again, atom_again, listed_again}

@@ -7,14 +7,17 @@ use Rattle.hv_text.specs.declared.span.Span.{Span}
 use Rattle.hv_syntax.specs.declared.word.Sort.TheVariants as sorts
 use Rattle.hv_syntax.specs.declared.fault.SyntaxKind.{SyntaxKind}
 use Rattle.hv_syntax.specs.Values.{WordAt, Typed, Formula, Literal, Htn, Problem}
-use Rattle.hv_syntax.specs.Words.{is, sorted_word_of}
-use Rattle.hv_syntax.specs.Reading.{every, only}
-use Rattle.hv_syntax.specs.TypedLists.{typed_list_of}
-use Rattle.hv_syntax.specs.Formulas.{formula_of}
-use Rattle.hv_syntax.specs.Literals.{ground_literal_of}
+use Rattle.hv_syntax.specs.Words.{is}
+use Rattle.hv_syntax.specs.inside.Words.{sorted_word_of}
+use Rattle.hv_syntax.specs.inside.Reading.{every, only}
+use Rattle.hv_syntax.specs.inside.TypedLists.{typed_list_of}
+use Rattle.hv_syntax.specs.inside.Formulas.{formula_of}
+use Rattle.hv_syntax.specs.inside.Literals.{ground_literal_of}
 use Rattle.hv_syntax.specs.Unsupported.{has_unsupported}
-use Rattle.hv_syntax.specs.Sections.{one_name, keyword_of, occurs, sections_of, defined_with, ◌>>=◌}
-use Rattle.hv_syntax.specs.Problems.{ProblemSection, is_for, has_requirements, has_objects, has_htn, has_init, has_goal, htn_of, goal_of, problem_standing, problem_section_by, problem_section, Parts, no_parts, add_part, parts_from, whole_by, whole, problem_in, problem_of}
+use Rattle.hv_syntax.specs.Sections.{occurs}
+use Rattle.hv_syntax.specs.inside.Sections.{one_name, keyword_of, sections_of, defined_with, ◌>>=◌}
+use Rattle.hv_syntax.specs.Problems.{ProblemSection, is_for, has_requirements, has_objects, has_htn, has_init, has_goal, problem_standing, Parts, no_parts, add_part}
+use Rattle.hv_syntax.specs.inside.Problems.{htn_of, goal_of, problem_section_by, problem_section, parts_from, whole_by, whole, problem_in, problem_of}
 use Rattle.hv_syntax.specs.Canonical.{form, each, word_expression, typed_members, formula_expression, literal_expression}
 use Rattle.hv_syntax.specs.CanonicalSections.{unless_empty, htn_section, goal_section, problem_sections, problem_expression}
 use Rattle.hv_syntax.specs.Bare.{bare_word, bare_typed, bare_formula, bare_literal, bare_htn, bare_problem}

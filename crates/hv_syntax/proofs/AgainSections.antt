@@ -10,10 +10,12 @@ use Rattle.hv_syntax.specs.declared.fault.SyntaxKind.{SyntaxKind}
 use Rattle.hv_syntax.specs.declared.fault.SyntaxKind.TheVariants as kinds
 use Rattle.hv_syntax.specs.declared.section.Standing.{Standing}
 use Rattle.hv_syntax.specs.Values.{WordAt}
-use Rattle.hv_syntax.specs.Words.{is, is_the_word, sorted_word_of}
-use Rattle.hv_syntax.specs.Reading.{only}
+use Rattle.hv_syntax.specs.Words.{is, is_the_word}
+use Rattle.hv_syntax.specs.inside.Words.{sorted_word_of}
+use Rattle.hv_syntax.specs.inside.Reading.{only}
 use Rattle.hv_syntax.specs.Unsupported.{has_unsupported}
-use Rattle.hv_syntax.specs.Sections.{headed, is_headed_by, occurs, refused, one_name, title_of, defined_with, define_form, sections_of, judged, section_by, at_place, section_of, ◌>>=◌, sections_from}
+use Rattle.hv_syntax.specs.Sections.{headed, is_headed_by, occurs}
+use Rattle.hv_syntax.specs.inside.Sections.{refused, one_name, title_of, defined_with, define_form, sections_of, judged, section_by, at_place, section_of, ◌>>=◌, sections_from}
 use Rattle.hv_syntax.specs.Canonical.{word_expression}
 use Rattle.hv_syntax.specs.CanonicalSections.{unless_empty}
 use Rattle.hv_syntax.specs.Bare.{bare_word}

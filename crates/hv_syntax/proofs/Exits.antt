@@ -2,7 +2,7 @@
 use Rattle.std.proofs.Common.{◌≡◌, Option, None, Result, Err, subst, sym}
 use Rattle.hv_syntax.specs.declared.refusal.Refusal.{Refusal}
 use Rattle.hv_syntax.specs.declared.refusal.Refusal.TheVariants as refusals
-use Rattle.hv_syntax.specs.Reading.{Gives, Fails}
+use Rattle.hv_syntax.specs.inside.Reading.{Gives, Fails}
 
 pub passed_on : {A Y : Type 0} (e : Refusal) (part : Option A) (whole : Option Y) → (part ≡ None → whole ≡ None) → Fails e part → Fails e whole
 passed_on refusals.Memory part whole f h = tt

@@ -9,9 +9,12 @@ use Rattle.hv_syntax.specs.declared.fault.SyntaxKind.{SyntaxKind}
 use Rattle.hv_syntax.specs.declared.fault.SyntaxKind.TheVariants as kinds
 use Rattle.hv_syntax.specs.Values.{WordAt, Literal, Htn, Domain, Problem}
 use Rattle.hv_syntax.specs.Unsupported.{has_unsupported}
-use Rattle.hv_syntax.specs.Sections.{headed, occurs, refused, judged, at_place, section_by, section_of, sections_from, sections_of, ◌>>=◌}
-use Rattle.hv_syntax.specs.Domains.{domain_standing, domain_section_by, no_domain, add_section, domain_in, domain_of}
-use Rattle.hv_syntax.specs.Problems.{problem_standing, problem_section_by, Parts, no_parts, add_part, parts_from, whole_by, whole, problem_in, problem_of}
+use Rattle.hv_syntax.specs.Sections.{headed, occurs}
+use Rattle.hv_syntax.specs.inside.Sections.{refused, judged, at_place, section_by, section_of, sections_from, sections_of, ◌>>=◌}
+use Rattle.hv_syntax.specs.Domains.{domain_standing, no_domain, add_section}
+use Rattle.hv_syntax.specs.inside.Domains.{domain_section_by, domain_in, domain_of}
+use Rattle.hv_syntax.specs.Problems.{problem_standing, Parts, no_parts, add_part}
+use Rattle.hv_syntax.specs.inside.Problems.{problem_section_by, parts_from, whole_by, whole, problem_in, problem_of}
 use Rattle.hv_syntax.specs.Tables.{SpellsDomainSection, SpellsProblemSection, MayStand, for_the_first_time, as_often_as_wanted, SpellsSection, SpellSections, SpellsDefine, IsDomain, IsProblem}
 use Rattle.hv_syntax.specs.FirstFaults.{IsSectionFault, no_head, unknown_head, unsupported_head, a_second_time, unsupported_inside, no_spelling, IsFirstFault, it_is_here, it_comes_later, IsFaultyDomain, no_definition, faulty_section, Lacks, domain_lacks, htn_lacks, init_lacks, IsFaultyProblem, no_definition_of_it, a_faulty_section, a_missing_section}
 use Rattle.hv_syntax.proofs.TextSpellings.{stands, section_read, section_is, sections_read, sections_are, define_read, domain_section_read, domain_section_spelled, problem_section_read, problem_section_spelled, Defines, define_spelled, domain_if, domain_table, problem_if, problem_table}

@@ -8,9 +8,9 @@ use Rattle.hv_syntax.specs.declared.term.TermText.{TermText}
 use Rattle.hv_syntax.specs.declared.typed.TypedText.{TypedText}
 use Rattle.hv_syntax.specs.declared.word.Head.{Head}
 use Rattle.hv_syntax.specs.declared.word.Head.TheVariants as heads
-use Rattle.hv_syntax.specs.Reading.{both, every, all_some}
+use Rattle.hv_syntax.specs.inside.Reading.{both, every, all_some}
 use Rattle.hv_syntax.specs.Values.{WordAt, not, imply, forall, exists, equal}
-use Rattle.hv_syntax.specs.Formulas.{formula_of, each_formula, and_all, or_all, formula_by, negation, implication, quantified, variables_of}
+use Rattle.hv_syntax.specs.inside.Formulas.{formula_of, each_formula, and_all, or_all, formula_by, negation, implication, quantified, variables_of}
 use Rattle.hv_syntax.specs.Views.{formula_view, typed_view, term_view}
 
 pub each_is : (ts : Trees) → all_some (each_formula ts) ≡ every formula_of ts

@@ -30,3 +30,4 @@ pub mod FittingTexts
 pub mod ReadBack
 pub mod ReadBackProblems
 pub mod StreamLemmas
+pub mod TextFaults

@@ -6,7 +6,7 @@ use Rattle.hv_text.specs.Trees.{Tree, word, none, more, tree, trees}
 use Rattle.hv_text.specs.declared.name.Name.{Name}
 use Rattle.hv_text.specs.declared.span.Span.{Span}
 use Rattle.hv_text.specs.declared.sexp.Sexp.{Sexp, Word, the_lemmas}
-use Rattle.hv_syntax.specs.Reading.{both, every, behind}
+use Rattle.hv_syntax.specs.inside.Reading.{both, every, behind}
 
 -- what a word of the code is
 pub tree-Word : (n : Name) (s : Span) → tree (Word n s) ≡ word (text_of n) s

@@ -5,13 +5,16 @@ use Rattle.hv_text.specs.Trees.{Tree, word, list, Trees, none, more}
 use Rattle.hv_text.specs.declared.span.Span.{Span}
 use Rattle.hv_syntax.specs.declared.word.Head.{Head}
 use Rattle.hv_syntax.specs.declared.word.Head.TheVariants as heads
-use Rattle.hv_syntax.specs.Words.{is, head_of, is_the_word, symbol_of}
-use Rattle.hv_syntax.specs.Reading.{both, every, tuple}
+use Rattle.hv_syntax.specs.Words.{is, head_of, is_the_word}
+use Rattle.hv_syntax.specs.inside.Words.{symbol_of}
+use Rattle.hv_syntax.specs.inside.Reading.{both, every, tuple}
 use Rattle.hv_syntax.specs.Values.{WordAt, word_at, Term, Atom, atom_with, Literal, literal, Effect, effect, Subtask, subtask, Pair, pair, Constraint, constraint}
-use Rattle.hv_syntax.specs.Terms.{term_of, atom_of}
-use Rattle.hv_syntax.specs.Lists.{conjuncts, behind_and, behind_not, single, listed, listed_by}
-use Rattle.hv_syntax.specs.Literals.{literal_by, literal_of, effect_of, are_constants, if_ground, ground_literal_of}
-use Rattle.hv_syntax.specs.Networks.{labelled, subtask_by, with_label, subtask_of, pair_of, equation_of, constraint_by, constraint_of}
+use Rattle.hv_syntax.specs.inside.Terms.{term_of, atom_of}
+use Rattle.hv_syntax.specs.Lists.{conjuncts, behind_and}
+use Rattle.hv_syntax.specs.inside.Lists.{behind_not, single, listed, listed_by}
+use Rattle.hv_syntax.specs.Literals.{are_constants}
+use Rattle.hv_syntax.specs.inside.Literals.{literal_by, literal_of, effect_of, if_ground, ground_literal_of}
+use Rattle.hv_syntax.specs.inside.Networks.{labelled, subtask_by, with_label, subtask_of, pair_of, equation_of, constraint_by, constraint_of}
 use Rattle.hv_syntax.specs.Spellings.{SpellsSymbol, a_symbol, SpellsTerm, a_name, a_variable, SpellEach, no_more, one_more, SpellsList, none_of_them, one_of_them, all_of_them, SpellsAtom, an_atom, SpellsLiteral, a_positive, a_negative, SpellsGround, a_ground, SpellsEffect, an_effect, SpellsSubtask, a_task_alone, a_labelled_task, SpellsPair, a_pair_behind, a_pair_between, SpellsEquation, an_equation, SpellsConstraint, they_are_equal, they_differ}
 use Rattle.hv_syntax.proofs.SpellingLemmas.{same_word, if_map, if_both, if_then, if_weaker, agree, symbol_read, symbol_spelled, term_read, term_spelled, each_read, each_spelled, atom_read, atom_spelled}
 

@@ -14,15 +14,19 @@ use Rattle.hv_syntax.specs.declared.field.Slot.{Slot}
 use Rattle.hv_syntax.specs.declared.field.Slot.TheVariants as slots
 use Rattle.hv_syntax.specs.Values as v
 use Rattle.hv_syntax.specs.Values.{WordAt, word_at, Term, constant, variable, Atom, atom_with, TypeOf, no_type, of_type, type_name, Typed, typed, Formula, formulas_of, holds, and, or, imply, forall, exists, equal, Literal, literal, Effect, effect, Subtask, subtask, Pair, pair, Constraint, constraint, Network, network}
-use Rattle.hv_syntax.specs.Words.{is, sort_of, is_sort, head_of, is_the_word, sorted_word_of, symbol_by, symbol_of}
-use Rattle.hv_syntax.specs.Reading.{both, every, all_some, behind, only, tuple, two}
-use Rattle.hv_syntax.specs.Terms.{term_by, term_of, atom_of}
-use Rattle.hv_syntax.specs.TypedLists.{with_type, is_empty, typed_by, typed_list_of}
-use Rattle.hv_syntax.specs.Lists.{behind_and, conjuncts, behind_not, negated, single, listed_by, listed}
-use Rattle.hv_syntax.specs.Formulas.{few, variables_of, and_all, or_all, negation, implication, quantified, equality, formula_by, formula_of, formula_among, each_formula}
-use Rattle.hv_syntax.specs.Literals.{literal_by, literal_of, effect_of, is_constant, are_constants, if_ground, ground_literal_of}
+use Rattle.hv_syntax.specs.Words.{is, sort_of, is_sort, head_of, is_the_word}
+use Rattle.hv_syntax.specs.inside.Words.{sorted_word_of, symbol_by, symbol_of}
+use Rattle.hv_syntax.specs.inside.Reading.{both, every, all_some, behind, only, tuple, two}
+use Rattle.hv_syntax.specs.inside.Terms.{term_by, term_of, atom_of}
+use Rattle.hv_syntax.specs.TypedLists.{with_type}
+use Rattle.hv_syntax.specs.inside.TypedLists.{is_empty, typed_by, typed_list_of}
+use Rattle.hv_syntax.specs.Lists.{behind_and, conjuncts}
+use Rattle.hv_syntax.specs.inside.Lists.{behind_not, negated, single, listed_by, listed}
+use Rattle.hv_syntax.specs.inside.Formulas.{few, variables_of, and_all, or_all, negation, implication, quantified, equality, formula_by, formula_of, formula_among, each_formula}
+use Rattle.hv_syntax.specs.Literals.{is_constant, are_constants}
+use Rattle.hv_syntax.specs.inside.Literals.{literal_by, literal_of, effect_of, if_ground, ground_literal_of}
 use Rattle.hv_syntax.specs.Fields.{slot_of, same_slot, is_in, field, is_field_list}
-use Rattle.hv_syntax.specs.Networks.{with_list, labelled, with_label, subtask_by, subtask_of, pair_by, pair_of, equation_by, equation_of, constraint_by, constraint_of, listed_at, subtasks_by, network_with, network_of}
+use Rattle.hv_syntax.specs.inside.Networks.{with_list, labelled, with_label, subtask_by, subtask_of, pair_by, pair_of, equation_by, equation_of, constraint_by, constraint_of, listed_at, subtasks_by, network_with, network_of}
 use Rattle.hv_syntax.specs.Bare.{bare_word, bare_term, bare_atom, bare_typed, bare_formula, bare_formulas, bare_literal, bare_effect, bare_subtask, bare_pair, bare_constraint, bare_network}
 use Rattle.hv_text.specs.Shapes.{bare_tree, bare_trees}
 

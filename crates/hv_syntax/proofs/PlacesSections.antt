@@ -11,18 +11,23 @@ use Rattle.hv_syntax.specs.declared.field.Slot.TheVariants as slots
 use Rattle.hv_syntax.specs.declared.fault.SyntaxKind.{SyntaxKind}
 use Rattle.hv_syntax.specs.declared.section.Standing.{Standing}
 use Rattle.hv_syntax.specs.Values.{WordAt, Term, constant, variable, Atom, Typed, Formula, Formulas, holds, and, or, not, imply, forall, exists, equal, no_formulas, more_formulas, Literal, Effect, Network, predicate, task, method, action, Domain, htn}
-use Rattle.hv_syntax.specs.Words.{is, is_the_word, sorted_word_of, symbol_of}
-use Rattle.hv_syntax.specs.Reading.{both, every, only, tuple}
-use Rattle.hv_syntax.specs.TypedLists.{typed_list_of}
+use Rattle.hv_syntax.specs.Words.{is, is_the_word}
+use Rattle.hv_syntax.specs.inside.Words.{sorted_word_of, symbol_of}
+use Rattle.hv_syntax.specs.inside.Reading.{both, every, only, tuple}
+use Rattle.hv_syntax.specs.inside.TypedLists.{typed_list_of}
 use Rattle.hv_syntax.specs.Lists.{conjuncts}
 use Rattle.hv_syntax.specs.Fields.{field, is_field_list}
-use Rattle.hv_syntax.specs.Networks.{network_of}
+use Rattle.hv_syntax.specs.inside.Networks.{network_of}
 use Rattle.hv_syntax.specs.Unsupported.{has_unsupported}
-use Rattle.hv_syntax.specs.Declarations.{predicate_of, parameters_at, precondition_at, effect_at, task_at, are_none, no_conjuncts, is_nothing, task_named, task_of, method_slots, method_named, method_of, action_named, action_of}
-use Rattle.hv_syntax.specs.Sections.{is_headed_by, occurs, refused, one_name, keyword_of, title_of, defined_with, define_form, judged, at_place, section_of, ◌>>=◌, sections_from}
+use Rattle.hv_syntax.specs.Declarations.{are_none, no_conjuncts, is_nothing, method_slots}
+use Rattle.hv_syntax.specs.inside.Declarations.{predicate_of, parameters_at, precondition_at, effect_at, task_at, task_named, task_of, method_named, method_of, action_named, action_of}
+use Rattle.hv_syntax.specs.Sections.{is_headed_by, occurs}
+use Rattle.hv_syntax.specs.inside.Sections.{refused, one_name, keyword_of, title_of, defined_with, define_form, judged, at_place, section_of, ◌>>=◌, sections_from}
 use Rattle.hv_syntax.specs.Domains as d
-use Rattle.hv_syntax.specs.Domains.{DomainSection, has_types, has_constants, has_predicates, has_task, has_method, has_action, domain_standing, domain_section_by, domain_section, no_domain, add_section, domain_in, domain_of}
-use Rattle.hv_syntax.specs.Problems.{htn_slots, htn_of}
+use Rattle.hv_syntax.specs.Domains.{DomainSection, has_types, has_constants, has_predicates, has_task, has_method, has_action, domain_standing, no_domain, add_section}
+use Rattle.hv_syntax.specs.inside.Domains.{domain_section_by, domain_section, domain_in, domain_of}
+use Rattle.hv_syntax.specs.Problems.{htn_slots}
+use Rattle.hv_syntax.specs.inside.Problems.{htn_of}
 use Rattle.hv_syntax.specs.Bare.{bare_word, bare_term, bare_atom, bare_typed, bare_formula, bare_formulas, bare_literal, bare_effect, bare_network, bare_predicate, bare_task, bare_method, bare_action, bare_domain, bare_htn}
 use Rattle.hv_text.specs.Shapes.{bare_tree, bare_trees}
 use Rattle.hv_syntax.proofs.Places.{Same, same_map, same_both, same_if, same_then, every_same, sorted_same, symbol_same, word_is_same, atom_same, typed_list_same, only_bare, conjuncts_same, formula_same, effect_same, field_same, field_list_same, network_same}

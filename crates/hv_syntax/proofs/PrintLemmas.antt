@@ -4,7 +4,7 @@ use Rattle.std.proofs.lemmas.List.{append-nil, append_assoc, drop_more}
 use Rattle.hv_text.specs.Trees.{Tree, none}
 use Rattle.hv_syntax.specs.declared.formula.FormulaText.{FormulaText}
 use Rattle.hv_syntax.specs.Values.{formulas_of}
-use Rattle.hv_syntax.specs.Formulas.{and_all}
+use Rattle.hv_syntax.specs.inside.Formulas.{and_all}
 use Rattle.hv_syntax.specs.Views.{formula_view}
 use Rattle.hv_syntax.specs.Canonical.{text, spaced, each, conjunction, formula_expression, formula_expressions, with_members}
 use Rattle.hv_syntax.specs.CanonicalSections.{lines, unless_empty, section_of_each}

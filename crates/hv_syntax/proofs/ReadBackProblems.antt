@@ -9,12 +9,13 @@ use Rattle.hv_text.specs.declared.fault.TheConstants.{MOST_BYTES, MOST_OPEN}
 use Rattle.hv_syntax.specs.declared.word.Sort.TheVariants as sorts
 use Rattle.hv_syntax.specs.Values.{WordAt, Formula, Literal, Htn, Problem}
 use Rattle.hv_syntax.specs.Words.{is, is_the_word}
-use Rattle.hv_syntax.specs.Reading.{every, only}
-use Rattle.hv_syntax.specs.TypedLists.{typed_list_of}
-use Rattle.hv_syntax.specs.Formulas.{formula_of}
-use Rattle.hv_syntax.specs.Literals.{ground_literal_of}
-use Rattle.hv_syntax.specs.Sections.{one_name, keyword_of, title_of, defined_with, define_form}
-use Rattle.hv_syntax.specs.Problems.{ProblemSection, is_for, has_requirements, has_objects, has_htn, has_init, has_goal, htn_of, goal_of, problem_standing, problem_section_by, Parts, no_parts, add_part, parts_from, whole_by, whole, problem_in, problem_of}
+use Rattle.hv_syntax.specs.inside.Reading.{every, only}
+use Rattle.hv_syntax.specs.inside.TypedLists.{typed_list_of}
+use Rattle.hv_syntax.specs.inside.Formulas.{formula_of}
+use Rattle.hv_syntax.specs.inside.Literals.{ground_literal_of}
+use Rattle.hv_syntax.specs.inside.Sections.{one_name, keyword_of, title_of, defined_with, define_form}
+use Rattle.hv_syntax.specs.Problems.{ProblemSection, is_for, has_requirements, has_objects, has_htn, has_init, has_goal, problem_standing, Parts, no_parts, add_part}
+use Rattle.hv_syntax.specs.inside.Problems.{htn_of, goal_of, problem_section_by, parts_from, whole_by, whole, problem_in, problem_of}
 use Rattle.hv_syntax.specs.Tables.{IsProblem}
 use Rattle.hv_syntax.specs.Texts.{IsProblemText}
 use Rattle.hv_syntax.specs.ReadBack.{IsReadBack}

@@ -6,10 +6,11 @@ use Rattle.hv_syntax.specs.declared.section.Standing.{Standing}
 use Rattle.hv_syntax.specs.declared.refusal.Refusal.{Refusal}
 use Rattle.hv_syntax.specs.declared.refusal.Refusal.TheVariants as refusals
 use Rattle.hv_syntax.specs.declared.fault.SyntaxFault.{SyntaxFault}
-use Rattle.hv_syntax.specs.Reading.{Fails}
-use Rattle.hv_syntax.specs.Faults.{OfExpressions, IsUnread}
+use Rattle.hv_syntax.specs.inside.Reading.{Fails}
+use Rattle.hv_syntax.specs.inside.Faults.{OfExpressions, IsUnread}
 use Rattle.hv_syntax.specs.Unsupported.{has_unsupported}
-use Rattle.hv_syntax.specs.Sections.{headed, refused, occurs, unspelled, section_of}
+use Rattle.hv_syntax.specs.Sections.{headed, occurs}
+use Rattle.hv_syntax.specs.inside.Sections.{refused, unspelled, section_of}
 
 of_unspelled : (odd : Bool) (s : Span) (P : Type 0) → P → OfExpressions (unspelled odd) s P
 of_unspelled true s P p = p

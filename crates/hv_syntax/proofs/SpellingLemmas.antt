@@ -10,12 +10,14 @@ use Rattle.hv_syntax.specs.declared.word.Sort.{Sort}
 use Rattle.hv_syntax.specs.declared.word.Sort.TheVariants as sorts
 use Rattle.hv_syntax.specs.declared.word.Head.{Head}
 use Rattle.hv_syntax.specs.declared.word.Head.TheVariants as heads
-use Rattle.hv_syntax.specs.Words.{is, sort_of, is_sort, head_of, sorted_word_of, symbol_by, symbol_of}
-use Rattle.hv_syntax.specs.Reading.{both, every, all_some, behind, tuple}
+use Rattle.hv_syntax.specs.Words.{is, sort_of, is_sort, head_of}
+use Rattle.hv_syntax.specs.inside.Words.{sorted_word_of, symbol_by, symbol_of}
+use Rattle.hv_syntax.specs.inside.Reading.{both, every, all_some, behind, tuple}
 use Rattle.hv_syntax.specs.Values.{WordAt, word_at, Term, Atom, atom_with, no_type, of_type, Typed, Formula, Formulas, holds, and, or, not, imply, forall, exists, equal, no_formulas, more_formulas, formulas_of}
-use Rattle.hv_syntax.specs.Terms.{term_by, term_of, atom_of}
-use Rattle.hv_syntax.specs.TypedLists.{with_type, is_empty, typed_by, typed_list_of}
-use Rattle.hv_syntax.specs.Formulas.{few, variables_of, and_all, or_all, formula_by, formula_of, formula_among, each_formula}
+use Rattle.hv_syntax.specs.inside.Terms.{term_by, term_of, atom_of}
+use Rattle.hv_syntax.specs.TypedLists.{with_type}
+use Rattle.hv_syntax.specs.inside.TypedLists.{is_empty, typed_by, typed_list_of}
+use Rattle.hv_syntax.specs.inside.Formulas.{few, variables_of, and_all, or_all, formula_by, formula_of, formula_among, each_formula}
 use Rattle.hv_syntax.specs.Spellings.{SpellsWord, a_word, SpellsSymbol, a_symbol, SpellsTerm, a_name, a_variable, SpellEach, no_more, one_more, SpellsAtom, an_atom, join, SpellsTyped, without_type, a_group, SpellsVariables, variables, SpellsFormula, nothing, a_fact, a_conjunction, a_disjunction, a_negation, an_implication, for_all, for_some, an_equality, SpellFormulas, no_members, more_members}
 
 -- the same word

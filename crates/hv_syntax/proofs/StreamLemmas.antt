@@ -5,13 +5,15 @@ use Rattle.std.specs.Prelude.{codes, is_some, IfNone}
 use Rattle.hv_text.specs.Trees.{Tree, Trees, word, list, none, more, place_of}
 use Rattle.hv_text.specs.Rests.{Rest, last, upto, add, enclose, here, ended}
 use Rattle.hv_text.specs.declared.span.Span.{Span}
-use Rattle.hv_syntax.specs.Reading.{both, every, behind}
+use Rattle.hv_syntax.specs.inside.Reading.{both, every, behind}
 use Rattle.hv_syntax.specs.Values.{WordAt, Literal, Problem}
 use Rattle.hv_syntax.specs.Words.{is, is_the_word}
-use Rattle.hv_syntax.specs.Literals.{ground_literal_of}
-use Rattle.hv_syntax.specs.Sections.{headed, is_head, occurs, title_of}
-use Rattle.hv_syntax.specs.Problems.{ProblemSection, has_init, problem_standing, problem_section_by, problem_section, Parts, add_part, no_parts, parts_from, whole, problem_of}
-use Rattle.hv_syntax.specs.Streams.{head_word, heads, has_head, IsSectionRead}
+use Rattle.hv_syntax.specs.inside.Literals.{ground_literal_of}
+use Rattle.hv_syntax.specs.Sections.{headed, is_head, occurs}
+use Rattle.hv_syntax.specs.inside.Sections.{title_of}
+use Rattle.hv_syntax.specs.Problems.{ProblemSection, has_init, problem_standing, Parts, add_part, no_parts}
+use Rattle.hv_syntax.specs.inside.Problems.{problem_section_by, problem_section, parts_from, whole, problem_of}
+use Rattle.hv_syntax.specs.inside.Streams.{head_word, heads, has_head, IsSectionRead}
 use Rattle.hv_syntax.specs.declared.section.Standing.TheVariants as standings
 use Rattle.hv_syntax.specs.declared.fault.SyntaxKind.{SyntaxKind}
 use Rattle.hv_syntax.proofs.Lists.{behind_both}

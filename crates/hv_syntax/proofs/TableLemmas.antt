@@ -6,18 +6,20 @@ use Rattle.hv_text.specs.declared.span.Span.{Span}
 use Rattle.hv_syntax.specs.declared.word.Sort.TheVariants as sorts
 use Rattle.hv_syntax.specs.declared.field.Slot.{Slot}
 use Rattle.hv_syntax.specs.declared.field.Slot.TheVariants as slots
-use Rattle.hv_syntax.specs.Words.{symbol_of}
-use Rattle.hv_syntax.specs.Reading.{both, every, tuple}
+use Rattle.hv_syntax.specs.inside.Words.{symbol_of}
+use Rattle.hv_syntax.specs.inside.Reading.{both, every, tuple}
 use Rattle.hv_syntax.specs.Values.{WordAt, Atom, Typed, Formula, and, no_formulas, Effect, effect, Subtask, Pair, Constraint, Network, Predicate, predicate, Task, task, Method, method, Action, action, Htn, htn}
-use Rattle.hv_syntax.specs.Terms.{atom_of}
-use Rattle.hv_syntax.specs.TypedLists.{typed_list_of}
-use Rattle.hv_syntax.specs.Lists.{listed}
-use Rattle.hv_syntax.specs.Formulas.{formula_of}
-use Rattle.hv_syntax.specs.Literals.{effect_of}
+use Rattle.hv_syntax.specs.inside.Terms.{atom_of}
+use Rattle.hv_syntax.specs.inside.TypedLists.{typed_list_of}
+use Rattle.hv_syntax.specs.inside.Lists.{listed}
+use Rattle.hv_syntax.specs.inside.Formulas.{formula_of}
+use Rattle.hv_syntax.specs.inside.Literals.{effect_of}
 use Rattle.hv_syntax.specs.Fields.{field, is_field_list}
-use Rattle.hv_syntax.specs.Networks.{pair_of, constraint_of, subtask_of, listed_at, subtasks_by, network_with, network_of}
-use Rattle.hv_syntax.specs.Declarations.{predicate_of, parameters_at, precondition_at, effect_at, task_at, is_nothing, task_named, task_of, method_slots, method_named, method_of, action_named, action_of}
-use Rattle.hv_syntax.specs.Problems.{htn_slots, htn_of}
+use Rattle.hv_syntax.specs.inside.Networks.{pair_of, constraint_of, subtask_of, listed_at, subtasks_by, network_with, network_of}
+use Rattle.hv_syntax.specs.Declarations.{is_nothing, method_slots}
+use Rattle.hv_syntax.specs.inside.Declarations.{predicate_of, parameters_at, precondition_at, effect_at, task_at, task_named, task_of, method_named, method_of, action_named, action_of}
+use Rattle.hv_syntax.specs.Problems.{htn_slots}
+use Rattle.hv_syntax.specs.inside.Problems.{htn_of}
 use Rattle.hv_syntax.specs.Spellings.{SpellsSymbol, SpellEach, SpellsList, SpellsAtom, SpellsTyped, SpellsFormula, SpellsEffect, SpellsSubtask, SpellsPair, SpellsConstraint}
 use Rattle.hv_syntax.specs.Tables.{SpellsIfAny, is_absent, is_present, SpellsField, it_stands, SpellsParameters, parameters, SpellsForm, no_form, unordered, ordered, SpellsNetwork, a_network, SpellsPredicate, a_predicate, SpellsTask, a_task, SpellsMethod, a_method, SpellsAction, an_action, SpellsHtn, an_htn}
 use Rattle.hv_syntax.proofs.SpellingLemmas.{if_map, if_both, if_then, if_weaker, symbol_read, symbol_spelled, each_read, each_spelled, atom_read, atom_spelled, typed_list_read, typed_list_spelled, formula_is_read, formula_is_spelled}

@@ -8,10 +8,10 @@ use Rattle.hv_text.specs.declared.fault.TextKind.TheVariants as texts
 use Rattle.hv_syntax.specs.declared.fault.SyntaxKind.{SyntaxKind}
 use Rattle.hv_syntax.specs.declared.fault.SyntaxKind.TheVariants as kinds
 use Rattle.hv_syntax.specs.declared.fault.SyntaxFault.{SyntaxFault}
-use Rattle.hv_syntax.specs.Faults.{Answers, OfExpressions}
+use Rattle.hv_syntax.specs.inside.Faults.{Answers, OfExpressions}
 use Rattle.hv_syntax.specs.Values.{Domain, Problem}
-use Rattle.hv_syntax.specs.Domains.{domain_of}
-use Rattle.hv_syntax.specs.Problems.{problem_of}
+use Rattle.hv_syntax.specs.inside.Domains.{domain_of}
+use Rattle.hv_syntax.specs.inside.Problems.{problem_of}
 use Rattle.hv_syntax.specs.Tables.{IsDomain, IsProblem}
 use Rattle.hv_syntax.specs.FirstFaults.{IsFaultyDomain, IsFaultyProblem}
 use Rattle.hv_syntax.specs.Texts.{IsSpelledBy, IsFaultBy}

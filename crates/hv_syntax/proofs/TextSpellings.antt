@@ -7,18 +7,22 @@ use Rattle.hv_syntax.specs.declared.word.Sort.TheVariants as sorts
 use Rattle.hv_syntax.specs.declared.section.Standing.{Standing}
 use Rattle.hv_syntax.specs.declared.section.Standing.TheVariants as standings
 use Rattle.hv_syntax.specs.declared.fault.SyntaxKind.{SyntaxKind}
-use Rattle.hv_syntax.specs.Words.{is, sorted_word_of}
-use Rattle.hv_syntax.specs.Reading.{every}
+use Rattle.hv_syntax.specs.Words.{is}
+use Rattle.hv_syntax.specs.inside.Words.{sorted_word_of}
+use Rattle.hv_syntax.specs.inside.Reading.{every}
 use Rattle.hv_syntax.specs.Values.{WordAt, Literal, Htn, Domain, Problem}
-use Rattle.hv_syntax.specs.TypedLists.{typed_list_of}
-use Rattle.hv_syntax.specs.Formulas.{formula_of}
-use Rattle.hv_syntax.specs.Literals.{ground_literal_of}
-use Rattle.hv_syntax.specs.Declarations.{predicate_of, task_of, method_of, action_of}
+use Rattle.hv_syntax.specs.inside.TypedLists.{typed_list_of}
+use Rattle.hv_syntax.specs.inside.Formulas.{formula_of}
+use Rattle.hv_syntax.specs.inside.Literals.{ground_literal_of}
+use Rattle.hv_syntax.specs.inside.Declarations.{predicate_of, task_of, method_of, action_of}
 use Rattle.hv_syntax.specs.Unsupported.{has_unsupported}
-use Rattle.hv_syntax.specs.Sections.{refused, occurs, judged, at_place, section_of, sections_from, ◌>>=◌, keyword_of, one_name, title_of, defined_with, sections_of}
-use Rattle.hv_syntax.specs.Domains.{DomainSection, has_requirements, has_types, has_constants, has_predicates, has_task, has_method, has_action, domain_standing, domain_section_by, no_domain, add_section, domain_in, domain_of}
+use Rattle.hv_syntax.specs.Sections.{occurs}
+use Rattle.hv_syntax.specs.inside.Sections.{refused, judged, at_place, section_of, sections_from, ◌>>=◌, keyword_of, one_name, title_of, defined_with, sections_of}
+use Rattle.hv_syntax.specs.Domains.{DomainSection, has_requirements, has_types, has_constants, has_predicates, has_task, has_method, has_action, domain_standing, no_domain, add_section}
+use Rattle.hv_syntax.specs.inside.Domains.{domain_section_by, domain_in, domain_of}
 use Rattle.hv_syntax.specs.Problems as problems
-use Rattle.hv_syntax.specs.Problems.{ProblemSection, is_for, has_objects, has_htn, has_init, has_goal, problem_standing, problem_section_by, htn_of, goal_of, Parts, no_parts, add_part, parts_from, whole_by, whole, problem_in, problem_of}
+use Rattle.hv_syntax.specs.Problems.{ProblemSection, is_for, has_objects, has_htn, has_init, has_goal, problem_standing, Parts, no_parts, add_part}
+use Rattle.hv_syntax.specs.inside.Problems.{problem_section_by, htn_of, goal_of, parts_from, whole_by, whole, problem_in, problem_of}
 use Rattle.hv_syntax.specs.Spellings.{SpellsWord, SpellEach, SpellsTyped, SpellsFormula, SpellsGround}
 use Rattle.hv_text.specs.Sexps.{AreExpressions}
 use Rattle.hv_syntax.specs.Texts.{IsSpelledBy}

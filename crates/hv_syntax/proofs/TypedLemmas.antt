@@ -10,9 +10,10 @@ use Rattle.hv_syntax.specs.declared.word.Sort.{Sort}
 use Rattle.hv_syntax.specs.declared.word.Sort.TheVariants as sorts
 use Rattle.hv_syntax.specs.declared.word.Placed.{Placed}
 use Rattle.hv_syntax.specs.Words.{is, is_sort}
-use Rattle.hv_syntax.specs.Reading.{behind}
+use Rattle.hv_syntax.specs.inside.Reading.{behind}
 use Rattle.hv_syntax.specs.Values.{WordAt, word_at, of_type, Typed}
-use Rattle.hv_syntax.specs.TypedLists.{typed_by, with_type, is_empty}
+use Rattle.hv_syntax.specs.TypedLists.{with_type}
+use Rattle.hv_syntax.specs.inside.TypedLists.{typed_by, is_empty}
 use Rattle.hv_syntax.specs.Views.{word_view}
 use Rattle.hv_syntax.proofs.Lists.{tree-Word, member_at}
 

@@ -1,10 +1,11 @@
 -- The domain or problem of a text, and the faults of texts.
-use Rattle.std.specs.Prelude.{ℕ, List}
+use Rattle.std.specs.Prelude.{◌≢◌, ℕ, List}
 use Rattle.hv_text.specs.Trees.{Trees}
 use Rattle.hv_text.specs.Sexps.{AreExpressions, IsTextFault}
 use Rattle.hv_text.specs.declared.span.Span.{Span}
 use Rattle.hv_syntax.specs.declared.fault.SyntaxKind.{SyntaxKind}
 use Rattle.hv_syntax.specs.declared.fault.SyntaxKind.TheVariants as kinds
+use Rattle.hv_text.specs.declared.fault.TextKind.TheVariants as texts
 use Rattle.hv_syntax.specs.Values.{Domain, Problem}
 use Rattle.hv_syntax.specs.Tables.{IsDomain, IsProblem}
 use Rattle.hv_syntax.specs.FirstFaults.{IsFaultyDomain, IsFaultyProblem}
@@ -33,3 +34,15 @@ IsProblemText text p = IsSpelledBy IsProblem text p
 -- the fault of a text that says no problem
 abbrev pub IsProblemFault : List ℕ → SyntaxKind → Span → Type 0
 IsProblemFault text kind s = IsFaultBy IsFaultyProblem text kind s
+
+-- a fault of the text itself: any but that memory ran out
+abbrev pub IsOwnFaultBy : (List ℕ → SyntaxKind → Span → Type 0) → List ℕ → SyntaxKind → Span → Type 0
+IsOwnFaultBy IsFault text kind s = (kind ≢ kinds.Text texts.Memory) × IsFault text kind s
+
+-- a text says a value
+abbrev pub SaysSome : {V : Type 0} → (List ℕ → V → Type 0) → List ℕ → Type 0
+SaysSome {V = V} Says text = (v : V) × Says text v
+
+-- a text has a fault of its own
+abbrev pub HasFaultBy : (List ℕ → SyntaxKind → Span → Type 0) → List ℕ → Type 0
+HasFaultBy IsFault text = (kind : SyntaxKind) × (s : Span) × IsOwnFaultBy IsFault text kind s

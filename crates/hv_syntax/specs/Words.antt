@@ -1,12 +1,11 @@
 -- What words may be.
-use Rattle.std.specs.Prelude.{ℕ, ◌==◌, ◌||◌, Bool, true, false, List, [], ◌∷◌, Option, Some, None, codes, if◌then◌else◌}
+use Rattle.std.specs.Prelude.{ℕ, ◌==◌, ◌||◌, Bool, true, false, List, [], ◌∷◌, codes, if◌then◌else◌}
 use Rattle.std.specs.Str.{bytes_eq}
 use Rattle.hv_text.specs.Trees.{Tree, word, list}
 use Rattle.hv_syntax.specs.declared.word.Sort.{Sort}
 use Rattle.hv_syntax.specs.declared.word.Sort.TheVariants as sorts
 use Rattle.hv_syntax.specs.declared.word.Head.{Head}
 use Rattle.hv_syntax.specs.declared.word.Head.TheVariants as heads
-use Rattle.hv_syntax.specs.Values.{WordAt, word_at}
 
 -- two words are the same
 abbrev pub is : List ℕ → List ℕ → Bool
@@ -53,18 +52,3 @@ head_of w =
 abbrev pub is_the_word : List ℕ → Tree → Bool
 is_the_word v (word w s) = is w v
 is_the_word v (list ts s) = false
-
--- a word of this sort
-abbrev pub sorted_word_of : Sort → Tree → Option WordAt
-sorted_word_of sort (word w s) = if is_sort sort w then Some (word_at w s) else None
-sorted_word_of sort (list ts s) = None
-
--- a word, where it is a symbol
-abbrev pub symbol_by : Head → WordAt → Option WordAt
-symbol_by heads.Symbol w = Some w
-symbol_by _ w = None
-
--- a symbol
-abbrev pub symbol_of : Tree → Option WordAt
-symbol_of (word w s) = symbol_by (head_of w) (word_at w s)
-symbol_of (list ts s) = None

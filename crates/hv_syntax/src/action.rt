@@ -2,8 +2,8 @@
 
 ghost use Rattle.std.specs.Prelude.{◌≡◌, map, option_map};
 ghost use Rattle.hv_text.specs.Trees.{tree, trees};
-ghost use Rattle.hv_syntax.specs.Reading.{Gives};
-ghost use Rattle.hv_syntax.specs.Declarations.{effect_at, action_of};
+ghost use Rattle.hv_syntax.specs.inside.Reading.{Gives};
+ghost use Rattle.hv_syntax.specs.inside.Declarations.{effect_at, action_of};
 ghost use Rattle.hv_syntax.specs.Views.{word_view, typed_view, formula_view, effect_view};
 ghost use Rattle.hv_syntax.specs.DeclarationViews.{action_view};
 

@@ -3,9 +3,10 @@
 ghost use Rattle.std.specs.Prelude.{◌≡◌, [], map, option_map, OnOk, IfErr};
 ghost use Rattle.hv_text.specs.Names.{text_of};
 ghost use Rattle.hv_text.specs.Trees.{tree, trees};
-ghost use Rattle.hv_syntax.specs.Reading.{Gives};
-ghost use Rattle.hv_syntax.specs.Faults.{Answers, IsMemory};
-ghost use Rattle.hv_syntax.specs.Domains.{domain_standing, domain_section_by, domain_section, add_section, no_domain, domain_from, domain_of};
+ghost use Rattle.hv_syntax.specs.inside.Reading.{Gives};
+ghost use Rattle.hv_syntax.specs.inside.Faults.{Answers, IsMemory};
+ghost use Rattle.hv_syntax.specs.Domains.{domain_standing, add_section, no_domain};
+ghost use Rattle.hv_syntax.specs.inside.Domains.{domain_section_by, domain_section, domain_from, domain_of};
 ghost use Rattle.hv_syntax.specs.Views.{word_view, typed_view};
 ghost use Rattle.hv_syntax.specs.DeclarationViews.{predicate_view, task_view, method_view, action_view};
 ghost use Rattle.hv_syntax.specs.DomainViews.{domain_section_view, domain_view};
@@ -136,25 +137,25 @@ fn read_members<'s>(
     ensures { Gives domain_section_view result (domain_section_by (text_of name.entry) span (trees es.now)) }
 {
     if name.is(b":requirements") {
-        return Ok(DomainSection::Requirements(read_keywords(alloc, es)?));
+        return read_keywords(alloc, es).map(DomainSection::Requirements);
     }
     if name.is(b":types") {
-        return Ok(DomainSection::Types(read_typed_list(alloc, Sort::Name, es)?));
+        return read_typed_list(alloc, Sort::Name, es).map(DomainSection::Types);
     }
     if name.is(b":constants") {
-        return Ok(DomainSection::Constants(read_typed_list(alloc, Sort::Name, es)?));
+        return read_typed_list(alloc, Sort::Name, es).map(DomainSection::Constants);
     }
     if name.is(b":predicates") {
-        return Ok(DomainSection::Predicates(read_predicates(alloc, es)?));
+        return read_predicates(alloc, es).map(DomainSection::Predicates);
     }
     if name.is(b":task") {
-        return Ok(DomainSection::Task(read_task(alloc, span, es)?));
+        return read_task(alloc, span, es).map(DomainSection::Task);
     }
     if name.is(b":method") {
-        return Ok(DomainSection::Method(read_method(alloc, span, es)?));
+        return read_method(alloc, span, es).map(DomainSection::Method);
     }
     if name.is(b":action") {
-        return Ok(DomainSection::Action(read_action(alloc, span, es)?));
+        return read_action(alloc, span, es).map(DomainSection::Action);
     }
     Err(Refusal::NoSpelling)
 }

@@ -8,7 +8,7 @@ ghost use Rattle.hv_syntax.specs.Fields.{slot_of, same_slot, is_in, field, is_fi
 use hv_text::{Name, Sexp};
 
 /// Which field a keyword names.
-#[derive(Clone, Copy, Debug, PartialEq, Eq)]
+#[derive(Clone, Copy)]
 pub enum Slot {
     Parameters,
     Task,

@@ -2,9 +2,9 @@
 
 ghost use Rattle.std.specs.Prelude.{◌≡◌, map};
 ghost use Rattle.hv_text.specs.Trees.{tree, trees};
-ghost use Rattle.hv_syntax.specs.Reading.{Gives, every};
+ghost use Rattle.hv_syntax.specs.inside.Reading.{Gives, every};
 ghost use Rattle.hv_syntax.specs.Words.{head_of};
-ghost use Rattle.hv_syntax.specs.Formulas.{formula_of, formula_by, each_formula, variables_of, negation, implication, quantified, equality};
+ghost use Rattle.hv_syntax.specs.inside.Formulas.{formula_of, formula_by, each_formula, variables_of, negation, implication, quantified, equality};
 ghost use Rattle.hv_syntax.specs.Views.{formula_view, typed_view, word_view};
 
 use crate::list::two;

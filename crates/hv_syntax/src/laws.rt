@@ -6,22 +6,22 @@ ghost use Rattle.hv_text.specs.Sexps.{AreExpressions};
 ghost use Rattle.hv_text.specs.Trees.{Tree, Trees};
 ghost use Rattle.hv_syntax.specs.declared.word.Sort.{Sort};
 ghost use Rattle.hv_syntax.specs.Values.{Term, Atom, Typed, Formula, Literal, Effect, Subtask, Pair, Constraint, Domain, Problem};
-ghost use Rattle.hv_syntax.specs.Terms.{term_of, atom_of};
-ghost use Rattle.hv_syntax.specs.TypedLists.{typed_list_of};
-ghost use Rattle.hv_syntax.specs.Formulas.{formula_of};
-ghost use Rattle.hv_syntax.specs.Lists.{listed};
-ghost use Rattle.hv_syntax.specs.Literals.{literal_of, effect_of};
-ghost use Rattle.hv_syntax.specs.Networks.{subtask_of, pair_of, constraint_of};
-ghost use Rattle.hv_syntax.specs.Domains.{domain_of};
-ghost use Rattle.hv_syntax.specs.Problems.{problem_of};
+ghost use Rattle.hv_syntax.specs.inside.Terms.{term_of, atom_of};
+ghost use Rattle.hv_syntax.specs.inside.TypedLists.{typed_list_of};
+ghost use Rattle.hv_syntax.specs.inside.Formulas.{formula_of};
+ghost use Rattle.hv_syntax.specs.inside.Lists.{listed};
+ghost use Rattle.hv_syntax.specs.inside.Literals.{literal_of, effect_of};
+ghost use Rattle.hv_syntax.specs.inside.Networks.{subtask_of, pair_of, constraint_of};
+ghost use Rattle.hv_syntax.specs.inside.Domains.{domain_of};
+ghost use Rattle.hv_syntax.specs.inside.Problems.{problem_of};
 ghost use Rattle.hv_syntax.specs.Tables.{IsDomain, IsProblem};
 ghost use Rattle.hv_text.specs.declared.span.Span.{Span};
 ghost use Rattle.hv_syntax.specs.declared.fault.SyntaxKind.{SyntaxKind};
 ghost use Rattle.hv_syntax.specs.FirstFaults.{IsFaultyDomain, IsFaultyProblem};
-ghost use Rattle.hv_syntax.specs.Texts.{IsDomainText, IsDomainFault, IsProblemText, IsProblemFault};
+ghost use Rattle.hv_syntax.specs.Texts.{IsDomainText, IsDomainFault, IsProblemText, IsProblemFault, IsOwnFaultBy, SaysSome, HasFaultBy};
 ghost use Rattle.hv_syntax.specs.Spellings.{SpellsTerm, SpellsAtom, SpellsTyped, SpellsFormula, SpellsLiteral, SpellsEffect, SpellsList, SpellsSubtask, SpellsPair, SpellsConstraint};
 
-use hv_text::a_text_has_one_reading;
+use hv_text::{a_text_has_one_reading, expressions_or_one_fault};
 
 /// Terms, and atoms and tasks over them, are read exactly where the table of the grammar spells them.
 pub fn atoms_are_spelled()
@@ -86,6 +86,26 @@ pub fn a_value_or_a_fault()
     ensures no_faulty_problem { (es : Trees) (p : Problem) (kind : SyntaxKind) (s : Span) → IsProblem es p → IsFaultyProblem es kind s → ⊥ }
     ensures one_problem_fault { (es : Trees) (k l : SyntaxKind) (s p : Span) → IsFaultyProblem es k s → IsFaultyProblem es l p → (k ≡ l) × (s ≡ p) }
 {}
+
+/// A text says a domain or has one fault of its own as one, never both.
+pub fn a_domain_or_a_fault()
+    ensures some { (text : List ℕ) → SaysSome IsDomainText text ⊎ HasFaultBy IsDomainFault text }
+    ensures never_both { (text : List ℕ) (d : Domain) (k : SyntaxKind) (s : Span) → IsDomainText text d → IsOwnFaultBy IsDomainFault text k s → ⊥ }
+    ensures one { (text : List ℕ) (k l : SyntaxKind) (s p : Span) → IsOwnFaultBy IsDomainFault text k s → IsOwnFaultBy IsDomainFault text l p → (k ≡ l) × (s ≡ p) }
+{
+    a_text_has_one_reading();
+    expressions_or_one_fault();
+}
+
+/// So is it with problems.
+pub fn a_problem_or_a_fault()
+    ensures some { (text : List ℕ) → SaysSome IsProblemText text ⊎ HasFaultBy IsProblemFault text }
+    ensures never_both { (text : List ℕ) (p : Problem) (k : SyntaxKind) (s : Span) → IsProblemText text p → IsOwnFaultBy IsProblemFault text k s → ⊥ }
+    ensures one { (text : List ℕ) (k l : SyntaxKind) (s p : Span) → IsOwnFaultBy IsProblemFault text k s → IsOwnFaultBy IsProblemFault text l p → (k ≡ l) × (s ≡ p) }
+{
+    a_text_has_one_reading();
+    expressions_or_one_fault();
+}
 
 /// Letter case decides nothing: a text whose lower case is that of another has the same expressions at
 /// the same places, says the same, and has the same fault.

@@ -29,9 +29,9 @@ pub use domain::DomainText;
 pub use fault::{SyntaxFault, SyntaxKind};
 pub use formula::FormulaText;
 pub use laws::{
-    a_text_says_one_thing, a_value_or_a_fault, atoms_are_spelled, effects_are_spelled,
-    faults_are_first, formulas_are_spelled, letter_case_decides_nothing, networks_are_spelled,
-    texts_are_spelled, typed_lists_are_spelled,
+    a_domain_or_a_fault, a_problem_or_a_fault, a_text_says_one_thing, a_value_or_a_fault,
+    atoms_are_spelled, effects_are_spelled, faults_are_first, formulas_are_spelled,
+    letter_case_decides_nothing, networks_are_spelled, texts_are_spelled, typed_lists_are_spelled,
 };
 pub use literal::{EffectText, LiteralText};
 pub use method::MethodText;
@@ -43,7 +43,8 @@ pub use print_law::{
     domains_are_printed_alike, domains_are_read_again, domains_are_read_wherever_they_stand,
     effects_are_read_again, formulas_are_read_again, problem_texts_are_printed_again,
     problem_texts_are_read_back, problem_texts_have_their_expression, problems_are_printed_alike,
-    problems_are_read_again, texts_have_the_words_of_their_expressions,
+    problems_are_read_again, problems_are_read_wherever_they_stand,
+    texts_have_the_words_of_their_expressions,
 };
 pub use problem::{HtnText, ProblemText};
 pub use read::{read_domain, read_problem};

@@ -2,8 +2,9 @@
 
 ghost use Rattle.std.specs.Prelude.{◌≡◌, option_map};
 ghost use Rattle.hv_text.specs.Trees.{tree, trees};
-ghost use Rattle.hv_syntax.specs.Reading.{only, two};
-ghost use Rattle.hv_syntax.specs.Lists.{conjuncts, negated};
+ghost use Rattle.hv_syntax.specs.inside.Reading.{only, two};
+ghost use Rattle.hv_syntax.specs.Lists.{conjuncts};
+ghost use Rattle.hv_syntax.specs.inside.Lists.{negated};
 
 use crate::word::{Head, head_of};
 use hv_text::Sexp;

@@ -4,9 +4,10 @@ ghost use Rattle.std.specs.Prelude.{◌≡◌, ◌≤◌, IfOk, map};
 ghost use Rattle.hv_text.specs.Trees.{tree, trees};
 ghost use Rattle.hv_text.specs.Rests.{here, ended};
 ghost use Rattle.hv_text.specs.Cursors.{rest_at, left_at};
-ghost use Rattle.hv_syntax.specs.Reading.{Gives, every};
-ghost use Rattle.hv_syntax.specs.Lists.{listed};
-ghost use Rattle.hv_syntax.specs.Literals.{literal_of, effect_of, is_constant, are_constants, ground_literal_of};
+ghost use Rattle.hv_syntax.specs.inside.Reading.{Gives, every};
+ghost use Rattle.hv_syntax.specs.inside.Lists.{listed};
+ghost use Rattle.hv_syntax.specs.Literals.{is_constant, are_constants};
+ghost use Rattle.hv_syntax.specs.inside.Literals.{literal_of, effect_of, ground_literal_of};
 ghost use Rattle.hv_syntax.specs.Views.{term_view, literal_view, effect_view};
 
 use crate::list::{conjuncts, negated};

@@ -2,8 +2,8 @@
 
 ghost use Rattle.std.specs.Prelude.{◌≡◌, map, option_map};
 ghost use Rattle.hv_text.specs.Trees.{tree, trees};
-ghost use Rattle.hv_syntax.specs.Reading.{Gives};
-ghost use Rattle.hv_syntax.specs.Declarations.{task_at, method_named, method_of};
+ghost use Rattle.hv_syntax.specs.inside.Reading.{Gives};
+ghost use Rattle.hv_syntax.specs.inside.Declarations.{task_at, method_named, method_of};
 ghost use Rattle.hv_syntax.specs.Views.{word_view, typed_view, atom_view, formula_view};
 ghost use Rattle.hv_syntax.specs.NetworkViews.{network_view};
 ghost use Rattle.hv_syntax.specs.DeclarationViews.{method_view};

@@ -2,9 +2,9 @@
 
 ghost use Rattle.std.specs.Prelude.{◌≡◌, map, option_map};
 ghost use Rattle.hv_text.specs.Trees.{tree, trees};
-ghost use Rattle.hv_syntax.specs.Reading.{Gives, every};
-ghost use Rattle.hv_syntax.specs.Lists.{listed};
-ghost use Rattle.hv_syntax.specs.Networks.{labelled, subtask_of, pair_of, equation_of, constraint_of, listed_at, subtasks_by, network_of};
+ghost use Rattle.hv_syntax.specs.inside.Reading.{Gives, every};
+ghost use Rattle.hv_syntax.specs.inside.Lists.{listed};
+ghost use Rattle.hv_syntax.specs.inside.Networks.{labelled, subtask_of, pair_of, equation_of, constraint_of, listed_at, subtasks_by, network_of};
 ghost use Rattle.hv_syntax.specs.Views.{term_view};
 ghost use Rattle.hv_syntax.specs.NetworkViews.{subtask_view, pair_view, constraint_view, network_view};
 

@@ -2,8 +2,8 @@
 
 ghost use Rattle.std.specs.Prelude.{◌≡◌, map};
 ghost use Rattle.hv_text.specs.Trees.{tree, trees};
-ghost use Rattle.hv_syntax.specs.Reading.{Gives, every};
-ghost use Rattle.hv_syntax.specs.Declarations.{predicate_of};
+ghost use Rattle.hv_syntax.specs.inside.Reading.{Gives, every};
+ghost use Rattle.hv_syntax.specs.inside.Declarations.{predicate_of};
 ghost use Rattle.hv_syntax.specs.Views.{word_view, typed_view};
 ghost use Rattle.hv_syntax.specs.DeclarationViews.{predicate_view};
 

@@ -7,10 +7,10 @@ ghost use Rattle.hv_text.specs.Sexps.{spelled, AreExpressions};
 ghost use Rattle.hv_text.specs.Shapes.{bare_piece, bare_trees, IsTidy};
 ghost use Rattle.hv_text.specs.declared.fault.TheConstants.{MOST_BYTES};
 ghost use Rattle.hv_syntax.specs.Values.{Formula, Effect, Domain, Problem};
-ghost use Rattle.hv_syntax.specs.Formulas.{formula_of};
-ghost use Rattle.hv_syntax.specs.Literals.{effect_of};
-ghost use Rattle.hv_syntax.specs.Domains.{domain_of};
-ghost use Rattle.hv_syntax.specs.Problems.{problem_of};
+ghost use Rattle.hv_syntax.specs.inside.Formulas.{formula_of};
+ghost use Rattle.hv_syntax.specs.inside.Literals.{effect_of};
+ghost use Rattle.hv_syntax.specs.inside.Domains.{domain_of};
+ghost use Rattle.hv_syntax.specs.inside.Problems.{problem_of};
 ghost use Rattle.hv_syntax.specs.Texts.{IsDomainText, IsProblemText};
 ghost use Rattle.hv_syntax.specs.CanonicalSections.{domain_expression, problem_expression, canonical_domain, canonical_problem};
 ghost use Rattle.hv_syntax.specs.Canonical.{text, formula_expression, effect_expression};
@@ -42,6 +42,11 @@ pub fn problems_are_read_again()
 /// Where some expressions are read as a domain, those that differ from them in places alone are read as the same domain, places aside.
 pub fn domains_are_read_wherever_they_stand()
     ensures { (us vs : Trees) (d : Domain) → bare_trees us ≡ bare_trees vs → domain_of vs ≡ Ok d → (e : Domain) × (domain_of us ≡ Ok e) × (bare_domain e ≡ bare_domain d) }
+{}
+
+/// Where some expressions are read as a problem, those that differ from them in places alone are read as the same problem, places aside.
+pub fn problems_are_read_wherever_they_stand()
+    ensures { (us vs : Trees) (p : Problem) → bare_trees us ≡ bare_trees vs → problem_of vs ≡ Ok p → (q : Problem) × (problem_of us ≡ Ok q) × (bare_problem q ≡ bare_problem p) }
 {}
 
 /// Domains that are the same, places aside, have the same canonical text.

@@ -4,7 +4,7 @@ use hv_text::Memory;
 use std::alloc::{AllocError, AllocFailed};
 
 /// Why an expression was not read.
-#[derive(Clone, Copy, Debug, PartialEq, Eq)]
+#[derive(Clone, Copy)]
 pub enum Refusal {
     /// Memory ran out.
     Memory,

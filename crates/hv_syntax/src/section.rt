@@ -4,9 +4,10 @@ ghost use Rattle.std.specs.Prelude.{◌≡◌, map, option_map};
 ghost use Rattle.hv_text.specs.Bytes.{lower};
 ghost use Rattle.hv_text.specs.Names.{text_of};
 ghost use Rattle.hv_text.specs.Trees.{tree, trees};
-ghost use Rattle.hv_syntax.specs.Reading.{Gives, every};
-ghost use Rattle.hv_syntax.specs.Faults.{IsUnread};
-ghost use Rattle.hv_syntax.specs.Sections.{headed, is_headed_by, occurs, title_of, define_form, sections_of, refused, is_unsupported, one_name, keyword_of};
+ghost use Rattle.hv_syntax.specs.inside.Reading.{Gives, every};
+ghost use Rattle.hv_syntax.specs.inside.Faults.{IsUnread};
+ghost use Rattle.hv_syntax.specs.Sections.{headed, is_headed_by, occurs, is_unsupported};
+ghost use Rattle.hv_syntax.specs.inside.Sections.{title_of, define_form, sections_of, refused, one_name, keyword_of};
 ghost use Rattle.hv_syntax.specs.Unsupported.{has_unsupported};
 ghost use Rattle.hv_syntax.specs.Views.{word_view};
 
@@ -19,7 +20,7 @@ use hv_text::{Name, Sexp, Span};
 use std::alloc::Global;
 
 /// How a section stands in a text.
-#[derive(Clone, Copy, Debug, PartialEq, Eq)]
+#[derive(Clone, Copy)]
 pub enum Standing {
     /// At most once.
     Once,

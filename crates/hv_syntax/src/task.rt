@@ -2,8 +2,9 @@
 
 ghost use Rattle.std.specs.Prelude.{◌≡◌, map, option_map};
 ghost use Rattle.hv_text.specs.Trees.{tree, trees};
-ghost use Rattle.hv_syntax.specs.Reading.{Gives};
-ghost use Rattle.hv_syntax.specs.Declarations.{parameters_at, precondition_at, are_none, is_empty_list, is_nothing, task_of};
+ghost use Rattle.hv_syntax.specs.inside.Reading.{Gives};
+ghost use Rattle.hv_syntax.specs.Declarations.{are_none, is_empty_list, is_nothing};
+ghost use Rattle.hv_syntax.specs.inside.Declarations.{parameters_at, precondition_at, task_of};
 ghost use Rattle.hv_syntax.specs.Views.{word_view, typed_view, formula_view};
 ghost use Rattle.hv_syntax.specs.DeclarationViews.{task_view};
 

@@ -2,8 +2,8 @@
 
 ghost use Rattle.std.specs.Prelude.{◌≡◌, map};
 ghost use Rattle.hv_text.specs.Trees.{tree, trees};
-ghost use Rattle.hv_syntax.specs.Reading.{Gives, every};
-ghost use Rattle.hv_syntax.specs.Terms.{term_of, atom_of};
+ghost use Rattle.hv_syntax.specs.inside.Reading.{Gives, every};
+ghost use Rattle.hv_syntax.specs.inside.Terms.{term_of, atom_of};
 ghost use Rattle.hv_syntax.specs.Views.{term_view, atom_view};
 
 use crate::refusal::Refusal;

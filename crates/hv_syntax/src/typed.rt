@@ -2,8 +2,9 @@
 
 ghost use Rattle.std.specs.Prelude.{◌≡◌, ◌++◌, map, OnOk, IfErr};
 ghost use Rattle.hv_text.specs.Trees.{tree, trees};
-ghost use Rattle.hv_syntax.specs.Reading.{Gives};
-ghost use Rattle.hv_syntax.specs.TypedLists.{typed_list_of, with_type};
+ghost use Rattle.hv_syntax.specs.inside.Reading.{Gives};
+ghost use Rattle.hv_syntax.specs.TypedLists.{with_type};
+ghost use Rattle.hv_syntax.specs.inside.TypedLists.{typed_list_of};
 ghost use Rattle.hv_syntax.specs.Views.{typed_view, type_view, word_view};
 
 use crate::refusal::Refusal;

@@ -9,7 +9,7 @@ use crate::word::is_the_word;
 use hv_text::{Name, Sexp};
 
 /// A kind of form that may be unsupported.
-#[derive(Clone, Copy, Debug, PartialEq, Eq)]
+#[derive(Clone, Copy)]
 pub enum Form {
     /// Unsupported wherever it stands.
     Anywhere,

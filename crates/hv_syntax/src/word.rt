@@ -4,8 +4,9 @@ ghost use Rattle.std.specs.Prelude.{◌≡◌};
 ghost use Rattle.hv_text.specs.Names.{text_of};
 ghost use Rattle.hv_text.specs.Bytes.{lower};
 ghost use Rattle.hv_text.specs.Trees.{tree, place_of};
-ghost use Rattle.hv_syntax.specs.Reading.{Gives};
-ghost use Rattle.hv_syntax.specs.Words.{sort_of, is_sort, head_of, is_the_word, symbol_of, sorted_word_of};
+ghost use Rattle.hv_syntax.specs.inside.Reading.{Gives};
+ghost use Rattle.hv_syntax.specs.Words.{sort_of, is_sort, head_of, is_the_word};
+ghost use Rattle.hv_syntax.specs.inside.Words.{symbol_of, sorted_word_of};
 ghost use Rattle.hv_syntax.specs.Views.{word_view};
 
 use crate::refusal::Refusal;
@@ -19,7 +20,7 @@ pub struct Placed<'s> {
 }
 
 /// What a word may be.
-#[derive(Clone, Copy, Debug, PartialEq, Eq)]
+#[derive(Clone, Copy)]
 pub enum Sort {
     /// A word whose first byte is neither `?` nor `:`, and that is not `-`, `<` or `=`.
     Name,
@@ -32,7 +33,7 @@ pub enum Sort {
 }
 
 /// What a word says at the head of a list.
-#[derive(Clone, Copy, Debug, PartialEq, Eq)]
+#[derive(Clone, Copy)]
 pub enum Head {
     And,
     Or,

@@ -3,7 +3,7 @@
 ghost use Rattle.std.specs.Prelude.{◌≡◌, ◌++◌, map, OnOk};
 ghost use Rattle.hv_syntax.specs.Values.{formulas_of, not, forall, exists, equal};
 ghost use Rattle.hv_syntax.specs.Canonical.{text, spaced, each, conjunction, term_expression, formula_expression, formula_expressions, literal_expression, effect_expression};
-ghost use Rattle.hv_syntax.specs.Formulas.{and_all, or_all};
+ghost use Rattle.hv_syntax.specs.inside.Formulas.{and_all, or_all};
 ghost use Rattle.hv_syntax.specs.Views.{typed_view, term_view, formula_view, literal_view, effect_view};
 
 use crate::formula::FormulaText;

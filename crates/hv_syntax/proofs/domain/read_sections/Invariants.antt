@@ -1,6 +1,7 @@
 use Rattle.std.proofs.Common.{◌≡◌, [], drop, take, map}
 use Rattle.hv_text.specs.Trees.{tree, trees}
-use Rattle.hv_syntax.specs.Domains.{domain_from, no_domain}
+use Rattle.hv_syntax.specs.Domains.{no_domain}
+use Rattle.hv_syntax.specs.inside.Domains.{domain_from}
 use Rattle.hv_syntax.specs.Views.{word_view}
 use Rattle.hv_syntax.specs.DomainViews.{domain_view}
 use Rattle.hv_syntax.proofs.domain.read_sections.Given as goal

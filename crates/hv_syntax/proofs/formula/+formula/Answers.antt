@@ -1,6 +1,6 @@
 use Rattle.std.proofs.Common.{arith}
 use Rattle.std.proofs.lemmas.Result.{err_from_is_err_and}
-use Rattle.hv_syntax.specs.Formulas.{formula_of}
+use Rattle.hv_syntax.specs.inside.Formulas.{formula_of}
 use Rattle.hv_syntax.specs.Views.{formula_view}
 use Rattle.hv_syntax.proofs.Lists.{one_indexed, two_indexed, read_more}
 use Rattle.hv_syntax.proofs.Exits.{exits}

@@ -2,7 +2,7 @@ use Rattle.std.proofs.Common.{◌∙◌, sym, ap, arith}
 use Rattle.hv_text.specs.Trees.{tree}
 use Rattle.hv_text.specs.Rests.{ended}
 use Rattle.hv_text.specs.Cursors.{rest_at}
-use Rattle.hv_syntax.specs.Literals.{ground_literal_of}
+use Rattle.hv_syntax.specs.inside.Literals.{ground_literal_of}
 use Rattle.hv_syntax.specs.Views.{literal_view}
 use Rattle.hv_syntax.proofs.StreamLemmas.{read_next, ended_add}
 use Rattle.hv_syntax.proofs.literal.read_ground_literals_at.Goals as goal

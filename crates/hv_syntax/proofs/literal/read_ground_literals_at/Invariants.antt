@@ -1,8 +1,8 @@
 use Rattle.std.proofs.Common.{◌≡◌, ◌≤◌, map}
 use Rattle.hv_text.specs.Rests.{here, ended}
 use Rattle.hv_text.specs.Cursors.{rest_at, left_at}
-use Rattle.hv_syntax.specs.Reading.{every, behind}
-use Rattle.hv_syntax.specs.Literals.{ground_literal_of}
+use Rattle.hv_syntax.specs.inside.Reading.{every, behind}
+use Rattle.hv_syntax.specs.inside.Literals.{ground_literal_of}
 use Rattle.hv_syntax.specs.Views.{literal_view}
 use Rattle.hv_syntax.proofs.literal.read_ground_literals_at.Given as goal
 

@@ -1,5 +1,5 @@
 use Rattle.std.proofs.Common.{arith}
-use Rattle.hv_syntax.specs.Networks.{constraint_of}
+use Rattle.hv_syntax.specs.inside.Networks.{constraint_of}
 use Rattle.hv_syntax.specs.NetworkViews.{constraint_view}
 use Rattle.hv_syntax.proofs.Lists.{read_more}
 use Rattle.hv_syntax.proofs.network.read_constraints.Goals as goal

@@ -1,7 +1,7 @@
 use Rattle.std.proofs.Common.{◌≡◌, drop, map}
 use Rattle.hv_text.specs.Trees.{trees}
-use Rattle.hv_syntax.specs.Reading.{every, behind}
-use Rattle.hv_syntax.specs.Networks.{constraint_of}
+use Rattle.hv_syntax.specs.inside.Reading.{every, behind}
+use Rattle.hv_syntax.specs.inside.Networks.{constraint_of}
 use Rattle.hv_syntax.specs.NetworkViews.{constraint_view}
 use Rattle.hv_syntax.proofs.network.read_constraints.Given as goal
 

@@ -1,5 +1,5 @@
 use Rattle.std.proofs.Common.{arith}
-use Rattle.hv_syntax.specs.Networks.{pair_of}
+use Rattle.hv_syntax.specs.inside.Networks.{pair_of}
 use Rattle.hv_syntax.specs.NetworkViews.{pair_view}
 use Rattle.hv_syntax.proofs.Lists.{read_more}
 use Rattle.hv_syntax.proofs.network.read_pairs.Goals as goal

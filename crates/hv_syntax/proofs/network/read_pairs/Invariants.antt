@@ -1,7 +1,7 @@
 use Rattle.std.proofs.Common.{◌≡◌, drop, map}
 use Rattle.hv_text.specs.Trees.{trees}
-use Rattle.hv_syntax.specs.Reading.{every, behind}
-use Rattle.hv_syntax.specs.Networks.{pair_of}
+use Rattle.hv_syntax.specs.inside.Reading.{every, behind}
+use Rattle.hv_syntax.specs.inside.Networks.{pair_of}
 use Rattle.hv_syntax.specs.NetworkViews.{pair_view}
 use Rattle.hv_syntax.proofs.network.read_pairs.Given as goal
 

@@ -1,5 +1,5 @@
 use Rattle.std.proofs.Common.{arith}
-use Rattle.hv_syntax.specs.Declarations.{predicate_of}
+use Rattle.hv_syntax.specs.inside.Declarations.{predicate_of}
 use Rattle.hv_syntax.specs.DeclarationViews.{predicate_view}
 use Rattle.hv_syntax.proofs.Lists.{read_more}
 use Rattle.hv_syntax.proofs.predicate.read_predicates.Goals as goal

@@ -1,7 +1,7 @@
 use Rattle.std.proofs.Common.{◌≡◌, drop, map}
 use Rattle.hv_text.specs.Trees.{trees}
-use Rattle.hv_syntax.specs.Reading.{every, behind}
-use Rattle.hv_syntax.specs.Declarations.{predicate_of}
+use Rattle.hv_syntax.specs.inside.Reading.{every, behind}
+use Rattle.hv_syntax.specs.inside.Declarations.{predicate_of}
 use Rattle.hv_syntax.specs.DeclarationViews.{predicate_view}
 use Rattle.hv_syntax.proofs.predicate.read_predicates.Given as goal
 

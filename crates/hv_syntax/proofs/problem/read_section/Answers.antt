@@ -1,7 +1,8 @@
 use Rattle.hv_text.specs.Names.{text_of}
 use Rattle.std.proofs.Common.{map}
 use Rattle.hv_text.specs.Trees.{tree, trees}
-use Rattle.hv_syntax.specs.Problems.{problem_standing, problem_section_by}
+use Rattle.hv_syntax.specs.Problems.{problem_standing}
+use Rattle.hv_syntax.specs.inside.Problems.{problem_section_by}
 use Rattle.hv_syntax.proofs.SectionLemmas.{unread_is}
 use Rattle.hv_syntax.proofs.problem.read_section.Goals as goal
 

@@ -1,6 +1,7 @@
 use Rattle.std.proofs.Common.{◌≡◌, [], drop, take, map}
 use Rattle.hv_text.specs.Trees.{tree, trees}
-use Rattle.hv_syntax.specs.Problems.{parts_from, no_parts}
+use Rattle.hv_syntax.specs.Problems.{no_parts}
+use Rattle.hv_syntax.specs.inside.Problems.{parts_from}
 use Rattle.hv_syntax.specs.ProblemViews.{parts_view}
 use Rattle.hv_syntax.proofs.problem.read_sections.Given as goal
 

@@ -1,5 +1,5 @@
 use Rattle.std.proofs.Common.{arith}
-use Rattle.hv_syntax.specs.Sections.{keyword_of}
+use Rattle.hv_syntax.specs.inside.Sections.{keyword_of}
 use Rattle.hv_syntax.specs.Views.{word_view}
 use Rattle.hv_syntax.proofs.Lists.{read_more}
 use Rattle.hv_syntax.proofs.section.read_keywords.Goals as goal

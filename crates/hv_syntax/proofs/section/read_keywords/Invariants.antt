@@ -1,7 +1,7 @@
 use Rattle.std.proofs.Common.{◌≡◌, drop, map}
 use Rattle.hv_text.specs.Trees.{trees}
-use Rattle.hv_syntax.specs.Reading.{every, behind}
-use Rattle.hv_syntax.specs.Sections.{keyword_of}
+use Rattle.hv_syntax.specs.inside.Reading.{every, behind}
+use Rattle.hv_syntax.specs.inside.Sections.{keyword_of}
 use Rattle.hv_syntax.specs.Views.{word_view}
 use Rattle.hv_syntax.proofs.section.read_keywords.Given as goal
 

@@ -1,7 +1,7 @@
 use Rattle.std.proofs.Common.{◌≡◌, drop, map}
 use Rattle.hv_text.specs.Trees.{trees}
-use Rattle.hv_syntax.specs.Reading.{every, behind}
-use Rattle.hv_syntax.specs.Terms.{term_of}
+use Rattle.hv_syntax.specs.inside.Reading.{every, behind}
+use Rattle.hv_syntax.specs.inside.Terms.{term_of}
 use Rattle.hv_syntax.specs.Views.{term_view}
 use Rattle.hv_syntax.proofs.term.read_terms.Given as goal
 

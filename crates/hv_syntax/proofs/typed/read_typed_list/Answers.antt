@@ -2,9 +2,10 @@ use Rattle.std.proofs.Common.{◌≡◌, ◌+◌, ◌∷◌, [], ◌++◌, arith
 use Rattle.std.proofs.lemmas.List.{map-append}
 use Rattle.hv_text.specs.Names.{text_of}
 use Rattle.hv_text.specs.Trees.{word, more, trees}
-use Rattle.hv_syntax.specs.Reading.{behind}
+use Rattle.hv_syntax.specs.inside.Reading.{behind}
 use Rattle.hv_syntax.specs.Values.{word_at, of_type}
-use Rattle.hv_syntax.specs.TypedLists.{typed_list_of, typed_by, with_type, is_empty}
+use Rattle.hv_syntax.specs.TypedLists.{with_type}
+use Rattle.hv_syntax.specs.inside.TypedLists.{typed_list_of, typed_by, is_empty}
 use Rattle.hv_syntax.specs.Views.{typed_view, word_view}
 use Rattle.hv_syntax.proofs.TypedLemmas.{here_is, after_type, after_dash, after_name, some_wait}
 use Rattle.hv_syntax.proofs.typed.read_typed_list.Goals.{then-wanted+else-not-is_sort+in_ok-give_type, else-wanted+then-is+else-is_empty, else-wanted+else-is+else-not-is_sort-2+in_ok-push}

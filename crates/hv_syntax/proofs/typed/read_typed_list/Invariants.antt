@@ -1,7 +1,7 @@
 use Rattle.std.proofs.Common.{◌≡◌, drop, map}
 use Rattle.hv_text.specs.Trees.{trees}
-use Rattle.hv_syntax.specs.Reading.{behind}
-use Rattle.hv_syntax.specs.TypedLists.{typed_list_of, typed_by}
+use Rattle.hv_syntax.specs.inside.Reading.{behind}
+use Rattle.hv_syntax.specs.inside.TypedLists.{typed_list_of, typed_by}
 use Rattle.hv_syntax.specs.Views.{typed_view, word_view}
 use Rattle.hv_syntax.proofs.typed.read_typed_list.Given as goal
 

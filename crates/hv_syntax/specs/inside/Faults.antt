@@ -1,4 +1,4 @@
--- What the readers of domains and problems answer.
+-- How the code reads: what the readers of domains and problems answer.
 use Rattle.std.specs.Prelude.{◌≡◌, Bool, Result, Ok, Err}
 use Rattle.hv_text.specs.declared.span.Span.{Span}
 use Rattle.hv_text.specs.declared.fault.TextKind.TheVariants as texts
@@ -7,7 +7,8 @@ use Rattle.hv_syntax.specs.declared.refusal.Refusal.TheVariants as refusals
 use Rattle.hv_syntax.specs.declared.fault.SyntaxKind.{SyntaxKind}
 use Rattle.hv_syntax.specs.declared.fault.SyntaxKind.TheVariants as kinds
 use Rattle.hv_syntax.specs.declared.fault.SyntaxFault.{SyntaxFault}
-use Rattle.hv_syntax.specs.Sections.{unspelled, at_start}
+use Rattle.hv_syntax.specs.Sections.{at_start}
+use Rattle.hv_syntax.specs.inside.Sections.{unspelled}
 
 -- that memory ran out
 abbrev pub memory : SyntaxKind

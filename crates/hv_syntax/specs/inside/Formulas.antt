@@ -1,14 +1,14 @@
--- The grammar of formulas.
+-- How the code reads: the grammar of formulas.
 use Rattle.std.specs.Prelude.{nat_le, length, List, [], ◌∷◌, Option, Some, None, option_map, option_and_then, if◌then◌else◌}
 use Rattle.hv_text.specs.Trees.{Tree, word, list, Trees, none, more}
 use Rattle.hv_syntax.specs.declared.word.Sort.TheVariants as sorts
 use Rattle.hv_syntax.specs.declared.word.Head.{Head}
 use Rattle.hv_syntax.specs.declared.word.Head.TheVariants as heads
 use Rattle.hv_syntax.specs.Words.{head_of}
-use Rattle.hv_syntax.specs.Reading.{both, every, all_some, tuple, two}
+use Rattle.hv_syntax.specs.inside.Reading.{both, every, all_some, tuple, two}
 use Rattle.hv_syntax.specs.Values.{WordAt, word_at, atom_with, Typed, Formula, holds, and, or, not, imply, forall, exists, equal, no_formulas, formulas_of}
-use Rattle.hv_syntax.specs.Terms.{term_of}
-use Rattle.hv_syntax.specs.TypedLists.{typed_list_of}
+use Rattle.hv_syntax.specs.inside.Terms.{term_of}
+use Rattle.hv_syntax.specs.inside.TypedLists.{typed_list_of}
 
 -- at most 16 variables
 abbrev pub few : List Typed → Option (List Typed)

@@ -1,10 +1,11 @@
--- Sections that are read one at a time: what stands behind each, and the heads of those before it.
+-- How the code reads: sections that are read one at a time: what stands behind each, and the heads of those before it.
 use Rattle.std.specs.Prelude.{◌≡◌, ◌||◌, ℕ, Bool, false, List, [], ◌∷◌, ◌++◌, Option, Some, None, Ok}
 use Rattle.hv_text.specs.Trees.{Tree, Trees}
 use Rattle.hv_text.specs.Rests.{Rest, add}
 use Rattle.hv_syntax.specs.Words.{is}
 use Rattle.hv_syntax.specs.Sections.{headed}
-use Rattle.hv_syntax.specs.Problems.{ProblemSection, problem_section}
+use Rattle.hv_syntax.specs.Problems.{ProblemSection}
+use Rattle.hv_syntax.specs.inside.Problems.{problem_section}
 
 -- the word that heads, if one does
 abbrev pub head_word : Option (List ℕ × Trees) → List (List ℕ)

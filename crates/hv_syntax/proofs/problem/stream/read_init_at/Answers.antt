@@ -3,7 +3,7 @@ use Rattle.hv_text.specs.Names.{text_of}
 use Rattle.hv_text.specs.Cursors.{rest_at}
 use Rattle.hv_syntax.specs.Views.{literal_view}
 use Rattle.hv_syntax.proofs.StreamLemmas.{init_read}
-use Rattle.hv_syntax.proofs.problem.read_init_at.Goals as goal
+use Rattle.hv_syntax.proofs.problem.stream.read_init_at.Goals as goal
 
 pub returns-clause-read : goal.returns-clause-read
 returns-clause-read c =

@@ -3,10 +3,11 @@ use Rattle.hv_text.specs.Names.{text_of}
 use Rattle.hv_text.specs.Trees.{Tree}
 use Rattle.hv_text.specs.Rests.{here, ended}
 use Rattle.hv_text.specs.Cursors.{rest_at, left_at}
-use Rattle.hv_syntax.specs.Problems.{parts_from, no_parts}
+use Rattle.hv_syntax.specs.Problems.{no_parts}
+use Rattle.hv_syntax.specs.inside.Problems.{parts_from}
 use Rattle.hv_syntax.specs.ProblemViews.{parts_view}
-use Rattle.hv_syntax.specs.Streams.{heads}
-use Rattle.hv_syntax.proofs.problem.read_sections_at.Given as goal
+use Rattle.hv_syntax.specs.inside.Streams.{heads}
+use Rattle.hv_syntax.proofs.problem.stream.read_sections_at.Given as goal
 
 -- behind some sections with these heads, going on from here gives what all gives
 abbrev pub invariant-sections : goal.invariant-sections

@@ -4,7 +4,7 @@ use Rattle.hv_text.specs.Trees.{tree, trees}
 use Rattle.hv_text.specs.Cursors.{rest_at}
 use Rattle.hv_syntax.specs.ProblemViews.{problem_section_view}
 use Rattle.hv_syntax.proofs.StreamLemmas.{listed_read}
-use Rattle.hv_syntax.proofs.problem.read_listed_at.Goals as goal
+use Rattle.hv_syntax.proofs.problem.stream.read_listed_at.Goals as goal
 
 pub returns-clause-read : goal.returns-clause-read
 returns-clause-read c =

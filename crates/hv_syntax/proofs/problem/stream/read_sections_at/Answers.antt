@@ -4,7 +4,7 @@ use Rattle.hv_text.specs.Names.{text_of}
 use Rattle.hv_text.specs.Cursors.{rest_at}
 use Rattle.hv_syntax.specs.ProblemViews.{problem_section_view, parts_view}
 use Rattle.hv_syntax.proofs.StreamLemmas.{section_more, section_ended}
-use Rattle.hv_syntax.proofs.problem.read_sections_at.Goals as goal
+use Rattle.hv_syntax.proofs.problem.stream.read_sections_at.Goals as goal
 
 pub sections-preserved : goal.sections-preserved
 sections-preserved c =

@@ -4,7 +4,7 @@ use Rattle.hv_text.specs.Cursors.{rest_at}
 use Rattle.hv_syntax.specs.Views.{word_view}
 use Rattle.hv_syntax.specs.ProblemViews.{parts_view, problem_view}
 use Rattle.hv_syntax.proofs.StreamLemmas.{problem_read, nothing_next}
-use Rattle.hv_syntax.proofs.problem.read_problem_at.Goals as goal
+use Rattle.hv_syntax.proofs.problem.stream.read_problem_at.Goals as goal
 
 pub returns-in-Ok : goal.returns-in-Ok
 returns-in-Ok c =

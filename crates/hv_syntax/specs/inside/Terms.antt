@@ -1,10 +1,11 @@
--- The grammar of terms, atoms and tasks.
+-- How the code reads: the grammar of terms, atoms and tasks.
 use Rattle.std.specs.Prelude.{Option, Some, None}
 use Rattle.hv_text.specs.Trees.{Tree, word, list, none, more}
 use Rattle.hv_syntax.specs.declared.word.Sort.{Sort}
 use Rattle.hv_syntax.specs.declared.word.Sort.TheVariants as sorts
-use Rattle.hv_syntax.specs.Words.{sort_of, symbol_of}
-use Rattle.hv_syntax.specs.Reading.{both, every}
+use Rattle.hv_syntax.specs.Words.{sort_of}
+use Rattle.hv_syntax.specs.inside.Words.{symbol_of}
+use Rattle.hv_syntax.specs.inside.Reading.{both, every}
 use Rattle.hv_syntax.specs.Values.{WordAt, word_at, Term, constant, variable, Atom, atom_with}
 
 -- a term by the sort of its word

@@ -1,4 +1,4 @@
--- What a reader answers, and what lists of parts spell.
+-- How the code reads: what a reader answers, and what lists of parts spell.
 use Rattle.std.specs.Prelude.{◌≡◌, List, [], ◌∷◌, ◌++◌, Option, Some, None, Result, Ok, Err, option_map}
 use Rattle.hv_text.specs.Trees.{Tree, Trees, none, more}
 use Rattle.hv_syntax.specs.declared.refusal.Refusal.{Refusal}

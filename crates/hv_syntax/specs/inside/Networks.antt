@@ -1,12 +1,13 @@
--- The grammar of task networks.
+-- How the code reads: the grammar of task networks.
 use Rattle.std.specs.Prelude.{Bool, true, false, List, [], Option, Some, None, option_map, codes, if◌then◌else◌}
 use Rattle.hv_text.specs.Trees.{Tree, word, list, Trees, none, more}
 use Rattle.hv_syntax.specs.declared.field.Slot.TheVariants as slots
-use Rattle.hv_syntax.specs.Words.{is_the_word, symbol_of}
-use Rattle.hv_syntax.specs.Reading.{both, two, tuple}
+use Rattle.hv_syntax.specs.Words.{is_the_word}
+use Rattle.hv_syntax.specs.inside.Words.{symbol_of}
+use Rattle.hv_syntax.specs.inside.Reading.{both, two, tuple}
 use Rattle.hv_syntax.specs.Values.{WordAt, Term, Atom, Subtask, subtask, Pair, pair, Constraint, constraint, Network, network}
-use Rattle.hv_syntax.specs.Terms.{term_of, atom_of}
-use Rattle.hv_syntax.specs.Lists.{negated, listed}
+use Rattle.hv_syntax.specs.inside.Terms.{term_of, atom_of}
+use Rattle.hv_syntax.specs.inside.Lists.{negated, listed}
 use Rattle.hv_syntax.specs.Fields.{field}
 
 -- the second of two, where it is a list

@@ -1,0 +1,224 @@
+//! Problems read one section at a time, and `:init` one literal at a time.
+//!
+//! This way finds problems and no faults: where it gives up, the tree of the text is read.
+
+ghost use Rattle.std.specs.Prelude.{◌≡◌, ◌<◌, [], true, Ok, IfOk, IfNone, IfSome, codes, map};
+ghost use Rattle.hv_text.specs.Names.{text_of};
+ghost use Rattle.hv_text.specs.Trees.{word, none};
+ghost use Rattle.hv_text.specs.Rests.{add, enclose, here, ended};
+ghost use Rattle.hv_text.specs.Cursors.{rest_at, left_at};
+ghost use Rattle.hv_syntax.specs.Words.{is};
+ghost use Rattle.hv_syntax.specs.inside.Streams.{has_head, IsSectionRead};
+ghost use Rattle.hv_syntax.specs.Problems.{no_parts};
+ghost use Rattle.hv_syntax.specs.inside.Problems.{parts_from, problem_of};
+ghost use Rattle.hv_syntax.specs.ProblemViews.{problem_section_view, parts_view, problem_view};
+
+use super::{ProblemParts, ProblemSection, ProblemText, add, read_members, standing_of, whole};
+use crate::literal::read_ground_literals_at;
+use crate::refusal::Refusal;
+use crate::section::{Standing, headed, title};
+use crate::word::{is_the_word, span_of};
+use hv_text::{Cursor, Name, Span, Word};
+use std::alloc::Global;
+
+// Whether one of these names is this one.
+fn is_among(name: Name<'_>, names: &[Name<'_>]) -> bool
+    ensures { result ≡ has_head (text_of name.entry) (map text_of names.now) }
+{
+    for other in names {
+        if other.is(name.written()) {
+            return true;
+        }
+    }
+    false
+}
+
+// A list that `:init` heads, up to behind that word.
+#[derive(Clone, Copy)]
+pub(crate) struct BegunInit<'s> {
+    pub(crate) start: Span,
+    pub(crate) name: Name<'s>,
+    pub(crate) place: Span,
+    pub(crate) members: Cursor<'s>,
+}
+
+// The list that comes next, where `:init` heads it.
+fn begun_init<'s>(from: Cursor<'s>) -> Option<BegunInit<'s>>
+    ensures begun { IfSome result (λ b. rest_at from.entry ≡ enclose b.start (add (word (text_of b.name) b.place) (rest_at b.members))) }
+    ensures head { IfSome result (λ b. is (text_of b.name) (codes ":init") ≡ true) }
+    ensures less { IfSome result (λ b. left_at b.members < left_at from.entry) }
+{
+    let (start, inner) = from.enter()?;
+    let (head, members) = inner.next()?;
+    match head {
+        Word::Name(name, place) => {
+            if !name.is(b":init") {
+                return None;
+            }
+            Some(BegunInit {
+                start,
+                name,
+                place,
+                members,
+            })
+        }
+        Word::Left(_) => None,
+        Word::Right(_) => None,
+    }
+}
+
+// A section that was read, its head, and the place behind it.
+#[derive(Drop)]
+pub(crate) struct SectionRead<'s> {
+    pub(crate) section: ProblemSection<'s>,
+    pub(crate) head: Name<'s>,
+    pub(crate) after: Cursor<'s>,
+}
+
+// The rest of `:init`, one literal at a time.
+fn read_init_at<'s>(
+    alloc: Global,
+    from: Cursor<'s>,
+    begun: BegunInit<'s>,
+    heads: &[Name<'s>],
+) -> Result<SectionRead<'s>, Refusal>
+    requires begun { rest_at from ≡ enclose begun.start (add (word (text_of begun.name) begun.place) (rest_at begun.members)) }
+    requires head { is (text_of begun.name) (codes ":init") ≡ true }
+    ensures read { IfOk result (λ r. IsSectionRead (map text_of heads.now) (rest_at from.entry) (problem_section_view r.section) (text_of r.head) (rest_at r.after)) }
+    ensures less { IfOk result (λ r. left_at r.after < left_at begun.entry.members) }
+{
+    if is_among(begun.name, heads) {
+        return Err(Refusal::NoSpelling);
+    }
+    let (literals, end) = read_ground_literals_at(alloc, begun.members)?;
+    match end.leave() {
+        None => Err(Refusal::NoSpelling),
+        Some((_past, after)) => Ok(SectionRead {
+            section: ProblemSection::Init(literals),
+            head: begun.name,
+            after,
+        }),
+    }
+}
+
+// The section that comes next, by its expression; None where the list ends.
+fn read_listed_at<'s>(
+    alloc: Global,
+    from: Cursor<'s>,
+    heads: &[Name<'s>],
+) -> Result<Option<SectionRead<'s>>, Refusal>
+    ensures none { IfOk result (λ o. IfNone o (here (rest_at from.entry) ≡ none)) }
+    ensures read { IfOk result (λ o. IfSome o (λ r. IsSectionRead (map text_of heads.now) (rest_at from.entry) (problem_section_view r.section) (text_of r.head) (rest_at r.after))) }
+    ensures less { IfOk result (λ o. IfSome o (λ r. left_at r.after < left_at from.entry)) }
+{
+    let Some((e, after)) = from.read_one(alloc)? else {
+        return Ok(None);
+    };
+    let Some((head, members)) = headed(&e) else {
+        return Err(Refusal::NoSpelling);
+    };
+    match standing_of(head) {
+        Standing::Once => {}
+        _ => return Err(Refusal::NoSpelling),
+    }
+    if is_among(head, heads) {
+        return Err(Refusal::NoSpelling);
+    }
+    let section = read_members(alloc, head, span_of(&e), members)?;
+    Ok(Some(SectionRead {
+        section,
+        head,
+        after,
+    }))
+}
+
+// The section that comes next, behind those with these heads; None where the list ends.
+fn read_section_at<'s>(
+    alloc: Global,
+    from: Cursor<'s>,
+    heads: &[Name<'s>],
+) -> Result<Option<SectionRead<'s>>, Refusal>
+    ensures none { IfOk result (λ o. IfNone o (here (rest_at from.entry) ≡ none)) }
+    ensures read { IfOk result (λ o. IfSome o (λ r. IsSectionRead (map text_of heads.now) (rest_at from.entry) (problem_section_view r.section) (text_of r.head) (rest_at r.after))) }
+    ensures less { IfOk result (λ o. IfSome o (λ r. left_at r.after < left_at from.entry)) }
+{
+    match begun_init(from) {
+        Some(begun) => Ok(Some(read_init_at(alloc, from, begun, heads)?)),
+        None => read_listed_at(alloc, from, heads),
+    }
+}
+
+// The sections up to the end of the list, and the place there.
+fn read_sections_at<'s>(
+    alloc: Global,
+    from: Cursor<'s>,
+) -> Result<(ProblemParts<'s>, Cursor<'s>), Refusal>
+    ensures parts { IfOk result (λ p. parts_from no_parts [] (here (rest_at from.entry)) ≡ Ok (parts_view p.0)) }
+    ensures end { IfOk result (λ p. rest_at p.1 ≡ ended (rest_at from.entry)) }
+{
+    let mut parts = ProblemParts {
+        domain: None,
+        requirements: Vec::new(alloc),
+        objects: Vec::new(alloc),
+        htn: None,
+        init: None,
+        goal: None,
+    };
+    let mut heads = Vec::new(alloc);
+    let mut cursor = from;
+    'sections: while let Some(read) = read_section_at(alloc, cursor, &heads)? {
+        let SectionRead {
+            section,
+            head,
+            after,
+        } = read;
+        cursor = after;
+        heads.push(head)?;
+        add(&mut parts, section);
+    }
+    Ok((parts, cursor))
+}
+
+/// Reads the problem that the expressions of a text spell, one section at a time and `:init` one
+/// literal at a time.
+///
+/// # Errors
+///
+/// `NoSpelling` where they may spell none, and `Memory`.
+pub(crate) fn read_problem_at<'s>(
+    alloc: Global,
+    from: Cursor<'s>,
+) -> Result<ProblemText<'s>, Refusal>
+    ensures { IfOk result (λ p. problem_of (here (rest_at from.entry)) ≡ Ok (problem_view p)) }
+{
+    let Some((start, first)) = from.enter() else {
+        return Err(Refusal::NoSpelling);
+    };
+    let Some((define, second)) = first.read_one(alloc)? else {
+        return Err(Refusal::NoSpelling);
+    };
+    if !is_the_word(&define, b"define") {
+        return Err(Refusal::NoSpelling);
+    }
+    let Some((kind, third)) = second.read_one(alloc)? else {
+        return Err(Refusal::NoSpelling);
+    };
+    let Some(name) = title(&kind, b"problem") else {
+        return Err(Refusal::NoSpelling);
+    };
+    let (parts, end) = read_sections_at(alloc, third)?;
+    let Some((past, behind)) = end.leave() else {
+        return Err(Refusal::NoSpelling);
+    };
+    if behind.next().is_some() {
+        return Err(Refusal::NoSpelling);
+    }
+    let span = Span {
+        start: start.start,
+        past,
+    };
+    match whole(span, name, parts) {
+        Ok(problem) => Ok(problem),
+        Err(_) => Err(Refusal::NoSpelling),
+    }
+}
