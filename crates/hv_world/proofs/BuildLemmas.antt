@@ -3,9 +3,9 @@ use Rattle.std.proofs.Common.{◌≡◌, ℕ, suc, ◌<◌, List, [], ◌∷◌,
 use Rattle.std.proofs.lemmas.List.{map-append}
 use Rattle.std.proofs.lemmas.List.Elements.{All-cons, All-nil}
 use Rattle.hv_syntax.specs.Values as text
-use Rattle.hv_world.specs.Known.{Known}
-use Rattle.hv_world.specs.Names.{place_in}
-use Rattle.hv_world.specs.Worlds.{Task, Action, Method, task_by, action_in, method_in, task_names, action_names, method_names, said_task_names, said_action_names, said_method_names}
+use Rattle.hv_world.specs.Known.{Known, predicate_words}
+use Rattle.hv_world.specs.Names.{names, place_in}
+use Rattle.hv_world.specs.Worlds.{World, Task, Action, Method, task_by, action_in, method_in, task_names, action_names, method_names, said_task_names, said_action_names, said_method_names}
 
 -- what holds of all members of a list as they are seen
 pub of_mapped : {X Y : Type 0} (P : Y → Type 0) (f : X → Y) (xs : List X) → All P (map f xs) → All (λ x. P (f x)) xs
@@ -25,6 +25,32 @@ pairs_below f ps qs n m a b e h na mb =
 pub both_added : {A B : Type 0} (g : A → B) (xs ys : List A) {a b c : List B} → a ≡ [] → b ≡ a ++ map g xs → c ≡ b ++ map g ys → c ≡ map g (xs ++ ys)
 both_added g xs ys none e h = h ∙ ap (λ z. z ++ map g ys) (e ∙ ap (λ z. z ++ map g xs) none) ∙ sym (map-append g xs ys)
 
+-- a world by its parts
+pub world_is : (w v : World) → w.types ≡ v.types → w.objects ≡ v.objects → w.typing ≡ v.typing → w.predicates ≡ v.predicates → w.tasks ≡ v.tasks → w.methods ≡ v.methods → w.actions ≡ v.actions
+    → w.init ≡ v.init → w.goal ≡ v.goal → w.top ≡ v.top → w ≡ v
+world_is w v types objects typing predicates tasks methods actions init goal top =
+    λ i. record {
+      types = types i;
+      objects = objects i;
+      typing = typing i;
+      predicates = predicates i;
+      tasks = tasks i;
+      methods = methods i;
+      actions = actions i;
+      init = init i;
+      goal = goal i;
+      top = top i;
+    }
+
+-- the names of predicates are those of the text
+pub predicates_named : (ps : List text.Predicate) → names (predicate_words ps) ≡ map (λ q. q.name.text) ps
+predicates_named [] = refl
+predicates_named (q ∷ ps) = ap (λ ns. q.name.text ∷ ns) (predicates_named ps)
+
+pub predicate_places : (places : List ℕ → Option ℕ) (n : List ℕ) (ps : List text.Predicate) (xs : List (List ℕ)) → places ≡ place_in (names (predicate_words ps)) → xs ≡ map (λ q. q.name.text) ps
+    → places n ≡ place_in xs n
+predicate_places places n ps xs e made = ap (λ f. f n) (e ∙ ap place_in (predicates_named ps ∙ sym made))
+
 -- the names of tasks, actions and methods are those of the text
 module _ (k : Known) where
   tasks_named : (ts : List text.Task) → task_names (map (task_by k) ts) ≡ said_task_names ts
@@ -35,7 +61,7 @@ module _ (k : Known) where
   actions_named [] = refl
   actions_named (x ∷ xs) = ap (λ ns. x.name.text ∷ ns) (actions_named xs)
 
-  methods_named : (ms : List text.Method) → method_names (map (method_in k) ms) ≡ said_method_names ms
+  pub methods_named : (ms : List text.Method) → method_names (map (method_in k) ms) ≡ said_method_names ms
   methods_named [] = refl
   methods_named (m ∷ ms) = ap (λ ns. m.name.text ∷ ns) (methods_named ms)
 

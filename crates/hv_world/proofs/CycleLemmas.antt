@@ -1,5 +1,5 @@
 -- The cycles that are found are the cycles of an order.
-use Rattle.std.proofs.Common.{◌≡◌, ℕ, zero, suc, ◌+◌, ◌<◌, ◌≤◌, ◌⊎◌, inl, inr, ⊎_elim, Bool, true, false, ◌&&◌, ◌||◌, List, [], ◌∷◌, length, nat_eq, nat_lt, refl, sym, ap, ap₂, ◌∙◌, subst, arith}
+use Rattle.std.proofs.Common.{◌≡◌, ℕ, zero, suc, ◌+◌, ◌<◌, ◌≤◌, ◌⊎◌, inl, inr, ⊎_elim, Bool, true, false, ◌&&◌, ◌||◌, List, [], ◌∷◌, length, nat_eq, nat_lt, refl, sym, ap, ap₂, ◌∙◌, subst, arith, true≢false}
 use Rattle.std.specs.List.{list_any, range_with_len, Contains, All, Any, slice_index_or}
 use Rattle.std.proofs.lemmas.List.FromFn.{get_or-range_with_len, length-range_with_len}
 use Rattle.std.proofs.lemmas.List.Folds.{Any-from_list_any, list_any-from_Any}
@@ -141,3 +141,10 @@ module _ (n : Written) where
       let long : length (range_with_len 0 n.len) ≡ n.len = length-range_with_len 0 n.len in
       list_any-from_Any (λ i. leads n n.len i i) (range_with_len 0 n.len)
       (c.0, c.0, rw long lt, get_or-range_with_len 0 n.len c.0 c.0 lt ∙ plain c.0, complete within c.1)
+
+  -- whether one subtask comes before another is decided
+  pub before_is_decided : All (λ p. (p.0 < n.len) × (p.1 < n.len)) n.pairs → (i j : ℕ) → Before n i j ⊎ (Before n i j → ⊥)
+  before_is_decided within i j = by (leads n n.len i j) refl where
+    by : (b : Bool) → leads n n.len i j ≡ b → Before n i j ⊎ (Before n i j → ⊥)
+    by true e = inl (sound n.len i j e)
+    by false e = inr (λ b. true≢false (sym (complete within b) ∙ e))

@@ -6,10 +6,8 @@ pub mod FaultLemmas
 pub mod InternLemmas
 pub mod LabelLemmas
 pub mod NameLemmas
-pub mod OrderClosure
 pub mod OrderLists
 pub mod OrderMeanings
-pub mod OrderSubsets
 pub mod OrderWalk
 pub mod RepeatLemmas
 pub mod TypeLemmas
@@ -20,4 +18,6 @@ pub mod TableLemmas
 pub mod FirstFaults
 pub mod BoundLemmas
 pub mod BoundWorlds
+pub mod OnceLemmas
+pub mod TypeDecisions
 pub mod GroundingLemmas

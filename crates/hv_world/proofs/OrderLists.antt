@@ -3,8 +3,7 @@ use Rattle.std.proofs.Common.{◌≡◌, ◌≢◌, ◌<◌, ◌++◌, ◌∷◌
 use Rattle.std.proofs.lemmas.Grind.{common_steps}
 use Rattle.std.proofs.lemmas.List.{map-set}
 use Rattle.std.specs.declared.alloc.Global.{Global}
-use Rattle.hv_world.specs.declared.order.subset.Subset.{Subset}
-use Rattle.hv_world.specs.OrderWalks.{list_at, lists_of, AreEarlier, words_at, words_of}
+use Rattle.hv_world.specs.OrderWalks.{list_at, lists_of, AreEarlier}
 
 -- what a list contains
 pub contains_first : {X : Type 0} (x : X) (xs : List X) → Contains (x ∷ xs) x
@@ -100,9 +99,6 @@ all_listed n pairs xss c h = record {
 -- one of the lists, as it is read
 pub list_read : (vs : List (Vec ℕ Global)) (v : Vec ℕ Global) (j : ℕ) → j < length vs → v ≡ get_or vs j v → list_at (lists_of vs) j ≡ v.items
 list_read vs v j w e = grind (arith, common_steps, e, w)
-
-pub words_read : (ss : List Subset) (s : Subset) (j : ℕ) → j < length ss → s ≡ get_or ss j s → words_at (words_of ss) j ≡ s.words.items
-words_read ss s j w e = grind (arith, common_steps, e, w)
 
 -- a push to one of the lists
 pub pushed_lists : (vs : List (Vec ℕ Global)) (was now : Vec ℕ Global) (j i : ℕ) → j < length vs → was ≡ get_or vs j was → now.items ≡ was.items ++ i ∷ []

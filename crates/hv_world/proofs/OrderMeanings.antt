@@ -5,12 +5,19 @@ use Rattle.std.proofs.lemmas.List.{get_or_default, length-map}
 use Rattle.std.proofs.Common.{Vec}
 use Rattle.std.specs.declared.alloc.Global.{Global}
 use Rattle.std.proofs.Math.ListN.{get_or-eq_default}
-use Rattle.hv_world.specs.Orders.{Written, written, IsPaired, Leads, one_step, more_steps, Before, HasCycle, IsCyclic, IsRow, IsArrangement, AreDirect}
-use Rattle.hv_world.specs.OrderWalks.{IsListed, list_at, lists_of, AreEarlier, HasThose}
+use Rattle.hv_world.specs.Orders.{Written, written, IsPaired, Leads, one_step, more_steps, Before, HasCycle, IsCyclic, IsRow, IsArrangement, IsDirect, AreDirect}
+use Rattle.hv_world.specs.OrderWalks.{IsListed, list_at, lists_of, AreEarlier}
 use Rattle.hv_world.specs.OrderViews.{IsAsWritten}
 use Rattle.hv_world.proofs.OrderLists.{contains_first, contains_cases, nothing_contained}
 use Rattle.hv_world.proofs.OrderWalk.{either, place_of, contained_at, once_from}
-use Rattle.hv_world.proofs.OrderClosure.{last_pair}
+
+-- the last pair of a chain
+last_pair : {R : ℕ → ℕ → Type 0} {i j : ℕ} → Leads R i j → R i j ⊎ ((r : ℕ) × Leads R i r × R r j)
+last_pair {R} (one_step h) = inl h
+last_pair {R} (more_steps {i} {k} {j} h g) = behind (last_pair g) where
+  behind : R k j ⊎ ((r : ℕ) × Leads R k r × R r j) → R i j ⊎ ((r : ℕ) × Leads R i r × R r j)
+  behind (inl q) = inr (k, one_step h, q)
+  behind (inr q) = inr (q.0, more_steps h q.1, q.2)
 
 -- the one in front, cut out of the row
 one_cut : (row : List ℕ) (m j : ℕ) → m + 1 ≡ j → m < length row → take (j - m) (drop m row) ≡ slice_index row m ∷ []
@@ -36,23 +43,46 @@ row_direct n row j h z w = subst (AreDirect n j) (sym cut) direct where
   behind i o (inl e) = inl (subst (Contains ((j - 1) ∷ [])) e (contains_first (j - 1) []))
   behind i o (inr e) = inr (j - 1, contains_first (j - 1) [], (h.before i (j - 1)).1 (omega (arith, o, e), omega (arith, w)))
 
+  in_front : (i : ℕ) → IsDirect n i j → Contains ((j - 1) ∷ []) i
+  in_front i (inl q) = subst (Contains ((j - 1) ∷ [])) (omega (arith, q.1)) (contains_first (j - 1) [])
+  in_front i (inr q) = absurd (true≢false (sym h.ordered ∙ q.0))
+
   direct : AreDirect n j ((j - 1) ∷ [])
   direct = record {
+    direct = λ i. (λ c. inl (h.ordered, omega (arith, only (j - 1) i c, z), w), in_front i);
     sound = λ i c. first i (only (j - 1) i c);
     whole = λ i b. behind i ((h.before i j).0 b).0 (either (j - 1) i);
   }
 
-pub listed_direct : (n : Written) (xss : List (List ℕ)) (j : ℕ) → ((i k : ℕ) → IsListed xss i k ↔ IsPaired n i k) → AreDirect n j (list_at xss j)
-listed_direct n xss j h = record {
+-- nothing stands before the first, or before a number that none has
+pub row_none_direct : (n : Written) (row : List ℕ) (j : ℕ) → IsAsWritten n row → (0 < j → j < n.len → ⊥) → AreDirect n j []
+row_none_direct n row j h none = record {
+  direct = λ i. (λ c. absurd (nothing_contained i c), at i);
+  sound = λ i c. absurd (nothing_contained i c);
+  whole = λ i b. let q = (h.before i j).0 b in absurd (none (omega (arith, q.0)) q.1);
+} where
+  at : (i : ℕ) → IsDirect n i j → Contains [] i
+  at i (inl q) = absurd (none (omega (arith, q.1)) q.2)
+  at i (inr q) = absurd (true≢false (sym h.ordered ∙ q.0))
+
+-- where pairs alone order, those that are listed
+pub listed_direct : (n : Written) (xss : List (List ℕ)) (j : ℕ) → n.is_ordered ≡ false → ((i k : ℕ) → IsListed xss i k ↔ IsPaired n i k) → AreDirect n j (list_at xss j)
+listed_direct n xss j unordered h = record {
+  direct = λ i. (λ c. by_pair i ((h i j).0 c), λ d. (h i j).1 (paired i d));
   sound = λ i c. one_step ((h i j).0 c);
   whole = λ i b. by i (last_pair b);
 } where
+  by_pair : (i : ℕ) → IsPaired n i j → IsDirect n i j
+  by_pair i (inl c) = inr (unordered, c)
+  by_pair i (inr q) = absurd (true≢false (sym q.0 ∙ unordered))
+
+  paired : (i : ℕ) → IsDirect n i j → IsPaired n i j
+  paired i (inl q) = absurd (true≢false (sym q.0 ∙ unordered))
+  paired i (inr q) = inl q.1
+
   by : (i : ℕ) → IsPaired n i j ⊎ ((r : ℕ) × Before n i r × IsPaired n r j) → Contains (list_at xss j) i ⊎ ((r : ℕ) × Contains (list_at xss j) r × Before n i r)
   by i (inl q) = inl ((h i j).1 q)
   by i (inr q) = inr (q.0, (h q.0 j).1 q.2, q.1)
-
-pub none_direct : (n : Written) (xss : List (List ℕ)) (j : ℕ) → ((i k : ℕ) → IsListed xss i k ↔ IsPaired n i k) → length xss ≤ j → AreDirect n j []
-none_direct n xss j h w = subst (AreDirect n j) (get_or-eq_default xss [] w) (listed_direct n xss j h)
 
 -- chains of pairs that say the same
 pub led_as : {R S : ℕ → ℕ → Type 0} → ((i j : ℕ) → R i j → S i j) → {i j : ℕ} → Leads R i j → Leads S i j
@@ -117,6 +147,7 @@ module _ (n : ℕ) (pairs : List (ℕ × ℕ)) (below : AreBelow n pairs) where
 
     pub as_written : (row : List ℕ) → length row ≡ n → ((k : ℕ) → k < n → slice_index row k ≡ k) → IsAsWritten (written n true pairs) row
     as_written row c e = record {
+      ordered = refl;
       before = λ i j. (λ b. (lower b, within b), λ w. one_step (inr (refl, w.0, w.1)));
       count = c;
       each = e;
@@ -156,6 +187,3 @@ module _ (n : ℕ) (pairs : List (ℕ × ℕ)) (below : AreBelow n pairs) (vs : 
 
   pub pairs_acyclic : (row : List ℕ) → IsRow (Leads (IsListed (lists_of vs))) (length vs) row → IsCyclic (written n false pairs) → ⊥
   pairs_acyclic row r c = row_has_no_cycle (Before (written n false pairs)) n row (row_by_pairs row r) c.0 (before_below n false pairs below c.1) c.1
-
-  pub marked_before : (wss : List (List ℕ)) → ((j : ℕ) → HasThose (Leads (IsListed (lists_of vs))) wss j) → (j : ℕ) → HasThose (Before (written n false pairs)) wss j
-  marked_before wss m j i = (λ q. led_as (λ a b. (same a b).0) ((m j i).0 q), λ b. (m j i).1 (led_as (λ a b. (same a b).1) b))

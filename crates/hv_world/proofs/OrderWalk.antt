@@ -7,7 +7,7 @@ use Rattle.std.proofs.lemmas.List.{get_or_default}
 use Rattle.std.proofs.lemmas.List.Elements.{Contains-push}
 use Rattle.std.proofs.lemmas.List.Sums.{sum_by-set}
 use Rattle.hv_world.specs.Orders.{Leads, one_step, more_steps, IsRow}
-use Rattle.hv_world.specs.Lists.{Once}
+use Rattle.hv_text.specs.Lists.{Once}
 use Rattle.hv_world.specs.declared.order.walk.Mark.{Mark}
 use Rattle.hv_world.specs.declared.order.walk.Mark.TheVariants as marks
 use Rattle.hv_world.specs.OrderWalks.{IsListed, list_at, mark_at, changes, EndsWith, IsWalk}

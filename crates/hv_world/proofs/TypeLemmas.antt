@@ -15,7 +15,7 @@ use Rattle.std.proofs.lemmas.List.Quantifiers.{all_pairs_push}
 use Rattle.hv_world.specs.declared.id.TypeId.{TypeId}
 use Rattle.hv_world.specs.declared.id.ObjectId.{ObjectId}
 use Rattle.hv_world.specs.Types.{Typing, Reaches, same, up, Of, object_numbers}
-use Rattle.hv_world.specs.Lists.{Once}
+use Rattle.hv_text.specs.Lists.{Once}
 use Rattle.hv_world.specs.TypeLists.{list_of, type_numbers, type_lists, object_lists, AreSeconds, Climbs, stays, steps, ClimbsFrom, AscendsBelow, IsPut, IsPutAbove, AreMembersBelow}
 
 -- members of lists

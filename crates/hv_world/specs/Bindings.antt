@@ -2,7 +2,9 @@
 use Rattle.std.specs.Prelude.{ℕ, List, [], ◌∷◌, ◌++◌, map}
 use Rattle.hv_world.specs.declared.id.ObjectId.{ObjectId}
 use Rattle.hv_world.specs.declared.binding.Binding.{Binding, Given, With'}
-use Rattle.hv_world.specs.declared.binding.GroundAction as code
+use Rattle.hv_world.specs.declared.grounding.GroundAction as code
+use Rattle.hv_world.specs.declared.grounding.GroundActions.{GroundActions}
+use Rattle.hv_world.specs.declared.id.ActionId.{ActionId}
 
 abbrev pub object_number : ObjectId → ℕ
 object_number o = o.0
@@ -21,4 +23,13 @@ abbrev pub ground_action : ℕ → List ℕ → GroundAction
 ground_action a os = record { action = a; objects = os }
 
 abbrev pub ground_action_view : code.GroundAction → GroundAction
-ground_action_view a = ground_action a.action.0 (map object_number a.objects.items)
+ground_action_view a = ground_action a.action.0 (map object_number a.objects.now)
+
+-- actions and the lists of their objects, one by one
+abbrev pub grounded : List ActionId → List (List ObjectId) → List GroundAction
+grounded [] oss = []
+grounded (a ∷ as') [] = []
+grounded (a ∷ as') (os ∷ oss) = ground_action a.0 (map object_number os) ∷ grounded as' oss
+
+abbrev pub ground_actions_view : GroundActions → List GroundAction
+ground_actions_view g = grounded g.actions.items g.objects

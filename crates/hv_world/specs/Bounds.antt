@@ -2,7 +2,10 @@
 use Rattle.std.specs.Prelude.{◌≡◌, ℕ, ◌+◌, ◌<◌, List, length, Option, Some, None, All, MatchOption}
 use Rattle.std.specs.List.{slice_get}
 use Rattle.hv_world.specs.Values.{Term, object, variable, Atom, Formula, Formulas, holds, and, or, not, imply, forall, exists, equal, no_formulas, more_formulas, TaskName, compound, primitive, Subtask, Constraint}
-use Rattle.hv_world.specs.Worlds.{Network, Method, Task, Action, World}
+use Rattle.hv_world.specs.Networks.{IsArrangeable}
+use Rattle.hv_world.specs.Types.{IsInRange}
+use Rattle.hv_text.specs.Lists.{Once}
+use Rattle.hv_world.specs.Worlds.{Network, Method, Task, Action, World, method_names}
 
 module _ (w : World) where
   abbrev pub IsType : ℕ → Type 0
@@ -77,6 +80,27 @@ module _ (w : World) where
   abbrev pub IsBoundGoal : Option Formula → Type 0
   IsBoundGoal None = Unit {0}
   IsBoundGoal (Some f) = IsBoundFormula 0 f
+
+-- the names of each kind stand once
+pub record AreNamedOnce (w : World) : Type 0 where
+  pub types : Once w.types
+  pub objects : Once w.objects
+  pub predicates : Once w.predicates
+  pub methods : Once (method_names w.methods)
+
+-- the order of a network is that of its subtasks, and none of them comes before itself
+pub record IsSoundNetwork (net : Network) : Type 0 where
+  pub order : net.order.len ≡ length net.subtasks
+  pub arrangeable : IsArrangeable net.order
+
+-- what every world keeps: each kind of name stands once, there are as many types and objects as names of them, and orders are sound
+pub record IsSound (w : World) : Type 0 where
+  pub named : AreNamedOnce w
+  pub typing : IsInRange w.typing
+  pub type_count : w.typing.types ≡ length w.types
+  pub object_count : w.typing.objects ≡ length w.objects
+  pub methods : All (λ m. IsSoundNetwork m.network) w.methods
+  pub top : IsSoundNetwork w.top.network
 
 -- all that a world says is bound
 pub record IsBound (w : World) : Type 0 where

@@ -1,15 +1,13 @@
 -- Which actions with objects a world has.
-use Rattle.std.specs.Prelude.{ℕ, List, [], ◌∷◌, MatchOption}
-use Rattle.std.specs.List.{slice_get}
+use Rattle.std.specs.Prelude.{ℕ, List, MatchOption}
+use Rattle.std.specs.List.{AllZip, slice_get}
 use Rattle.hv_world.specs.Types.{Typing, Of}
 use Rattle.hv_world.specs.Bindings.{GroundAction}
 use Rattle.hv_world.specs.Worlds.{World}
 
 -- these are as many objects as types, and each is of its type
 abbrev pub AreOf : Typing → List ℕ → List ℕ → Type 0
-AreOf w [] [] = Unit {0}
-AreOf w (o ∷ os) (t ∷ ts) = Of w o t × AreOf w os ts
-AreOf w _ _ = ⊥
+AreOf w os ts = AllZip (Of w) os ts
 
 -- the world has the action, and its parameters can have these objects
 abbrev pub IsGrounding : World → GroundAction → Type 0

@@ -4,10 +4,8 @@ pub mod Values
 pub mod Views
 pub mod Faults
 pub mod Names
-pub mod Lists
 pub mod Known
 pub mod Scopes
-pub mod OrderSubsets
 pub mod OrderViews
 pub mod OrderWalks
 pub mod Orders
@@ -22,6 +20,7 @@ pub mod LabelViews
 pub mod NetworkViews
 pub mod MethodViews
 pub mod SectionViews
+pub mod WorldParts
 pub mod WorldViews
 pub mod Parts
 pub mod Bounds

@@ -1,10 +1,8 @@
--- How the order is found: lists of the earlier subtasks, a walk along them, and the sets of all that come before.
+-- How the order is found: lists of the earlier subtasks, and a walk along them.
 use Rattle.std.specs.Prelude.{ℕ, ◌≡◌, ◌<◌, ◌≤◌, ◌↔◌, ◌⊎◌, List, [], length, map, Contains, slice_index, slice_index_or, sum_by, ◌+◌, ◌-◌}
 use Rattle.std.specs.Global.{Vec}
 use Rattle.hv_world.specs.Orders.{Leads}
-use Rattle.hv_world.specs.Lists.{Once}
-use Rattle.hv_world.specs.OrderSubsets.{Has}
-use Rattle.hv_world.specs.declared.order.subset.Subset.{Subset}
+use Rattle.hv_text.specs.Lists.{Once}
 use Rattle.hv_world.specs.declared.order.walk.Mark.{Mark}
 use Rattle.hv_world.specs.declared.order.walk.Mark.TheVariants as marks
 use Rattle.hv_world.specs.declared.order.walk.Walk.{Walk}
@@ -68,18 +66,3 @@ EndsWith xs x = (0 < length xs) × (slice_index xs (length xs - 1) ≡ x)
 -- what was met stays so
 abbrev pub StaySeen : Walk → Walk → Type 0
 StaySeen v w = (j : ℕ) → mark_at w.marks.items j ≡ marks.Unseen → mark_at v.marks.items j ≡ marks.Unseen
-
-abbrev pub words_of : List Subset → List (List ℕ)
-words_of ss = map (λ s. s.words.items) ss
-
--- the words at j, or none
-abbrev pub words_at : List (List ℕ) → ℕ → List ℕ
-words_at wss j = slice_index_or wss j []
-
--- i is in the set at j where it comes before j
-abbrev pub HasThose : (ℕ → ℕ → Type 0) → List (List ℕ) → ℕ → Type 0
-HasThose Comes wss j = (i : ℕ) → Has (words_at wss j) i ↔ Comes i j
-
--- i is one of the first n of the list, or is in the set of one of these
-abbrev pub IsBehind : List ℕ → List (List ℕ) → ℕ → ℕ → Type 0
-IsBehind xs wss n i = (k : ℕ) × (k < n) × ((slice_index xs k ≡ i) ⊎ Has (words_at wss (slice_index xs k)) i)

@@ -1,6 +1,6 @@
 -- The order of a network's subtasks.
-use Rattle.std.specs.Prelude.{ℕ, ◌≡◌, ◌≢◌, ◌<◌, ◌⊎◌, Bool, true, List, length, Contains, AllPairs, slice_index}
-use Rattle.hv_world.specs.Lists.{Once}
+use Rattle.std.specs.Prelude.{ℕ, ◌≡◌, ◌+◌, ◌<◌, ◌⊎◌, ◌↔◌, Bool, true, false, List, length, Contains, slice_index}
+use Rattle.hv_text.specs.Lists.{Once}
 
 -- what is written of the order: how many subtasks there are, whether the form orders them as written, and the pairs
 pub record Written : Type 0 where
@@ -43,7 +43,12 @@ pub record IsRow (Comes : ℕ → ℕ → Type 0) (len : ℕ) (xs : List ℕ) : 
 abbrev pub IsArrangement : Written → List ℕ → Type 0
 IsArrangement n xs = IsRow (Before n) n.len xs
 
--- each of these comes before j, and whatever comes before j is one of them or comes before one of them
+-- one subtask stands directly before another: in the ordered form in front of it, and otherwise by a pair
+abbrev pub IsDirect : Written → ℕ → ℕ → Type 0
+IsDirect n i j = ((n.is_ordered ≡ true) × (i + 1 ≡ j) × (j < n.len)) ⊎ ((n.is_ordered ≡ false) × Contains n.pairs (i, j))
+
+-- these stand directly before j, each comes before it, and whatever else comes before j comes before one of them
 pub record AreDirect (n : Written) (j : ℕ) (xs : List ℕ) : Type 0 where
+  pub direct : (i : ℕ) → Contains xs i ↔ IsDirect n i j
   pub sound : (i : ℕ) → Contains xs i → Before n i j
   pub whole : (i : ℕ) → Before n i j → Contains xs i ⊎ ((r : ℕ) × Contains xs r × Before n i r)

@@ -1,6 +1,7 @@
 -- The static faults of a domain and a problem: where each rule is broken, in whatever order.
 use Rattle.std.specs.Prelude.{◌≡◌, ℕ, Bool, true, not, List, [], ◌∷◌, ◌++◌, map, length, Option, Some, None, ◌⊎◌, if◌then◌else◌, nat_eq}
 use Rattle.std.specs.List.{flat_map, filter}
+use Rattle.std.specs.Option.{option_or}
 use Rattle.hv_text.specs.declared.span.Span.{Span}
 use Rattle.hv_world.specs.declared.fault.StaticKind.{StaticKind}
 use Rattle.hv_world.specs.declared.fault.StaticKind.TheVariants as kinds
@@ -10,7 +11,7 @@ use Rattle.hv_world.specs.declared.fault.StaticFault.{StaticFault}
 use Rattle.hv_syntax.specs.Values.{WordAt, Term, constant, variable, Atom, TypeOf, no_type, of_type, Typed, Formula, Formulas, holds, and, or, imply, forall, exists, equal, no_formulas, more_formulas, Literal, Subtask, Pair, Constraint, Network, Task, Method, Action, Domain, Htn, Problem}
 use Rattle.hv_syntax.specs.Values.{not as negation}
 use Rattle.hv_world.specs.Values.{compound, primitive}
-use Rattle.hv_world.specs.Faults.{fault_on, fault_at, faults_at, IsFirst}
+use Rattle.hv_world.specs.Faults.{fault_on, fault_at, faults_at, IsFirst, least}
 use Rattle.hv_world.specs.Names.{is_among, repeated}
 use Rattle.hv_world.specs.Scopes.{Scope, parameters, inside, is_bound}
 use Rattle.hv_world.specs.Known.{Signature, Declaration, Known, known_in, variables, typed_words, predicate_words, declared_words, declarations}
@@ -164,6 +165,10 @@ pub record IsStatic (d : Domain) (p : Problem) : Type 0 where
   pub of_domain : domain_faults d p ≡ []
   pub of_problem : problem_faults d p ≡ []
 
--- the fault that is reported: the first in the domain, and where it has none, the first in the problem
+-- the fault that is reported: the one of the domain's that stands first; where it has none, that of the problem's
+abbrev pub first_fault : Domain → Problem → Option StaticFault
+first_fault d p = option_or (least (domain_faults d p)) (least (problem_faults d p))
+
+-- one of the domain's, and none stands before it; where it has none, so of the problem's
 abbrev pub IsFirstFault : Domain → Problem → StaticFault → Type 0
 IsFirstFault d p f = IsFirst (domain_faults d p) f ⊎ ((domain_faults d p ≡ []) × IsFirst (problem_faults d p) f)

@@ -45,6 +45,6 @@ known_by t =
     record {
       types = map text_of t.types.keys;
       objects = map text_of t.objects.keys;
-      predicate = λ n. signature_beside t.arities.items (places_by t.predicates n);
-      task = λ n. at_place (map declaration_view t.declared.items) (places_by t.tasks n);
+      predicate = λ n. signature_beside t.predicates.arities.items (places_by t.predicates.places n);
+      task = λ n. at_place (map declaration_view t.tasks.list.items) (places_by t.tasks.places n);
     }

@@ -3,20 +3,13 @@
 ghost use Rattle.std.specs.Prelude.{◌≡◌, ◌+◌, Some, map, length, option_map, slice_get, MatchResult};
 ghost use Rattle.hv_world.specs.Bindings.{objects_in, object_number};
 
-use crate::id::{ActionId, ObjectId};
+use crate::id::ObjectId;
 
 /// The objects of variables: those given, or those of a binding and of one variable more.
 #[derive(Clone, Copy)]
 pub enum Binding<'a> {
     Given(&'a [ObjectId]),
     With(&'a Binding<'a>, ObjectId),
-}
-
-/// An action with the objects of its parameters.
-#[derive(Drop)]
-pub struct GroundAction {
-    pub action: ActionId,
-    pub objects: Vec<ObjectId>,
 }
 
 // The object of a number, or by how much the number is past the objects.

@@ -1,17 +1,18 @@
 //! Worlds are built.
 
-ghost use Rattle.std.specs.Prelude.{ℕ, List, ◌≡◌, ◌⊎◌, [], map, option_map, All, IfOk, IfErr};
+ghost use Rattle.std.specs.Prelude.{ℕ, List, ◌≡◌, ◌⊎◌, [], Some, map, option_map, All, IfOk, IfErr};
+ghost use Rattle.hv_text.specs.Names.{text_of};
 ghost use Rattle.hv_syntax.specs.Views.{word_view};
-ghost use Rattle.hv_syntax.specs.DeclarationViews.{task_view as said_task, method_view as said_method, action_view as said_action};
+ghost use Rattle.hv_syntax.specs.DeclarationViews.{predicate_view as said_predicate, task_view as said_task, method_view as said_method, action_view as said_action};
 ghost use Rattle.hv_syntax.specs.DomainViews.{domain_view};
 ghost use Rattle.hv_syntax.specs.ProblemViews.{problem_view};
-ghost use Rattle.hv_world.specs.Known.{known_in};
-ghost use Rattle.hv_world.specs.Names.{place_in};
+ghost use Rattle.hv_world.specs.Known.{known_in, predicate_words};
+ghost use Rattle.hv_world.specs.Names.{names, place_in};
 ghost use Rattle.hv_world.specs.Tables.{known_by, places_by};
 ghost use Rattle.hv_world.specs.Types.{IsInRange};
 ghost use Rattle.hv_world.specs.Faults.{memory_fault};
-ghost use Rattle.hv_world.specs.StaticRules.{IsStatic, IsFirstFault};
-ghost use Rattle.hv_world.specs.Bounds.{IsBound};
+ghost use Rattle.hv_world.specs.StaticRules.{IsStatic, first_fault};
+ghost use Rattle.hv_world.specs.Bounds.{IsBound, IsSound};
 ghost use Rattle.hv_world.specs.MethodViews.{method_view};
 ghost use Rattle.hv_world.specs.Networks.{written_by, IsArrangeable};
 ghost use Rattle.hv_world.specs.Scopes.{parameters};
@@ -19,7 +20,7 @@ ghost use Rattle.hv_world.specs.SectionViews.{task_view, action_view};
 ghost use Rattle.hv_world.specs.Views.{atom_view, formula_view};
 ghost use Rattle.hv_world.specs.WorldViews.{world_view};
 ghost use Rattle.hv_world.specs.Parts.{world_of_parts};
-ghost use Rattle.hv_world.specs.Worlds.{task_by, method_in, action_in, formula_in, added, top_in, typing_by, world_of, task_names, action_names, method_names, said_task_names, said_action_names, said_method_names};
+ghost use Rattle.hv_world.specs.Worlds.{task_by, method_in, action_in, formula_in, added, top_in, typing_by, world_by, world_of, task_names, action_names, method_names, said_task_names, said_action_names, said_method_names};
 
 use crate::action::Action;
 use crate::check::first_fault;
@@ -33,10 +34,11 @@ use crate::intern::sections::top_in;
 use crate::method::Method;
 use crate::names::Names;
 use crate::tables::Tables;
+use crate::tables::words::predicate_words;
 use crate::task::Task;
 use crate::types::Types;
 use crate::world::World;
-use hv_syntax::{ActionText, DomainText, MethodText, ProblemText, TaskText};
+use hv_syntax::{ActionText, DomainText, MethodText, PredicateText, ProblemText, TaskText};
 use hv_text::{Memory, Name};
 use std::alloc::Global;
 
@@ -96,6 +98,39 @@ fn method_names<'s>(alloc: Global, methods: &[MethodText<'s>]) -> Result<Names<'
     Names::of(alloc, &words)
 }
 
+// The places of the names of predicates.
+fn predicate_places<'s>(
+    alloc: Global,
+    predicates: &[PredicateText<'s>],
+) -> Result<Names<'s>, Memory>
+    ensures { IfOk result (λ t. places_by t ≡ place_in (names (predicate_words (map said_predicate predicates.now)))) }
+{
+    let words = predicate_words(alloc, predicates)?;
+    Names::of(alloc, &words)
+}
+
+// Which objects are of which type, and the names of the predicates.
+#[derive(Drop)]
+struct Kinds<'s> {
+    typing: Types,
+    predicates: Vec<Name<'s>>,
+}
+
+fn kinds_in<'s>(
+    alloc: Global,
+    tables: &Tables<'s>,
+    domain: &DomainText<'s>,
+    problem: &ProblemText<'s>,
+) -> Result<Kinds<'s>, Memory>
+    requires { IsInRange (typing_by (known_by tables.now) (domain_view domain.now) (problem_view problem.now)) }
+    ensures typing { IfOk result (λ k. k.typing ≡ typing_by (known_by tables.now) (domain_view domain.now) (problem_view problem.now)) }
+    ensures predicates { IfOk result (λ k. map text_of k.predicates.items ≡ map (λ q. q.name.text) (domain_view domain.now).predicates) }
+{
+    let typing = typing_in(alloc, tables, domain, problem)?;
+    let predicates = predicate_names(alloc, domain.predicates())?;
+    Ok(Kinds { typing, predicates })
+}
+
 // What the sections of a domain say, by number.
 #[derive(Drop)]
 struct Sections<'s> {
@@ -148,23 +183,55 @@ fn start_in<'s>(
     Ok(Start { init, goal, top })
 }
 
-// Where the names of the tasks, actions and methods of a domain stand.
+// What a domain and a problem say, by number.
+#[derive(Drop)]
+struct Parts<'s> {
+    kinds: Kinds<'s>,
+    sections: Sections<'s>,
+    start: Start<'s>,
+}
+
+fn parts_in<'s>(
+    alloc: Global,
+    tables: &Tables<'s>,
+    domain: &DomainText<'s>,
+    problem: &ProblemText<'s>,
+) -> Result<Parts<'s>, Memory>
+    requires known { known_by tables.now ≡ known_in (domain_view domain.now) (problem_view problem.now) }
+    requires sound { IsStatic (domain_view domain.now) (problem_view problem.now) }
+    ensures { IfOk result (λ p. world_of_parts tables.now p ≡ world_by (known_by tables.now) (domain_view domain.now) (problem_view problem.now)) }
+{
+    let kinds = kinds_in(alloc, tables, domain, problem)?;
+    let sections = sections_in(alloc, tables, domain)?;
+    let start = start_in(alloc, tables, problem)?;
+    Ok(Parts {
+        kinds,
+        sections,
+        start,
+    })
+}
+
+// Where the names of the predicates, tasks, actions and methods of a domain stand.
 #[derive(Drop)]
 struct Places<'s> {
+    predicates: Names<'s>,
     tasks: Names<'s>,
     actions: Names<'s>,
     methods: Names<'s>,
 }
 
 fn places_of<'s>(alloc: Global, domain: &DomainText<'s>) -> Result<Places<'s>, Memory>
+    ensures predicates { IfOk result (λ p. places_by p.predicates ≡ place_in (names (predicate_words (domain_view domain.now).predicates))) }
     ensures tasks { IfOk result (λ p. places_by p.tasks ≡ place_in (said_task_names (domain_view domain.now).tasks)) }
     ensures actions { IfOk result (λ p. places_by p.actions ≡ place_in (said_action_names (domain_view domain.now).actions)) }
     ensures methods { IfOk result (λ p. places_by p.methods ≡ place_in (said_method_names (domain_view domain.now).methods)) }
 {
+    let predicates = predicate_places(alloc, domain.predicates())?;
     let tasks = task_names(alloc, domain.tasks())?;
     let actions = action_names(alloc, domain.actions())?;
     let methods = method_names(alloc, domain.methods())?;
     Ok(Places {
+        predicates,
         tasks,
         actions,
         methods,
@@ -186,7 +253,7 @@ impl<'s> World<'s> {
         ensures world { IfOk result (λ w. world_view w ≡ world_of (domain_view domain.now) (problem_view problem.now)) }
         ensures sound { IfOk result (λ _. IsStatic (domain_view domain.now) (problem_view problem.now)) }
         ensures bound { IfOk result (λ w. IsBound (world_view w)) }
-        ensures err { IfErr result (λ f. (f ≡ memory_fault) ⊎ IsFirstFault (domain_view domain.now) (problem_view problem.now) f) }
+        ensures err { IfErr result (λ f. (f ≡ memory_fault) ⊎ (first_fault (domain_view domain.now) (problem_view problem.now) ≡ Some f)) }
     {
         let tables = Tables::of(alloc, domain, problem)?;
         match first_fault(alloc, &tables, domain, problem)? {
@@ -210,39 +277,32 @@ impl<'s> World<'s> {
         requires sound { IsStatic (domain_view domain.now) (problem_view problem.now) }
         ensures { IfOk result (λ w. world_view w ≡ world_of (domain_view domain.now) (problem_view problem.now)) }
     {
-        let typing = typing_in(alloc, &tables, domain, problem)?;
-        let predicates = predicate_names(alloc, domain.predicates())?;
-        let sections = sections_in(alloc, &tables, domain)?;
-        let start = start_in(alloc, &tables, problem)?;
+        let parts = parts_in(alloc, &tables, domain, problem)?;
         let places = places_of(alloc, domain)?;
-        Ok(World::of_parts(tables, typing, predicates, sections, start, places))
+        Ok(World::of_parts(tables, parts, places))
     }
 
     // The world of its parts.
-    fn of_parts(
-        tables: Tables<'s>,
-        typing: Types,
-        predicates: Vec<Name<'s>>,
-        sections: Sections<'s>,
-        start: Start<'s>,
-        places: Places<'s>,
-    ) -> World<'s>
-        requires tasks { (n : List ℕ) → places_by places.tasks n ≡ place_in (task_names (map task_view sections.tasks.items)) n }
-        requires actions { (n : List ℕ) → places_by places.actions n ≡ place_in (action_names (map action_view sections.actions.items)) n }
-        requires methods { (n : List ℕ) → places_by places.methods n ≡ place_in (method_names (map method_view sections.methods.items)) n }
-        ensures { world_view result ≡ world_of_parts tables.entry typing predicates.entry.items sections.entry start.entry }
+    fn of_parts(tables: Tables<'s>, parts: Parts<'s>, places: Places<'s>) -> World<'s>
+        requires sound { IsSound (world_of_parts tables parts) }
+        requires predicates { (n : List ℕ) → places_by places.predicates n ≡ place_in (world_of_parts tables parts).predicates n }
+        requires tasks { (n : List ℕ) → places_by places.tasks n ≡ place_in (task_names (world_of_parts tables parts).tasks) n }
+        requires actions { (n : List ℕ) → places_by places.actions n ≡ place_in (action_names (world_of_parts tables parts).actions) n }
+        requires methods { (n : List ℕ) → places_by places.methods n ≡ place_in (method_names (world_of_parts tables parts).methods) n }
+        ensures { world_view result ≡ world_of_parts tables.entry parts.entry }
     {
         World {
             types: tables.types,
             objects: tables.objects,
-            typing,
-            predicates,
-            tasks: sections.tasks,
-            methods: sections.methods,
-            actions: sections.actions,
-            init: start.init,
-            goal: start.goal,
-            top: start.top,
+            typing: parts.kinds.typing,
+            predicates: parts.kinds.predicates,
+            tasks: parts.sections.tasks,
+            methods: parts.sections.methods,
+            actions: parts.sections.actions,
+            init: parts.start.init,
+            goal: parts.start.goal,
+            top: parts.start.top,
+            predicate_names: places.predicates,
             task_names: places.tasks,
             action_names: places.actions,
             method_names: places.methods,

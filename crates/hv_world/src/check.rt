@@ -1,10 +1,10 @@
 //! The first static fault of a domain and a problem.
 
-ghost use Rattle.std.specs.Prelude.{◌≡◌, IfOk, MatchOption};
+ghost use Rattle.std.specs.Prelude.{◌≡◌, Some, IfOk, MatchOption};
 ghost use Rattle.hv_syntax.specs.DomainViews.{domain_view};
 ghost use Rattle.hv_syntax.specs.ProblemViews.{problem_view};
 ghost use Rattle.hv_world.specs.Known.{known_in};
-ghost use Rattle.hv_world.specs.StaticRules.{IsStatic, IsFirstFault};
+ghost use Rattle.hv_world.specs.StaticRules.{IsStatic, first_fault};
 ghost use Rattle.hv_world.specs.Tables.{known_by};
 
 mod formulas;
@@ -34,7 +34,7 @@ pub(crate) fn first_fault<'s>(
     problem: &ProblemText<'s>,
 ) -> Result<Option<StaticFault>, Memory>
     requires { known_by tables.now ≡ known_in (domain_view domain.now) (problem_view problem.now) }
-    ensures { IfOk result (λ o. MatchOption o (IsStatic (domain_view domain.now) (problem_view problem.now)) (IsFirstFault (domain_view domain.now) (problem_view problem.now))) }
+    ensures { IfOk result (λ o. MatchOption o (IsStatic (domain_view domain.now) (problem_view problem.now)) (λ f. first_fault (domain_view domain.now) (problem_view problem.now) ≡ Some f)) }
 {
     if let Some(fault) = domain_fault(alloc, tables, domain)? {
         return Ok(Some(fault));

@@ -22,9 +22,9 @@ pub struct Atom {
 pub enum Formula {
     /// The atom is true.
     Holds(Atom),
-    /// All of these hold; none of them is always true.
+    /// All of these hold; where there are none, it is true.
     And(Vec<Formula>),
-    /// One of these holds; none of them is never true.
+    /// One of these holds; where there are none, it is false.
     Or(Vec<Formula>),
     /// This one does not hold.
     Not(Box<Formula>),

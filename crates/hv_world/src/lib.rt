@@ -9,6 +9,7 @@ mod build;
 mod check;
 mod fault;
 mod formula;
+mod grounding;
 mod id;
 mod intern;
 mod labels;
@@ -29,11 +30,15 @@ pub use alike::{
     classes_are_counted, fixed_positions_are_found, free_parameters_are_found,
     instances_keep_their_key, keys_tell_classes,
 };
-pub use binding::{Binding, GroundAction};
+pub use binding::Binding;
 pub use fault::{Side, StaticFault, StaticKind};
 pub use formula::{Atom, Constraint, Formula, Literal, Subtask, Term};
+pub use grounding::{GroundAction, GroundActions};
 pub use id::{ActionId, MethodId, ObjectId, PredicateId, TaskId, TaskName, TypeId};
-pub use laws::cycles_are_found;
+pub use laws::{
+    a_world_or_a_fault, cycles_are_found, names_are_found, orders_are_decided,
+    static_worlds_are_bound, types_are_decided,
+};
 pub use method::Method;
 pub use network::Network;
 pub use order::Order;

@@ -1,18 +1,14 @@
 //! The order of a network's subtasks.
 
-mod closure;
 mod earlier;
-mod subset;
 mod walk;
 
-ghost use Rattle.std.specs.Prelude.{◌≡◌, ℕ, ◌<◌, ◌≤◌, ◌↔◌, true, false, All, IfOk, IsTrue, MatchBool, MatchOption, length, slice_index, slice_index_or};
+ghost use Rattle.std.specs.Prelude.{◌≡◌, ℕ, ◌<◌, ◌≤◌, ◌⊎◌, true, false, All, IfOk, MatchBool, MatchOption, length, slice_index, slice_index_or};
 
-use closure::all_before;
 use earlier::earlier_lists;
 use hv_text::Memory;
 use std::alloc::{AllocError, Global};
 use std::marker::Model;
-use subset::Subset;
 use walk::row_of;
 
 /// The order of a network's subtasks. The subtasks are numbered from 0 as they are written, and
@@ -30,9 +26,8 @@ pub struct Order {
 enum Links {
     /// Each subtask comes before those written after it.
     AsWritten,
-    /// The pairs alone order the subtasks. For each of them: those that a pair puts before it, and
-    /// the set of all that come before it.
-    Pairs(Vec<Vec<usize>>, Vec<Subset>),
+    /// The pairs alone order the subtasks. For each of them: those that a pair puts before it.
+    Pairs(Vec<Vec<usize>>),
 }
 
 impl Model for Order {
@@ -48,8 +43,7 @@ impl Model for Order {
 }
 
 ghost use Rattle.hv_world.specs.Orders.{written, Before, IsCyclic, IsArrangement, AreDirect};
-ghost use Rattle.hv_world.specs.OrderSubsets.{Has};
-ghost use Rattle.hv_world.specs.OrderWalks.{list_at, lists_of, words_at, words_of};
+ghost use Rattle.hv_world.specs.OrderWalks.{list_at, lists_of};
 
 /// Whether each pair goes on to a subtask written later.
 fn all_go_on(pairs: &[(usize, usize)]) -> bool
@@ -73,16 +67,6 @@ fn numbers(alloc: Global, len: usize) -> Result<Vec<usize>, AllocError>
         numbers.push(number)?;
     }
     Ok(numbers)
-}
-
-/// Whether a subtask is in the set of another; there is none past the end.
-fn is_in(subsets: &[Subset], earlier: usize, later: usize) -> bool
-    ensures { IsTrue result ↔ Has (words_at (words_of subsets.now) later) earlier }
-{
-    match subsets.get(later) {
-        Some(subset) => subset.contains(earlier),
-        None => false,
-    }
 }
 
 /// What is listed for a subtask; there is nothing past the end.
@@ -129,21 +113,17 @@ fn by_pairs(
     let Some(arrangement) = row_of(alloc, &direct)? else {
         return Ok(None);
     };
-    let subsets = all_before(alloc, &direct, &arrangement)?;
     Ok(Some(Order {
         len,
         pairs,
         arrangement,
-        links: Links::Pairs(direct, subsets),
+        links: Links::Pairs(direct),
     }))
 }
 
 impl Order {
-    /// The order that is written; None where a subtask comes before itself.
-    ///
-    /// The ordered form takes time and memory in proportion to the subtasks and the pairs. Otherwise
-    /// a pair takes time in proportion to the subtasks, 64 of them at once, and a subtask behind
-    /// others takes a bit of memory for each number up to the highest of these.
+    /// The order that is written; None where a subtask comes before itself. It takes time and memory
+    /// in proportion to the subtasks and the pairs.
     pub(crate) fn new(
         alloc: Global,
         len: usize,
@@ -161,25 +141,16 @@ impl Order {
         Ok(order)
     }
 
-    /// Whether one subtask comes before another; a number that no subtask has comes before none.
-    pub fn before(&self, earlier: usize, later: usize) -> bool
-        ensures before { IsTrue result ↔ Before self.now earlier later }
-        ensures acyclic { IsCyclic self.now → ⊥ }
-    {
-        match &self.links {
-            Links::AsWritten => earlier < later && later < self.len,
-            Links::Pairs(_, subsets) => is_in(subsets, earlier, later),
-        }
-    }
-
-    /// The subtasks in a row that their order allows, each once.
+    /// The subtasks in a row that their order allows, each once; none comes before itself.
     pub fn arrangement(&self) -> &[usize]
-        ensures { IsArrangement self.now result.now }
+        ensures row { IsArrangement self.now result.now }
+        ensures acyclic { IsCyclic self.now → ⊥ }
     {
         &self.arrangement
     }
 
-    /// The subtasks directly before one: all others that come before it come before one of these.
+    /// The subtasks directly before one: in the ordered form the one in front of it, and otherwise
+    /// those that a pair puts before it. All others that come before it come before one of these.
     pub fn directly_before(&self, later: usize) -> &[usize]
         ensures { AreDirect self.now later result.now }
     {
@@ -189,7 +160,31 @@ impl Order {
                 &self.arrangement[front..later]
             }
             Links::AsWritten => &self.arrangement[..0],
-            Links::Pairs(direct, _) => list_of(direct, later),
+            Links::Pairs(direct) => list_of(direct, later),
         }
+    }
+
+    /// Whether the form orders the subtasks as they are written.
+    pub fn is_ordered(&self) -> bool
+        ensures { result ≡ self.now.is_ordered }
+    {
+        match self.links {
+            Links::AsWritten => true,
+            Links::Pairs(_) => false,
+        }
+    }
+
+    /// The pairs, as written: the first comes before the second.
+    pub fn pairs(&self) -> &[(usize, usize)]
+        ensures { result.now ≡ self.now.pairs }
+    {
+        &self.pairs
+    }
+
+    /// A law of the value: whether one subtask comes before another is decided.
+    pub fn is_decided(&self)
+        ensures { (i j : ℕ) → Before self.now i j ⊎ (Before self.now i j → ⊥) }
+    {
+        let _len = self.len;
     }
 }

@@ -1,12 +1,13 @@
 //! What a domain and a problem declare.
 
-ghost use Rattle.std.specs.Prelude.{◌≡◌, map, option_map, IfOk};
+ghost use Rattle.std.specs.Prelude.{◌≡◌, length, map, option_map, IfOk};
 ghost use Rattle.hv_text.specs.Names.{text_of};
+ghost use Rattle.hv_syntax.specs.DeclarationViews.{predicate_view};
 ghost use Rattle.hv_syntax.specs.DomainViews.{domain_view};
 ghost use Rattle.hv_syntax.specs.ProblemViews.{problem_view};
-ghost use Rattle.hv_world.specs.Names.{is_among, number_in};
-ghost use Rattle.hv_world.specs.Known.{known_in};
-ghost use Rattle.hv_world.specs.Tables.{known_by, signature_view, declaration_view};
+ghost use Rattle.hv_world.specs.Names.{names, place_in, is_among, number_in};
+ghost use Rattle.hv_world.specs.Known.{known_in, predicate_words, declared_words, declarations};
+ghost use Rattle.hv_world.specs.Tables.{known_by, places_by, signature_view, declaration_view};
 
 pub(crate) mod sections;
 mod sight;
@@ -18,7 +19,7 @@ use crate::seed::Seeded;
 use crate::tables::sections::declarations;
 use crate::tables::sight::{object_names, type_names};
 use crate::tables::words::{arities, declared_words, predicate_words};
-use hv_syntax::{DomainText, Placed, ProblemText};
+use hv_syntax::{DomainText, Placed, PredicateText, ProblemText};
 use hv_text::{Memory, Name};
 use indexmap::IndexSet;
 use std::alloc::Global;
@@ -40,15 +41,52 @@ pub(crate) struct Declared<'s> {
     pub start: u32,
 }
 
+/// The predicates: where the name of each stands first, and how many terms each takes.
+#[derive(Drop)]
+pub(crate) struct PredicateTable<'s> {
+    pub places: Names<'s>,
+    pub arities: Vec<usize>,
+}
+
+/// The tasks and actions in the order of the text, and where the name of each stands first.
+#[derive(Drop)]
+pub(crate) struct TaskTable<'s> {
+    pub places: Names<'s>,
+    pub list: Vec<Declared<'s>>,
+}
+
 /// What names are declared; of several declarations of a name the first counts.
 #[derive(Drop)]
 pub(crate) struct Tables<'s> {
     pub types: IndexSet<Name<'s>, Seeded>,
     pub objects: IndexSet<Name<'s>, Seeded>,
-    pub predicates: Names<'s>,
-    pub arities: Vec<usize>,
-    pub tasks: Names<'s>,
-    pub declared: Vec<Declared<'s>>,
+    pub predicates: PredicateTable<'s>,
+    pub tasks: TaskTable<'s>,
+}
+
+// The table of predicates.
+fn predicate_table<'s>(
+    alloc: Global,
+    predicates: &[PredicateText<'s>],
+) -> Result<PredicateTable<'s>, Memory>
+    ensures places { IfOk result (λ t. places_by t.places ≡ place_in (names (predicate_words (map predicate_view predicates.now)))) }
+    ensures arities { IfOk result (λ t. t.arities.items ≡ map (λ q. length q.parameters) (map predicate_view predicates.now)) }
+{
+    let words = predicate_words(alloc, predicates)?;
+    let places = Names::of(alloc, &words)?;
+    let arities = arities(alloc, predicates)?;
+    Ok(PredicateTable { places, arities })
+}
+
+// The table of tasks and actions.
+fn task_table<'s>(alloc: Global, domain: &DomainText<'s>) -> Result<TaskTable<'s>, Memory>
+    ensures places { IfOk result (λ t. places_by t.places ≡ place_in (names (declared_words (declarations (domain_view domain.now))))) }
+    ensures list { IfOk result (λ t. map declaration_view t.list.items ≡ declarations (domain_view domain.now)) }
+{
+    let list = declarations(alloc, domain)?;
+    let words = declared_words(alloc, &list)?;
+    let places = Names::of(alloc, &words)?;
+    Ok(TaskTable { places, list })
 }
 
 impl<'s> Tables<'s> {
@@ -66,19 +104,13 @@ impl<'s> Tables<'s> {
     {
         let types = type_names(alloc, domain.types())?;
         let objects = object_names(alloc, domain.constants(), problem.objects())?;
-        let predicate_words = predicate_words(alloc, domain.predicates())?;
-        let predicates = Names::of(alloc, &predicate_words)?;
-        let arities = arities(alloc, domain.predicates())?;
-        let declared = declarations(alloc, domain)?;
-        let task_words = declared_words(alloc, &declared)?;
-        let tasks = Names::of(alloc, &task_words)?;
+        let predicates = predicate_table(alloc, domain.predicates())?;
+        let tasks = task_table(alloc, domain)?;
         Ok(Tables {
             types,
             objects,
             predicates,
-            arities,
             tasks,
-            declared,
         })
     }
 
@@ -120,8 +152,8 @@ impl<'s> Tables<'s> {
     pub(crate) fn predicate(&self, name: Name<'s>) -> Option<Signature>
         ensures { option_map signature_view result ≡ (known_by self.now).predicate (text_of name.entry) }
     {
-        let place = self.predicates.place(name)?;
-        let arity = self.arities.get(place)?;
+        let place = self.predicates.places.place(name)?;
+        let arity = self.predicates.arities.get(place)?;
         Some(Signature {
             predicate: PredicateId(place),
             arity: *arity,
@@ -132,8 +164,8 @@ impl<'s> Tables<'s> {
     pub(crate) fn task(&self, name: Name<'s>) -> Option<Declared<'s>>
         ensures { option_map declaration_view result ≡ (known_by self.now).task (text_of name.entry) }
     {
-        let place = self.tasks.place(name)?;
-        let declared = self.declared.get(place)?;
+        let place = self.tasks.places.place(name)?;
+        let declared = self.tasks.list.get(place)?;
         Some(*declared)
     }
 }

@@ -9,11 +9,13 @@ ghost use Rattle.hv_world.specs.Bindings.{object_number, ground_action, ground_a
 ghost use Rattle.hv_world.specs.Groundings.{AreOf, IsGrounding};
 ghost use Rattle.hv_world.specs.MethodViews.{method_view};
 ghost use Rattle.hv_world.specs.Worlds as worlds;
+ghost use Rattle.hv_world.specs.Bounds.{IsSound};
 ghost use Rattle.hv_world.specs.SectionViews.{task_view, action_view};
+ghost use Rattle.hv_world.specs.WorldParts.{world_from};
 
 use crate::action::Action;
-use crate::binding::GroundAction;
 use crate::formula::{Atom, Formula};
+use crate::grounding::GroundAction;
 use crate::id::{ActionId, MethodId, ObjectId, PredicateId, TaskId, TaskName, TypeId};
 use crate::method::Method;
 use crate::names::Names;
@@ -36,9 +38,12 @@ pub struct World<'s> {
     pub(crate) init: Vec<Atom>,
     pub(crate) goal: Option<Formula>,
     pub(crate) top: Method<'s>,
+    pub(crate) predicate_names: Names<'s>,
     pub(crate) task_names: Names<'s>,
     pub(crate) action_names: Names<'s>,
     pub(crate) method_names: Names<'s>,
+    pub ghost sound: { IsSound (world_from types.keys objects.keys typing predicates.items tasks.items methods.items actions.items init.items goal top) },
+    pub ghost of_predicates: { (n : List ℕ) → places_by predicate_names n ≡ place_in (map text_of predicates.items) n },
     pub ghost of_tasks: { (n : List ℕ) → places_by task_names n ≡ place_in (worlds.task_names (map task_view tasks.items)) n },
     pub ghost of_actions: { (n : List ℕ) → places_by action_names n ≡ place_in (worlds.action_names (map action_view actions.items)) n },
     pub ghost of_methods: { (n : List ℕ) → places_by method_names n ≡ place_in (worlds.method_names (map method_view methods.items)) n },
@@ -46,7 +51,7 @@ pub struct World<'s> {
 
 impl<'s> World<'s> {
     ghost use Rattle.hv_world.specs.Types.{Of, object_numbers};
-    ghost use Rattle.hv_world.specs.Lists.{Once};
+    ghost use Rattle.hv_text.specs.Lists.{Once};
     ghost use Rattle.std.specs.List.{Contains};
     ghost use Rattle.std.specs.List.Sorted.{IsStrictlyIncreasing};
     ghost use Rattle.hv_world.specs.Worlds.{task_named, method_named};
@@ -110,8 +115,8 @@ impl<'s> World<'s> {
         self.actions.get(action.0)
     }
 
-    // Whether these are as many objects as types, and each is of its type.
-    fn are_of(&self, objects: &[ObjectId], types: &[TypeId]) -> bool
+    /// Whether these are as many objects as types, and each is of its type.
+    pub fn are_of(&self, objects: &[ObjectId], types: &[TypeId]) -> bool
         ensures { IsTrue result ↔ AreOf (world_view self.now).typing (map object_number objects.now) (map type_number types.now) }
     {
         let mut left = types;
@@ -131,12 +136,12 @@ impl<'s> World<'s> {
 
     /// An action of the world with objects for its parameters. None where the world has no action
     /// of the number, the objects are not as many as its parameters, or one is not of the type of
-    /// its parameter; the objects are given up then.
-    pub fn ground(&self, action: ActionId, objects: Vec<ObjectId>) -> Option<GroundAction>
-        ensures { MatchOption result (IsGrounding (world_view self.now) (ground_action action.0 (map object_number objects.items)) → ⊥) (λ g. (ground_action_view g ≡ ground_action action.0 (map object_number objects.items)) × IsGrounding (world_view self.now) (ground_action_view g)) }
+    /// its parameter.
+    pub fn ground<'a>(&self, action: ActionId, objects: &'a [ObjectId]) -> Option<GroundAction<'a>>
+        ensures { MatchOption result (IsGrounding (world_view self.now) (ground_action action.0 (map object_number objects.now)) → ⊥) (λ g. (ground_action_view g ≡ ground_action action.0 (map object_number objects.now)) × IsGrounding (world_view self.now) (ground_action_view g)) }
     {
         let declared = self.action(action)?;
-        if self.are_of(&objects, declared.parameters()) {
+        if self.are_of(objects, declared.parameters()) {
             Some(GroundAction { action, objects })
         } else {
             None
@@ -205,6 +210,16 @@ impl<'s> World<'s> {
         }
     }
 
+    /// The predicate of a name.
+    pub fn predicate_named(&self, name: Name<'s>) -> Option<PredicateId>
+        ensures { option_map (λ p. p.0) result ≡ place_in (world_view self.now).predicates (text_of name.entry) }
+    {
+        match self.predicate_names.place(name) {
+            Some(place) => Some(PredicateId(place)),
+            None => None,
+        }
+    }
+
     /// The task or the action of a name.
     pub fn task_named(&self, name: Name<'s>) -> Option<TaskName>
         ensures { option_map name_view result ≡ task_named (world_view self.now) (text_of name.entry) }
@@ -227,4 +242,9 @@ impl<'s> World<'s> {
             None => None,
         }
     }
+
+    /// A law of the value: each kind of name stands once, and orders are those of their subtasks.
+    pub fn is_sound(&self)
+        ensures { IsSound (world_view self.now) }
+    {}
 }

@@ -12,6 +12,7 @@ invariant_of-result c =
     let on = subst (All (λ (p : ℕ × ℕ). p.0 < p.1)) c.deref.ensures.value c.if-not-all_go_on.ensures in
     let row = c.in_ok-arrangement.arrangement.items in
     record {
+      pairs = c.requires;
       acyclic = none_cyclic c.args.len c.args.pairs.items c.requires on;
       arrangement = row_as_written c.args.len c.args.pairs.items c.requires on row c.in_ok-arrangement.ensures.count c.in_ok-arrangement.ensures.each;
       links = as_written c.args.len c.args.pairs.items c.requires on row c.in_ok-arrangement.ensures.count c.in_ok-arrangement.ensures.each;

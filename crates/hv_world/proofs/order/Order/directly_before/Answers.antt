@@ -15,4 +15,4 @@ pub returns-in-Pairs : goal.returns-in-Pairs
 returns-in-Pairs c =
     let a = c.self.inside in
     let links = subst (AreLinks (written_of a) a.arrangement.items) c.in-Pairs.is c.self.invariant.links in
-    rw (← c.self.view_is, c.list_of.ensures) (subst (λ xs. AreDirect (written_of a) c.args.later (list_at (lists_of xs) c.args.later)) (sym c.deref-in-Pairs.ensures.value) (listed_direct (written_of a) (lists_of c.in-Pairs.direct.items) c.args.later links.0))
+    rw (← c.self.view_is, c.list_of.ensures) (subst (λ xs. AreDirect (written_of a) c.args.later (list_at (lists_of xs) c.args.later)) (sym c.deref-in-Pairs.ensures.value) (listed_direct (written_of a) (lists_of c.in-Pairs.direct.items) c.args.later links.0 links.1))

@@ -1,10 +1,10 @@
-use Rattle.std.proofs.Common.{inl, sym, subst}
+use Rattle.std.proofs.Common.{◌≡◌, Some, inl, sym, subst}
 use Rattle.std.specs.Prelude.{MatchOption}
 use Rattle.std.proofs.lemmas.Result.{err_from_is_err_and}
 use Rattle.hv_syntax.specs.DomainViews.{domain_view}
 use Rattle.hv_syntax.specs.ProblemViews.{problem_view}
 use Rattle.hv_world.specs.Bounds.{IsBound}
-use Rattle.hv_world.specs.StaticRules.{IsStatic, IsFirstFault}
+use Rattle.hv_world.specs.StaticRules.{IsStatic, first_fault}
 use Rattle.hv_world.proofs.BoundWorlds.{world_bound}
 use Rattle.hv_world.proofs.world.World.build.Goals as goal
 
@@ -18,5 +18,5 @@ pub returns-clause-bound : goal.returns-clause-bound
 returns-clause-bound c =
     let d = domain_view c.args.domain.now in
     let p = problem_view c.args.problem.now in
-    let sound : IsStatic d p = subst (λ o. MatchOption o (IsStatic d p) (IsFirstFault d p)) c.in-None.is c.in_ok-fault.ensures in
+    let sound : IsStatic d p = subst (λ o. MatchOption o (IsStatic d p) (λ f. first_fault d p ≡ Some f)) c.in-None.is c.in_ok-fault.ensures in
     subst IsBound (sym c.in_ok-of_tables-in-None.ensures) (world_bound d p sound)

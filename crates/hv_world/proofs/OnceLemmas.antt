@@ -1,0 +1,118 @@
+-- Names that stand once, and where a look-up finds them.
+use Rattle.std.proofs.Common.{◌≡◌, ◌≢◌, ℕ, zero, suc, ◌<◌, Bool, true, false, ◌||◌, List, [], ◌∷◌, ◌++◌, map, length, get_or, Option, Some, option_map, bytes_eq, codes, if◌then◌else◌, All, refl, ap, sym, subst, ◌∙◌, arith, true≢false}
+use Rattle.std.specs.List.{slice_get, flat_map}
+use Rattle.std.specs.Cmp.Lexicographic.{bytes_decides}
+use Rattle.std.proofs.lemmas.List.Elements.{All-cons, All-nil, All-map, All-weaker}
+use Rattle.std.proofs.lemmas.List.{length-map}
+use Rattle.std.proofs.lemmas.List.Kept.{AllPairs-cons}
+use Rattle.std.proofs.lemmas.Option.{get_or_from_slice_get, slice_get_within}
+use Rattle.std.proofs.lemmas.List.Quantifiers.{all_pairs_push}
+use Rattle.hv_text.specs.Lists.{Once}
+use Rattle.hv_syntax.specs.Values.{WordAt, Domain, Problem}
+use Rattle.hv_syntax.specs.Values as text
+use Rattle.hv_world.specs.declared.fault.StaticKind.{StaticKind}
+use Rattle.hv_world.specs.declared.fault.StaticKind.TheVariants as kinds
+use Rattle.hv_world.specs.declared.fault.Side.{Side}
+use Rattle.hv_world.specs.declared.fault.Side.TheVariants as sides
+use Rattle.hv_world.specs.Bounds.{AreNamedOnce, IsSoundNetwork, IsSound}
+use Rattle.hv_world.specs.Faults.{faults_at}
+use Rattle.hv_world.specs.Known.{Known, known_in, predicate_words, variables, both_types}
+use Rattle.hv_world.specs.Names.{names, is_among, place_in, with_names, repeated_after}
+use Rattle.hv_world.specs.Networks.{written_by, IsArrangeable}
+use Rattle.hv_world.specs.Scopes.{Scope, parameters}
+use Rattle.hv_world.specs.StaticRules.{IsStatic, method_words}
+use Rattle.hv_world.specs.Worlds.{world_of, said_method_names, network_in, method_in, task_in}
+use Rattle.hv_world.proofs.BuildLemmas.{predicates_named, methods_named}
+use Rattle.hv_world.proofs.NameLemmas.{same_name}
+use Rattle.hv_world.proofs.StaticLemmas.{first_none, last_none, among_append, methods_arrangeable, top_arrangeable, typing_in_range}
+
+pub once_none : {X : Type 0} → Once {X = X} []
+once_none i j d lt within = absurd (omega arith)
+
+or_false : (a b : Bool) → (a || b) ≡ false → (a ≡ false) × (b ≡ false)
+or_false true b e = absurd (true≢false e)
+or_false false b e = (refl, e)
+
+other_name : (n m : List ℕ) → bytes_eq n m ≡ false → m ≢ n
+other_name n m e same = absurd (true≢false (sym ((bytes_decides n m).1 (sym same)) ∙ e))
+
+not_among : (xs : List (List ℕ)) (n : List ℕ) → is_among xs n ≡ false → (k : ℕ) (d : List ℕ) → k < length xs → get_or xs k d ≢ n
+not_among [] n e k d lt = absurd (omega arith)
+not_among (x ∷ xs) n e zero d lt = other_name n x (or_false (bytes_eq n x) (is_among xs n) e).0
+not_among (x ∷ xs) n e (suc k) d lt = not_among xs n (or_false (bytes_eq n x) (is_among xs n) e).1 k d (omega arith)
+
+-- names by first sight
+pub with_once : (seen ns : List (List ℕ)) → Once seen → Once (with_names seen ns)
+with_once seen [] once = once
+with_once seen (n ∷ ns) once = with_once (if is_among seen n then seen else seen ++ n ∷ []) ns (noted (is_among seen n) refl) where
+  noted : (b : Bool) → is_among seen n ≡ b → Once (if b then seen else seen ++ n ∷ [])
+  noted true e = once
+  noted false e = all_pairs_push ◌≢◌ seen n once (not_among seen n e)
+
+-- words of which none repeats a name before it
+pub once_of : (before : List (List ℕ)) (ws : List WordAt) → repeated_after before ws ≡ [] → All (λ n. is_among before n ≡ false) (names ws) × Once (names ws)
+once_of before [] e = (All-nil (λ n. is_among before n ≡ false), once_none)
+once_of before (w ∷ ws) e = by (is_among before w.text) refl (once_of (before ++ w.text ∷ []) ws) e where
+  by : (b : Bool) → is_among before w.text ≡ b
+      → (repeated_after (before ++ w.text ∷ []) ws ≡ [] → All (λ n. is_among (before ++ w.text ∷ []) n ≡ false) (names ws) × Once (names ws))
+      → (if b then w ∷ repeated_after (before ++ w.text ∷ []) ws else repeated_after (before ++ w.text ∷ []) ws) ≡ []
+      → All (λ n. is_among before n ≡ false) (names (w ∷ ws)) × Once (names (w ∷ ws))
+  by true f again g = absurd (cc)
+  by false f again g =
+      let rest = again g in
+      let both : (n : List ℕ) → is_among (before ++ w.text ∷ []) n ≡ false → (is_among before n ≡ false) × (is_among (w.text ∷ []) n ≡ false) =
+      λ n h. or_false (is_among before n) (is_among (w.text ∷ []) n) (sym (among_append before (w.text ∷ []) n) ∙ h) in (
+        All-cons (λ n. is_among before n ≡ false) w.text (names ws) f (All-weaker (λ n. is_among (before ++ w.text ∷ []) n ≡ false) (λ n. is_among before n ≡ false) (λ n h. (both n h).0) (names ws) rest.0),
+        AllPairs-cons ◌≢◌ w.text (names ws)
+            (All-weaker (λ n. is_among (before ++ w.text ∷ []) n ≡ false) (λ n. w.text ≢ n) (λ n h. other_name n w.text (or_false (bytes_eq n w.text) false (both n h).1).0) (names ws) rest.0) rest.1,
+      )
+
+no_words : (k : StaticKind) (s : Side) (ws : List WordAt) → faults_at k s ws ≡ [] → ws ≡ []
+no_words k s [] e = refl
+no_words k s (w ∷ ws) e = absurd (cc)
+
+methods_of : (ms : List text.Method) → names (method_words ms) ≡ said_method_names ms
+methods_of [] = refl
+methods_of (m ∷ ms) = ap (λ ns. m.name.text ∷ ns) (methods_of ms)
+
+pub world_named : (d : Domain) (p : Problem) → IsStatic d p → AreNamedOnce (world_of d p)
+world_named d p static =
+    let three = first_none _ _ (first_none _ _ static.of_domain) in
+    let repeats = first_none _ _ (first_none _ _ (first_none _ _ three)) in
+    let predicates = no_words kinds.DuplicateName sides.Domain _ (first_none _ _ repeats) in
+    let methods = no_words kinds.DuplicateName sides.Domain _ (last_none _ _ repeats) in
+    record {
+      types = with_once [] (codes "object" ∷ flat_map both_types d.types) once_none;
+      objects = with_once [] (variables (d.constants ++ p.objects)) once_none;
+      predicates = subst Once (predicates_named d.predicates) (once_of [] (predicate_words d.predicates) predicates).1;
+      methods = subst Once (methods_of d.methods ∙ sym (methods_named (known_in d p) d.methods)) (once_of [] (method_words d.methods) methods).1;
+    }
+
+network_sound : (k : Known) (scope : Scope) (n : text.Network) → IsArrangeable (written_by n) → IsSoundNetwork (network_in k scope n)
+network_sound k scope n sound = record { order = sym (length-map n.subtasks (λ x. task_in k scope x.task)); arrangeable = sound }
+
+pub world_sound : (d : Domain) (p : Problem) → IsStatic d p → IsSound (world_of d p)
+world_sound d p static =
+    let k = known_in d p in
+    record {
+      named = world_named d p static;
+      typing = typing_in_range d p static;
+      type_count = refl;
+      object_count = refl;
+      methods =
+          All-map (λ m. IsSoundNetwork m.network) (method_in k) d.methods
+          (All-weaker (λ m. IsArrangeable (written_by m.network)) (λ m. IsSoundNetwork (method_in k m).network) (λ m h. network_sound k (parameters (variables m.parameters)) m.network h) d.methods (methods_arrangeable d p static));
+      top = network_sound k (parameters (variables p.htn.parameters)) p.htn.network (top_arrangeable d p static);
+    }
+
+-- a look-up of a name that stands once finds its place
+place_at : (ns : List (List ℕ)) → Once ns → (k : ℕ) → k < length ns → place_in ns (get_or ns k []) ≡ Some k
+place_at [] once k lt = absurd (omega arith)
+place_at (m ∷ ms) once zero lt = rw (same_name m) refl
+place_at (m ∷ ms) once (suc k) lt = by (bytes_eq (get_or ms k []) m) refl (place_at ms (λ i j d less within. once (suc i) (suc j) d (omega arith) (omega arith)) k (omega arith)) where
+  by : (b : Bool) → bytes_eq (get_or ms k []) m ≡ b → place_in ms (get_or ms k []) ≡ Some k → (if b then Some 0 else option_map suc (place_in ms (get_or ms k []))) ≡ Some (suc k)
+  by true e rest = absurd (once 0 (suc k) [] (omega arith) lt (sym ((bytes_decides (get_or ms k []) m).0 e)))
+  by false e rest = ap (option_map suc) rest
+
+pub found_at : (ns : List (List ℕ)) → Once ns → (k : ℕ) (n : List ℕ) → slice_get ns k ≡ Some n → place_in ns n ≡ Some k
+found_at ns once k n e = subst (λ m. place_in ns m ≡ Some k) (get_or_from_slice_get ns k n [] e) (place_at ns once k (slice_get_within ns k n e))
