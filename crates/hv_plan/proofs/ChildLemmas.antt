@@ -23,7 +23,7 @@ use Rattle.hv_plan.specs.Forms.{every}
 use Rattle.hv_plan.specs.FitViews.{decomposed_lines, IsDecomposed}
 use Rattle.hv_plan.specs.PlanTrees.{IsActionOf}
 use Rattle.hv_plan.specs.declared.subtasks.names.Said.{Said}
-use Rattle.hv_world.specs.Bindings.{ground_action_view}
+use Rattle.hv_world.specs.Bindings.{ground_actions_view}
 use Rattle.hv_world.specs.Names.{place_in}
 use Rattle.std.proofs.lemmas.Bool.{ltb-false}
 use Rattle.std.specs.Prelude.{nat_lt, if◌then◌else◌, slice_index_or}
@@ -191,7 +191,7 @@ module _ (w : World) (ts as' : ℕ) (sizes : AreSizes w ts as') where
     pub name_of_item : (i : ℕ) (y : Item) → Stands p s i y → ItsName i y
     name_of_item i (Act k) e =
         let (a, at, same) = mapped_at (λ a. a.id) p.actions k i e in
-        let (g, at', says) = paired_at (IsActionOf w) p.actions (map ground_action_view x.actions.now) k a said.actions at in
+        let (g, at', says) = paired_at (IsActionOf w) p.actions (ground_actions_view x.actions.now) k a said.actions at in
         let (j, numbered) = known_number a.name (primitive g.action) says.name in
         record {
           name = primitive g.action;

@@ -162,25 +162,13 @@ module _ {D N : Type 0} (w : World) (entry : D → Entry) (Is : D → N → Type
       no_cause e = cc
 
   -- the step of a loop over lines
-  pub fitted_step : {Y : Type 0} (view : Y → N) (ds : List D) (i : ℕ) (d : D) (items items' : List Y) (c c' : Option Cause) (r : Result Y CauseKind)
-      → slice_get ds i ≡ Some d → AreFitted w entry Is (take i ds) (map view items) c
-      → MatchResult r (λ y. Is d (view y)) (IsSmallest w (entry d)) → items' ≡ items ++ kept r
-      → c' ≡ earlier c (cause_at r (entry d).said.line) → AreFitted w entry Is (take (i + 1) ds) (map view items') c'
+  pub fitted_step : {Y : Type 0} (view : Y → N) (ds : List D) (i : ℕ) (d : D) (items items' : List N) (c c' : Option Cause) (r : Result Y CauseKind)
+      → slice_get ds i ≡ Some d → AreFitted w entry Is (take i ds) items c
+      → MatchResult r (λ y. Is d (view y)) (IsSmallest w (entry d)) → items' ≡ items ++ map view (kept r)
+      → c' ≡ earlier c (cause_at r (entry d).said.line) → AreFitted w entry Is (take (i + 1) ds) items' c'
   fitted_step view ds i d items items' c c' r there before fits more next =
       let own : take (i + 1) ds ≡ take i ds ++ d ∷ [] = taken_at ds i d there in
-      let said : map view items' ≡ map view items ++ map view (kept r) = ap (map view) more ∙ map-append view items (kept r) in
-      let step = fitted_more view (take i ds) (map view items) c d r before fits in
-      subst (λ z. AreFitted w entry Is (take (i + 1) ds) (map view items') z) (sym next)
-      (subst (λ ns. AreFitted w entry Is (take (i + 1) ds) ns (earlier c (cause_at r (entry d).said.line))) (sym said)
-      (subst (λ xs. AreFitted w entry Is xs (map view items ++ map view (kept r)) (earlier c (cause_at r (entry d).said.line))) (sym own) step))
-
--- the step of the loop over decomposition lines
-pub line_fitted : (w : World) (ds : List Decomposition) (i : ℕ) (d : Decomposition) (items items' : List Decomposed) (c c' : Option Cause) (r : Result code.Decomposed CauseKind)
-    → slice_get ds i ≡ Some d → AreFitted w line_entry (IsDecomposed w) (take i ds) items c → MatchResult r (λ x. IsDecomposed w d (decomposed_view x)) (IsSmallest w (line_entry d))
-    → items' ≡ items ++ map decomposed_view (kept r) → c' ≡ earlier c (cause_at r d.line) → AreFitted w line_entry (IsDecomposed w) (take (i + 1) ds) items' c'
-line_fitted w ds i d items items' c c' r there before fits more next =
-    let own : take (i + 1) ds ≡ take i ds ++ d ∷ [] = taken_at ds i d there in
-    let step = fitted_more w line_entry (IsDecomposed w) (λ e x says k f. decomposed_has_no_fault w e x says k f) decomposed_view (take i ds) items c d r before fits in
-    subst (λ z. AreFitted w line_entry (IsDecomposed w) (take (i + 1) ds) items' z) (sym next)
-    (subst (λ ns. AreFitted w line_entry (IsDecomposed w) (take (i + 1) ds) ns (earlier c (cause_at r d.line))) (sym more)
-    (subst (λ xs. AreFitted w line_entry (IsDecomposed w) xs (items ++ map decomposed_view (kept r)) (earlier c (cause_at r d.line))) (sym own) step))
+      let step = fitted_more view (take i ds) items c d r before fits in
+      subst (λ z. AreFitted w entry Is (take (i + 1) ds) items' z) (sym next)
+      (subst (λ ns. AreFitted w entry Is (take (i + 1) ds) ns (earlier c (cause_at r (entry d).said.line))) (sym more)
+      (subst (λ xs. AreFitted w entry Is xs (items ++ map view (kept r)) (earlier c (cause_at r (entry d).said.line))) (sym own) step))

@@ -23,4 +23,8 @@ pub mod TallyLemmas
 pub mod ChildLemmas
 pub mod WorldLaws
 pub mod AssemblyLemmas
+pub mod OneTree
+pub mod NodeLaws
+pub mod OneCause
+pub mod SmallPlans
 pub mod FitWorldLemmas

@@ -1,6 +1,9 @@
 -- The nodes of a plan whose lines were all met have the plan's shape.
-use Rattle.std.proofs.Common.{◌≡◌, ◌+◌, ◌-◌, ◌<◌, ◌≤◌, ◌⊎◌, ◌↔◌, inl, inr, ℕ, zero, suc, Bool, true, false, List, [], ◌∷◌, ◌++◌, Option, Some, None, cond, map, nat_lt, nat_eq, slice_get, refl, sym, ap, ◌∙◌, subst, arith, length, Contains, slice_index, slice_index_or, length-append, ltb-true, ltb-false}
-use Rattle.std.specs.List.{AllZip, list_any}
+use Rattle.std.proofs.Common.{◌≢◌, AllPairs, take, ◌≡◌, ◌+◌, ◌-◌, ◌<◌, ◌≤◌, ◌⊎◌, ◌↔◌, inl, inr, ℕ, zero, suc, Bool, true, false, List, [], ◌∷◌, ◌++◌, Option, Some, None, cond, map, nat_lt, nat_eq, slice_get, refl, sym, ap, ◌∙◌, subst, arith, length, get_or, Contains, slice_index, slice_index_or, length-append, ltb-true, ltb-false}
+use Rattle.std.specs.List.{AllZip, flat_map, list_any}
+use Rattle.std.proofs.lemmas.Grind.{flat_map-append}
+use Rattle.std.proofs.Math.Seq.{take-length}
+use Rattle.std.proofs.lemmas.List.{append-nil, map-append}
 use Rattle.std.specs.Option.{option_and_then}
 use Rattle.std.specs.Cmp.{nat_eq_equiv}
 use Rattle.std.proofs.Math.ListN.{get_or-append}
@@ -9,16 +12,17 @@ use Rattle.std.proofs.lemmas.List.{length-map, get_or-map}
 use Rattle.std.proofs.lemmas.Map.Views.{list_any-from_Contains}
 use Rattle.std.proofs.lemmas.Map.Steps.{le-length_from_below}
 use Rattle.std.proofs.lemmas.Option.{slice_get-get_or, get_or_from_slice_get, slice_get_within, slice_get_past}
-use Rattle.hv_world.specs.Lists.{Once}
+use Rattle.hv_text.specs.Lists.{Once}
 use Rattle.hv_plan.specs.Values.{Decomposition, Plan}
 use Rattle.hv_plan.specs.Shapes.{ids, all_children, IsReached, FormTree}
+use Rattle.hv_plan.specs.PlanTrees.{node_numbers, child_nodes, countdown}
 use Rattle.hv_plan.specs.Trees.{Item, Act, Task, Pre, Mem, AtOrBelow, itself, its_pre, its_child, Reached, IsSubtask, IsTree}
-use Rattle.hv_plan.specs.Shaping.{place_of, places_of_lines, kids, is_marked, IsWalk, Comes, of_root, of_one, IsNumbering, item, items_at, children_by_number}
+use Rattle.hv_plan.specs.Shaping.{place_of, places_of_lines, kids, line_in, backward, is_marked, IsWalk, Comes, of_root, of_one, IsNumbering, item, items_at, children_by_number}
 use Rattle.hv_plan.specs.ShapeViews.{Shape, IsShape, items_in, children_of_node, shape_tree, line_id, Stands}
 use Rattle.hv_plan.proofs.FirstLines.{either_side}
-use Rattle.hv_plan.proofs.ShapeWalks.{stands_at, contained_at, same_place}
+use Rattle.hv_plan.proofs.ShapeWalks.{stands_at, contained_at, same_place, once_apart, once_right, once_left}
 use Rattle.hv_plan.proofs.ShapePlaces.{place_within, id_at_place}
-use Rattle.hv_plan.proofs.ShapeTrees.{mapped_to, member_of, all_zip_map, all_zip_at, once_apart, once_right, flat, among_flat, one_line, ids_long, action_at, line_at, list_of_line, decomposition_at, kid_of, root_kid, root_child, line_child, met_reached}
+use Rattle.hv_plan.proofs.ShapeTrees.{mapped_to, member_of, all_zip_map, all_zip_at, are_apart, once_line, flat, among_flat, one_line, ids_long, action_at, line_at, list_of_line, decomposition_at, kid_of, root_kid, root_child, line_child, met_reached}
 
 -- kinds of items
 pub act_not_task : (k v : ℕ) → Act k ≡ Task v → ⊥
@@ -360,6 +364,113 @@ module _ (p : Plan) (root : List ℕ) (lists : List (List ℕ)) (met lines numbe
     no_initial_below = no_initial_below;
   }
 
+  -- no node has a child twice
+  once_items : (is : List ℕ) → Once is → ((i : ℕ) → Contains is i → Contains (all_children p) i) → AllPairs ◌≢◌ (items_at (length p.actions) numbers (map (place_of (ids p)) is))
+  once_items is once among = λ a b d o w e.
+      let la : length (map (place_of (ids p)) is) ≡ length is = length-map is (place_of (ids p)) in
+      let lb : length (items_at (length p.actions) numbers (map (place_of (ids p)) is)) ≡ length (map (place_of (ids p)) is) = length-map (map (place_of (ids p)) is) (item (length p.actions) numbers) in
+      let v : b < length is = omega (arith, w, la, lb) in
+      let u : a < length is = omega (arith, o, v) in
+      once a b 0 o v (same (slice_index is a) (slice_index is b) (among (slice_index is a) (contained_at is a (slice_index is a) u refl)) (among (slice_index is b) (contained_at is b (slice_index is b) v refl))
+      (sym (at a d u) ∙ e ∙ at b d v))
+    where
+      at : (k : ℕ) (d : Item) → k < length is → get_or (items_at (length p.actions) numbers (map (place_of (ids p)) is)) k d ≡ item (length p.actions) numbers (place_of (ids p) (slice_index is k))
+      at k d lt =
+          let la : length (map (place_of (ids p)) is) ≡ length is = length-map is (place_of (ids p)) in
+          get_or-map (item (length p.actions) numbers) (map (place_of (ids p)) is) k 0 d (omega (arith, lt, la)) ∙ ap (item (length p.actions) numbers) (get_or-map (place_of (ids p)) is k 0 0 lt)
+
+      same : (i j : ℕ) → Contains (all_children p) i → Contains (all_children p) j → item (length p.actions) numbers (place_of (ids p) i) ≡ item (length p.actions) numbers (place_of (ids p) j) → i ≡ j
+      same i j h g e =
+          let q : place_of (ids p) i ≡ place_of (ids p) j = same_item (place_of (ids p) i) (place_of (ids p) j) (place_within (ids p) i (known i h)) (place_within (ids p) j (known j g)) e in
+          sym (id_at_place (ids p) i (known i h)) ∙ ap (slice_index (ids p)) q ∙ id_at_place (ids p) j (known j g)
+
+  child_once : (v : ℕ) → AllPairs ◌≢◌ (children_of_node s v)
+  child_once v = by (either_side v (length p.decompositions))
+    where
+      none : length p.decompositions < v → AllPairs ◌≢◌ (children_of_node s v)
+      none w =
+          let past : slice_get s.children v ≡ None = slice_get_past s.children v (omega (arith, as_many_nodes, w)) in
+          let P : Option (List Item) → Type 0 = λ o. AllPairs ◌≢◌ (items_in o) in
+          subst P (sym past) (λ a b d o w e. absurd (no_place b w))
+        where
+          no_place : (k : ℕ) → k < 0 → ⊥
+          no_place k w = omega arith
+
+      of_the_root : (v < length p.decompositions + 1) ⊎ (length p.decompositions + 1 ≤ v) → length p.decompositions ≤ v → AllPairs ◌≢◌ (children_of_node s v)
+      of_the_root (inl lt) ge =
+          let e : v ≡ length p.decompositions = omega (arith, lt, ge) in
+          let P : List Item → Type 0 = λ xs. AllPairs ◌≢◌ xs in
+          subst P (sym (ap (children_of_node s) e ∙ root_items)) (once_items p.root.ids (once_left p.root.ids (flat p.decompositions) single) (λ i h. root_child p i h))
+      of_the_root (inr gt) ge = none (omega (arith, gt))
+
+      by : (v < length p.decompositions) ⊎ (length p.decompositions ≤ v) → AllPairs ◌≢◌ (children_of_node s v)
+      by (inl w) =
+          let d = decomposition_at p (slice_index lines v) (line_of v w) in
+          let P : List Item → Type 0 = λ xs. AllPairs ◌≢◌ xs in
+          subst P (sym (line_items v w d.0 d.1))
+          (once_items d.0.children (once_line p root lists root_is lists_are known single p.decompositions (slice_index lines v) d.0 (once_right p.root.ids (flat p.decompositions) single) d.1) (λ i h. line_child p (slice_index lines v) d.0 i d.1 h))
+      by (inr ge) = of_the_root (either_side v (length p.decompositions + 1)) ge
+
+  -- the nodes among items are the lines among places
+  abbrev below : ℕ → List ℕ
+  below k = slice_index_or lists k []
+
+  nodes_are : (places : List ℕ) → flat_map node_numbers (items_at (length p.actions) numbers places) ≡ map (slice_index numbers) (flat_map (line_in (length p.actions)) places)
+  nodes_are [] = refl
+  nodes_are (x ∷ xs) =
+      let first : node_numbers (item (length p.actions) numbers x) ≡ map (slice_index numbers) (line_in (length p.actions) x) = by (nat_lt x (length p.actions)) in
+      let rest : flat_map node_numbers (items_at (length p.actions) numbers xs) ≡ map (slice_index numbers) (flat_map (line_in (length p.actions)) xs) = nodes_are xs in
+      (λ i. first i ++ rest i) ∙ sym (map-append (slice_index numbers) (line_in (length p.actions) x) (flat_map (line_in (length p.actions)) xs))
+    where
+      by : (b : Bool) → node_numbers (cond b (Act x) (Task (slice_index numbers (x - length p.actions)))) ≡ map (slice_index numbers) (cond b [] ((x - length p.actions) ∷ []))
+      by true = refl
+      by false = refl
+
+  by_number : (v : ℕ) → v ≤ length p.decompositions
+      → child_nodes (children_of_node s) v ≡ map (slice_index numbers) (flat_map (line_in (length p.actions)) (flat_map below (backward lines v)))
+  by_number zero le = refl
+  by_number (suc v) le =
+      let first : flat_map node_numbers (children_of_node s v) ≡ map (slice_index numbers) (flat_map (line_in (length p.actions)) (below (slice_index lines v))) =
+      ap (flat_map node_numbers) (node_list v (omega (arith, le))) ∙ nodes_are (below (slice_index lines v)) in
+      let rest : child_nodes (children_of_node s) v ≡ map (slice_index numbers) (flat_map (line_in (length p.actions)) (flat_map below (backward lines v))) = by_number v (omega (arith, le)) in
+      (λ i. first i ++ rest i)
+      ∙ sym (map-append (slice_index numbers) (flat_map (line_in (length p.actions)) (below (slice_index lines v))) (flat_map (line_in (length p.actions)) (flat_map below (backward lines v))))
+      ∙ ap (map (slice_index numbers)) (sym (flat_map-append (line_in (length p.actions)) (below (slice_index lines v)) (flat_map below (backward lines v))))
+
+  kids_lines : (xs : List ℕ) → flat_map below (flat_map (line_in (length p.actions)) xs) ≡ flat_map (kids lists (length p.actions)) xs
+  kids_lines [] = refl
+  kids_lines (x ∷ xs) =
+      let first : flat_map below (line_in (length p.actions) x) ≡ kids lists (length p.actions) x = by (nat_lt x (length p.actions)) in
+      let rest : flat_map below (flat_map (line_in (length p.actions)) xs) ≡ flat_map (kids lists (length p.actions)) xs = kids_lines xs in
+      flat_map-append below (line_in (length p.actions) x) (flat_map (line_in (length p.actions)) xs) ∙ (λ i. first i ++ rest i)
+    where
+      by : (b : Bool) → flat_map below (cond b [] ((x - length p.actions) ∷ [])) ≡ cond b [] (below (x - length p.actions))
+      by true = refl
+      by false = append-nil (below (x - length p.actions))
+
+  numbered_back : (v : ℕ) → v ≤ length p.decompositions → map (slice_index numbers) (backward lines v) ≡ countdown v
+  numbered_back zero le = refl
+  numbered_back (suc v) le =
+      let first : slice_index numbers (slice_index lines v) ≡ v = number_back v (omega (arith, le)) in
+      let rest : map (slice_index numbers) (backward lines v) ≡ countdown v = numbered_back v (omega (arith, le)) in
+      λ i. first i ∷ rest i
+
+  -- the nodes are numbered level by level
+  in_order : child_nodes (children_of_node s) (suc (length p.decompositions)) ≡ countdown (length p.decompositions)
+  in_order =
+      let of_root : flat_map node_numbers (children_of_node s (length p.decompositions)) ≡ map (slice_index numbers) (flat_map (line_in (length p.actions)) root) = ap (flat_map node_numbers) root_list ∙ nodes_are root in
+      let others : child_nodes (children_of_node s) (length p.decompositions) ≡ map (slice_index numbers) (flat_map (line_in (length p.actions)) (flat_map below (backward lines (length p.decompositions)))) =
+      by_number (length p.decompositions) (omega arith) in
+      let listed : flat_map (line_in (length p.actions)) met ≡ backward lines (length p.decompositions) = numbering.in_order ∙ ap (backward lines) as_many in
+      let walked : met ≡ root ++ flat_map (kids lists (length p.actions)) met =
+      walk.in_order (are_apart p root lists root_is lists_are known single) ∙ ap (λ zs. root ++ flat_map (kids lists (length p.actions)) zs) (take-length met) in
+      let all_below : root ++ flat_map below (backward lines (length p.decompositions)) ≡ met =
+      ap (λ zs. root ++ flat_map below zs) (sym listed) ∙ ap (λ zs. root ++ zs) (kids_lines met) ∙ sym walked in
+      (λ i. of_root i ++ others i)
+      ∙ sym (map-append (slice_index numbers) (flat_map (line_in (length p.actions)) root) (flat_map (line_in (length p.actions)) (flat_map below (backward lines (length p.decompositions)))))
+      ∙ ap (map (slice_index numbers)) (sym (flat_map-append (line_in (length p.actions)) root (flat_map below (backward lines (length p.decompositions)))) ∙ ap (flat_map (line_in (length p.actions))) all_below ∙ listed)
+      ∙ numbered_back (length p.decompositions) (omega arith)
+
   -- all that was met belongs to the tree
   reached_met : (steps b : ℕ) → b < steps → b < length met → Reached (shape_tree p s) (item (length p.actions) numbers (slice_index met b))
   reached_met zero b below w = absurd (omega arith)
@@ -416,6 +527,12 @@ module _ (p : Plan) (root : List ℕ) (lists : List (List ℕ)) (met lines numbe
     of_root = of_root_line;
     of_lines = all_zip_at (λ d v. AllZip (Stands p s) d.children (children_of_node s v)) p.decompositions numbers numbers_count of_line;
     tree = tree;
+    child_once = child_once;
+    in_order = in_order;
     reached_lines = reached_line;
     reached_actions = reached_action;
   }
+
+-- the numbers of lines are below that of the root line
+pub numbers_below : (p : Plan) (s : Shape) → IsShape p s → (k d : ℕ) → k < length s.numbers → get_or s.numbers k d < length s.lines
+numbers_below p s is k d w = slice_get_within s.lines (get_or s.numbers k d) k ((is.numbered (get_or s.numbers k d) k).1 (slice_get-get_or s.numbers k d w))

@@ -1,9 +1,27 @@
 -- The numbers that a walk gives from its end on, and what has them.
-use Rattle.std.proofs.Common.{◌≡◌, ◌≢◌, ◌+◌, ◌<◌, ◌≤◌, ◌⊎◌, inl, inr, ℕ, List, [], ◌∷◌, ◌++◌, sym, ap, ◌∙◌, arith, length, set, slice_index, length-set, get_or-set_same, get_or-set_other}
-use Rattle.hv_world.specs.Lists.{Once}
-use Rattle.hv_plan.specs.Shaping.{IsNumbering}
+use Rattle.std.proofs.Common.{◌≡◌, ◌≢◌, ◌+◌, ◌-◌, ◌<◌, ◌≤◌, ◌⊎◌, inl, inr, ℕ, zero, suc, Bool, true, false, cond, nat_lt, refl, drop, ltb-true, ltb-false, true≢false, List, [], ◌∷◌, ◌++◌, sym, ap, ◌∙◌, arith, length, set, slice_index, length-set, get_or-set_same, get_or-set_other}
+use Rattle.std.specs.List.{flat_map}
+use Rattle.std.proofs.Math.Seq.{drop-cons}
+use Rattle.hv_text.specs.Lists.{Once}
+use Rattle.hv_plan.specs.Shaping.{IsNumbering, line_in, backward}
 use Rattle.hv_plan.proofs.FirstLines.{either_side}
 use Rattle.hv_plan.proofs.ShapeWalks.{push_front, push_last, length_pushed, below_pushed, same_place}
+
+drop-length : (xs : List ℕ) → drop (length xs) xs ≡ []
+drop-length [] = refl
+drop-length (x ∷ xs) = drop-length xs
+
+true-ltb : (a b : ℕ) → a < b → nat_lt a b ≡ true
+true-ltb a b lt = by (nat_lt a b) refl where
+  by : (t : Bool) → nat_lt a b ≡ t → nat_lt a b ≡ true
+  by true e = e
+  by false e = let ge : b ≤ a = ltb-false a b e in absurd (omega (arith, lt, ge))
+
+false-ltb : (a b : ℕ) → b ≤ a → nat_lt a b ≡ false
+false-ltb a b ge = by (nat_lt a b) refl where
+  by : (t : Bool) → nat_lt a b ≡ t → nat_lt a b ≡ false
+  by true e = let lt : a < b = ltb-true a b e in absurd (omega (arith, lt, ge))
+  by false e = e
 
 no_place : (k : ℕ) → k < 0 → ⊥
 no_place k w = omega arith
@@ -14,20 +32,28 @@ no_numbers actions met numbers = record {
   was_met = λ v w. absurd (no_place v w);
   given = λ b k le w e. absurd (apart b le w);
   falling = λ a b j k le lt w e f. absurd (apart b (omega (arith, le, lt)) w);
+  in_order = ap (flat_map (line_in actions)) (drop-length met);
 }
   where
     apart : (b : ℕ) → length met ≤ b → b < length met → ⊥
     apart b le w = omega (arith, le, w)
 
 module _ (actions at : ℕ) (met lines numbers : List ℕ) where
-  pub no_number : slice_index met at < actions → IsNumbering actions (at + 1) met lines numbers → IsNumbering actions at met lines numbers
-  no_number less so_far = record {
+  next : at < length met → drop at met ≡ slice_index met at ∷ drop (at + 1) met
+  next lt = let e : suc at ≡ at + 1 = omega arith in drop-cons met at 0 lt ∙ ap (λ k. slice_index met at ∷ drop k met) e
+
+  pub no_number : at < length met → slice_index met at < actions → IsNumbering actions (at + 1) met lines numbers → IsNumbering actions at met lines numbers
+  no_number here_is less so_far = record {
     back = so_far.back;
     was_met = λ v w. let m = so_far.was_met v w in let le : at + 1 ≤ m.0 = m.1 in (m.0, omega (arith, le), m.2, m.3);
     given = λ b k le w e. so_far.given b k (later b k le e) w e;
     falling = λ a b j k le lt w e f. so_far.falling a b j k (later a j le e) lt w e f;
+    in_order = ap (flat_map (line_in actions)) (next here_is) ∙ ap (λ zs. zs ++ flat_map (line_in actions) (drop (at + 1) met)) no_line ∙ so_far.in_order;
   }
     where
+      no_line : line_in actions (slice_index met at) ≡ []
+      no_line = ap (λ b. cond b [] ((slice_index met at - actions) ∷ [])) (true-ltb (slice_index met at) actions less)
+
       here : (b k : ℕ) → slice_index met b ≡ actions + k → b ≡ at → ⊥
       here b k e q = let f : slice_index met at ≡ actions + k = ap (slice_index met) (sym q) ∙ e in omega (arith, f, less)
 
@@ -130,4 +156,25 @@ module _ (actions at : ℕ) (met lines numbers : List ℕ) where
       was_met = λ v w. was_at v (below_pushed lines line v w);
       given = λ b k le w e. given_at b k w e (side b le);
       falling = λ a b j k le o w e f. falls a b j k o w e f (omega (arith, le, o)) (side a le);
+      in_order = ap (flat_map (line_in actions)) (next lt) ∙ ap (λ zs. zs ++ flat_map (line_in actions) (drop (at + 1) met)) one_line ∙ ap (λ zs. line ∷ zs) so_far.in_order ∙ sym listed;
     }
+      where
+        one_line : line_in actions (slice_index met at) ≡ line ∷ []
+        one_line =
+            let ge : actions ≤ slice_index met at = omega (arith, is) in
+            let back : slice_index met at - actions ≡ line = omega (arith, is) in
+            ap (λ b. cond b [] ((slice_index met at - actions) ∷ [])) (false-ltb (slice_index met at) actions ge) ∙ ap (λ k. k ∷ []) back
+
+        front : (n : ℕ) → n ≤ length lines → backward more n ≡ backward lines n
+        front zero le = refl
+        front (suc n) le =
+            let first : slice_index more n ≡ slice_index lines n = push_front lines line n (omega (arith, le)) in
+            let rest : backward more n ≡ backward lines n = front n (omega (arith, le)) in
+            λ i. first i ∷ rest i
+
+        listed : backward more (length more) ≡ line ∷ backward lines (length lines)
+        listed =
+            let l : length more ≡ suc (length lines) = let k = longer in omega (arith, k) in
+            let last : slice_index more (length lines) ≡ line = push_last lines line in
+            let rest : backward more (length lines) ≡ backward lines (length lines) = front (length lines) (omega arith) in
+            ap (backward more) l ∙ (λ i. last i ∷ rest i)

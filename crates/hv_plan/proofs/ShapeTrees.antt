@@ -5,16 +5,16 @@ use Rattle.std.proofs.Math.ListN.{get_or-append, get_or-eq_default}
 use Rattle.std.proofs.lemmas.List.{length-map, get_or-map, get_or-append_right}
 use Rattle.std.proofs.lemmas.List.Elements.{Contains-append_left, Contains-append_right}
 use Rattle.std.proofs.lemmas.Option.{slice_get-map, slice_get-get_or, get_or_from_slice_get, slice_get_within, same_Some}
-use Rattle.hv_world.specs.Lists.{Once}
+use Rattle.hv_text.specs.Lists.{Once}
 use Rattle.hv_plan.specs.Values.{Action, Decomposition, Plan}
 use Rattle.hv_plan.specs.Shapes.{head, heads, ids, parents, line_parent, all_children, IsReached, FormTree}
 use Rattle.hv_plan.specs.Shapes as form
 use Rattle.hv_plan.specs.Trees.{Item, Mem}
-use Rattle.hv_plan.specs.Shaping.{place_of, places_of_lines, kids, IsWalk, Comes, of_root, of_one}
+use Rattle.hv_plan.specs.Shaping.{place_of, places_of_lines, kids, AreApart, IsWalk, Comes, of_root, of_one}
 use Rattle.hv_plan.specs.ShapeViews.{line_id}
 use Rattle.hv_plan.proofs.HeadLists.{action_ids, decomposition_ids, ids_are}
 use Rattle.hv_plan.proofs.FirstLines.{either_side}
-use Rattle.hv_plan.proofs.ShapeWalks.{stands_at, contained_at}
+use Rattle.hv_plan.proofs.ShapeWalks.{stands_at, contained_at, once_apart, once_right, once_left, once_map, once_none}
 use Rattle.hv_plan.proofs.ShapePlaces.{place_within, id_at_place, place_is}
 
 -- what a mapped list contains comes from the list
@@ -56,29 +56,6 @@ all_zip_at R [] [] e each = tt
 all_zip_at R [] (y ∷ ys) e each = absurd (let z : suc (length ys) ≡ 0 = e in omega (arith, z))
 all_zip_at R (x ∷ xs) [] e each = absurd (let z : 0 ≡ suc (length xs) = e in omega (arith, z))
 all_zip_at R (x ∷ xs) (y ∷ ys) e each = (each zero x refl, all_zip_at R xs ys (let z : suc (length ys) ≡ suc (length xs) = e in omega (arith, z)) (λ k z g. each (suc k) z g))
-
--- lists in which each stands once
-pub once_apart : (xs ys : List ℕ) (i : ℕ) → Once (xs ++ ys) → Contains xs i → Contains ys i → ⊥
-once_apart xs ys i once h g =
-    let v : h.0 < length xs = h.1 in
-    let w : g.0 < length ys = g.1 in
-    let l : length (xs ++ ys) ≡ length xs + length ys = length-append xs ys in
-    once h.0 (length xs + g.0) i (omega (arith, v)) (omega (arith, w, l))
-    ((get_or-append xs ys i h.0 v ∙ h.2) ∙ sym (get_or-append_right xs ys (length xs) (length xs + g.0) i refl (omega arith) ∙ ap (λ j. get_or ys j i) (back g.0) ∙ g.2))
-  where
-    back : (j : ℕ) → (length xs + j) - length xs ≡ j
-    back j = omega arith
-
-pub once_right : (xs ys : List ℕ) → Once (xs ++ ys) → Once ys
-once_right xs ys once = λ a b d o w e.
-    let l : length (xs ++ ys) ≡ length xs + length ys = length-append xs ys in
-    once (length xs + a) (length xs + b) d (omega (arith, o)) (omega (arith, w, l)) (at a d ∙ e ∙ sym (at b d))
-  where
-    at : (j d : ℕ) → get_or (xs ++ ys) (length xs + j) d ≡ get_or ys j d
-    at j d = get_or-append_right xs ys (length xs) (length xs + j) d refl (omega arith) ∙ ap (λ k. get_or ys k d) (back j)
-      where
-        back : (j : ℕ) → (length xs + j) - length xs ≡ j
-        back j = omega arith
 
 -- the children of decomposition lines
 abbrev pub flat : List Decomposition → List ℕ
@@ -286,3 +263,55 @@ kids_behind n lists k = by (nat_lt (n + k) n) refl
     by : (b : Bool) → nat_lt (n + k) n ≡ b → kids lists n (n + k) ≡ slice_index_or lists k []
     by true t = let lt : n + k < n = ltb-true (n + k) n t in absurd (omega (arith, lt))
     by false t = ap (λ b. cond b [] (slice_index_or lists ((n + k) - n) [])) t ∙ ap (λ j. slice_index_or lists j []) back
+
+-- each child stands below one line, and once there
+module _ (p : Plan) (root : List ℕ) (lists : List (List ℕ)) (root_is : root ≡ map (place_of (ids p)) p.root.ids) (lists_are : lists ≡ places_of_lines (ids p) p)
+    (known : (i : ℕ) → Contains (all_children p) i → Contains (ids p) i) (single : Once (all_children p)) where
+  one_id : (i j : ℕ) → Contains (all_children p) i → Contains (all_children p) j → place_of (ids p) i ≡ place_of (ids p) j → i ≡ j
+  one_id i j h g e = sym (id_at_place (ids p) i (known i h)) ∙ ap (slice_index (ids p)) e ∙ id_at_place (ids p) j (known j g)
+
+  once_places : (is : List ℕ) → Once is → ((i : ℕ) → Contains is i → Contains (all_children p) i) → Once (map (place_of (ids p)) is)
+  once_places is once among = once_map (place_of (ids p)) is (λ i j h g. one_id i j (among i h) (among j g)) once
+
+  pub once_line : (ds : List Decomposition) (k : ℕ) (d : Decomposition) → Once (flat ds) → slice_get ds k ≡ Some d → Once d.children
+  once_line [] k d once e = absurd (cc)
+  once_line (x ∷ ds) zero d once e = subst (λ (y : Decomposition). Once y.children) (same_Some x d e) (once_left x.children (flat ds) once)
+  once_line (x ∷ ds) (suc k) d once e = once_line ds k d (once_right x.children (flat ds) once) e
+
+  once_kids : (v : ℕ) → Once (kids lists (length p.actions) v)
+  once_kids v = by (nat_lt v (length p.actions)) refl
+    where
+      n : ℕ
+      n = length p.actions
+
+      listed : (k : ℕ) → (k < length p.decompositions) ⊎ (length p.decompositions ≤ k) → Once (slice_index_or lists k [])
+      listed k (inl w) =
+          let d = decomposition_at p k w in
+          subst Once (sym (ap (λ ls. slice_index_or ls k []) lists_are ∙ list_of_line p k d.0 d.1))
+          (once_places d.0.children (once_line p.decompositions k d.0 (once_right p.root.ids (flat p.decompositions) single) d.1) (λ i h. line_child p k d.0 i d.1 h))
+      listed k (inr ge) =
+          let l : length (places_of_lines (ids p) p) ≡ length p.decompositions = length-map p.decompositions (λ (d : Decomposition). map (place_of (ids p)) d.children) in
+          subst Once (sym (ap (λ ls. slice_index_or ls k []) lists_are ∙ get_or-eq_default (places_of_lines (ids p) p) [] (omega (arith, l, ge)))) once_none
+
+      by : (b : Bool) → nat_lt v n ≡ b → Once (kids lists n v)
+      by true e = let P : Bool → Type 0 = λ b. Once (cond b [] (slice_index_or lists (v - n) [])) in subst P (sym e) once_none
+      by false e = let P : Bool → Type 0 = λ b. Once (cond b [] (slice_index_or lists (v - n) [])) in subst P (sym e) (listed (v - n) (either_side (v - n) (length p.decompositions)))
+
+  pub are_apart : AreApart root (kids lists (length p.actions))
+  are_apart = record {
+    roots = subst Once (sym root_is) (once_places p.root.ids (once_left p.root.ids (flat p.decompositions) single) (λ i h. root_child p i h));
+    lists = once_kids;
+    below_root = λ v c h g. apart v c (root_kid p root root_is c h) (kid_of p lists lists_are v c g);
+    below_one = λ u v c h g. one u v c (kid_of p lists lists_are u c h) (kid_of p lists lists_are v c g);
+  }
+    where
+      apart : (v c : ℕ) → RootKid p c → KidOf p v c → ⊥
+      apart v c r k =
+          let same : r.id ≡ k.id = one_id r.id k.id (root_child p r.id r.named) (line_child p k.number k.line k.id k.at k.named) (sym r.is ∙ k.is) in
+          once_apart p.root.ids (flat p.decompositions) k.id single (subst (Contains p.root.ids) same r.named) (among_flat p.decompositions k.number k.line k.id k.at k.named)
+
+      one : (u v c : ℕ) → KidOf p u c → KidOf p v c → u ≡ v
+      one u v c j k =
+          let same : j.id ≡ k.id = one_id j.id k.id (line_child p j.number j.line j.id j.at j.named) (line_child p k.number k.line k.id k.at k.named) (sym j.is ∙ k.is) in
+          let line : j.number ≡ k.number = one_line p.decompositions j.number k.number j.line k.line k.id (once_right p.root.ids (flat p.decompositions) single) j.at k.at (subst (Contains j.line.children) same j.named) k.named in
+          j.behind ∙ ap (λ m. length p.actions + m) line ∙ sym k.behind

@@ -1,15 +1,18 @@
 -- What a walk keeps.
-use Rattle.std.proofs.Common.{◌≡◌, ◌≢◌, ◌+◌, ◌<◌, ◌≤◌, ◌⊎◌, inl, inr, ℕ, Bool, true, false, List, [], ◌∷◌, ◌++◌, refl, sym, ap, ◌∙◌, subst, arith, length, set, get_or, Contains, slice_index, length-append, get_or-set_same, get_or-set_other, nat_eq, eqb-true, true≢false}
+use Rattle.std.proofs.Common.{◌≡◌, ◌≢◌, ◌+◌, ◌-◌, ◌<◌, ◌≤◌, ◌⊎◌, inl, inr, ℕ, suc, map, take, append_assoc, Bool, true, false, List, [], ◌∷◌, ◌++◌, refl, sym, ap, ◌∙◌, subst, arith, length, set, get_or, Contains, slice_index, length-append, get_or-set_same, get_or-set_other, nat_eq, eqb-true, true≢false}
 use Rattle.std.proofs.Math.ListN.{get_or-append, get_or-eq_default}
 use Rattle.std.proofs.Math.Seq.{get_or-append_seam}
 use Rattle.std.proofs.lemmas.Grind.{get_or_default_zero}
-use Rattle.std.specs.List.{list_any}
+use Rattle.std.specs.List.{list_any, flat_map}
+use Rattle.std.proofs.lemmas.Grind.{flat_map-append}
+use Rattle.std.proofs.Math.Seq.{take-length}
+use Rattle.std.proofs.lemmas.List.{append-nil, length-map, get_or-map, get_or-append_right, take_more, take-append-le, get_or-take, length-take-le}
 use Rattle.std.proofs.lemmas.Map.Keys.{IsDistinct-from_apart}
 use Rattle.std.proofs.lemmas.Map.Steps.{length-le_from_distinct_below}
 use Rattle.std.proofs.lemmas.Map.Views.{Contains-from_any}
 use Rattle.std.proofs.lemmas.List.Elements.{Contains-append_left, Contains-append_right, Contains-append_cases, Contains-push}
-use Rattle.hv_world.specs.Lists.{Once}
-use Rattle.hv_plan.specs.Shaping.{is_marked, IsMeeting, Grows, Comes, of_root, of_one, IsWalking}
+use Rattle.hv_text.specs.Lists.{Once}
+use Rattle.hv_plan.specs.Shaping.{is_marked, IsMeeting, Grows, AreApart, Comes, of_root, of_one, IsWalking}
 use Rattle.hv_plan.proofs.FirstLines.{either, either_side, below_next}
 
 pub push_front : (xs : List ℕ) (y k : ℕ) → k < length xs → slice_index (xs ++ y ∷ []) k ≡ slice_index xs k
@@ -56,6 +59,57 @@ same_place xs h a b v w e = by (either a b) where
   by (inl q) = q
   by (inr n) = cut n (either_side a b)
 
+-- lists in which each stands once
+pub once_apart : (xs ys : List ℕ) (i : ℕ) → Once (xs ++ ys) → Contains xs i → Contains ys i → ⊥
+once_apart xs ys i once h g =
+    let v : h.0 < length xs = h.1 in
+    let w : g.0 < length ys = g.1 in
+    let l : length (xs ++ ys) ≡ length xs + length ys = length-append xs ys in
+    once h.0 (length xs + g.0) i (omega (arith, v)) (omega (arith, w, l))
+    ((get_or-append xs ys i h.0 v ∙ h.2) ∙ sym (get_or-append_right xs ys (length xs) (length xs + g.0) i refl (omega arith) ∙ ap (λ j. get_or ys j i) (back g.0) ∙ g.2))
+  where
+    back : (j : ℕ) → (length xs + j) - length xs ≡ j
+    back j = omega arith
+
+pub once_right : (xs ys : List ℕ) → Once (xs ++ ys) → Once ys
+once_right xs ys once = λ a b d o w e.
+    let l : length (xs ++ ys) ≡ length xs + length ys = length-append xs ys in
+    once (length xs + a) (length xs + b) d (omega (arith, o)) (omega (arith, w, l)) (at a d ∙ e ∙ sym (at b d))
+  where
+    at : (j d : ℕ) → get_or (xs ++ ys) (length xs + j) d ≡ get_or ys j d
+    at j d = get_or-append_right xs ys (length xs) (length xs + j) d refl (omega arith) ∙ ap (λ k. get_or ys k d) (back j)
+      where
+        back : (j : ℕ) → (length xs + j) - length xs ≡ j
+        back j = omega arith
+
+pub once_left : (xs ys : List ℕ) → Once (xs ++ ys) → Once xs
+once_left xs ys once = λ a b d o w e.
+    let l : length (xs ++ ys) ≡ length xs + length ys = length-append xs ys in
+    once a b d o (omega (arith, w, l)) (get_or-append xs ys d a (omega (arith, o, w)) ∙ e ∙ sym (get_or-append xs ys d b w))
+
+pub once_none : Once {X = ℕ} []
+once_none = λ a b d o w e. absurd (no_place b w)
+  where
+    no_place : (k : ℕ) → k < 0 → ⊥
+    no_place k w = omega arith
+
+pub once_map : (f : ℕ → ℕ) (xs : List ℕ) → ((x y : ℕ) → Contains xs x → Contains xs y → f x ≡ f y → x ≡ y) → Once xs → Once (map f xs)
+once_map f xs one once = λ a b d o w e.
+    let l : length (map f xs) ≡ length xs = length-map xs f in
+    let v : b < length xs = omega (arith, w, l) in
+    let u : a < length xs = omega (arith, o, v) in
+    let same : f (slice_index xs a) ≡ f (slice_index xs b) = sym (get_or-map f xs a 0 d u) ∙ e ∙ get_or-map f xs b 0 d v in
+    once a b 0 o v (one (slice_index xs a) (slice_index xs b) (contained_at xs a (slice_index xs a) u refl) (contained_at xs b (slice_index xs b) v refl) same)
+
+-- what joined lists contain is in one of them
+in_one : (f : ℕ → List ℕ) (xs : List ℕ) (y : ℕ) → Contains (flat_map f xs) y → (k : ℕ) × (k < length xs) × Contains (f (slice_index xs k)) y
+in_one f [] y h = let w : h.0 < 0 = h.1 in absurd (omega (arith, w))
+in_one f (x ∷ xs) y h = by (λ g. in_one f xs y g) (Contains-append_cases (f x) (flat_map f xs) y h)
+  where
+    by : (Contains (flat_map f xs) y → (k : ℕ) × (k < length xs) × Contains (f (slice_index xs k)) y) → Contains (f x) y ⊎ Contains (flat_map f xs) y → (k : ℕ) × (k < length (x ∷ xs)) × Contains (f (slice_index (x ∷ xs) k)) y
+    by others (inl g) = (0, omega arith, g)
+    by others (inr g) = let r = others g in (suc r.0, omega (arith, r.1), r.2)
+
 -- lists that grow
 pub grows_none : (old : List ℕ) → Grows old [] old
 grows_none old = record {
@@ -63,6 +117,7 @@ grows_none old = record {
   kept = λ b w. refl;
   comes = λ b le w. absurd (omega (arith, le, w));
   has = λ c h. let w : h.0 < length {A = ℕ} [] = h.1 in absurd (no_place h.0 w);
+  fresh = λ n o. sym (append-nil old);
 }
   where
     no_place : (k : ℕ) → k < 0 → ⊥
@@ -77,6 +132,7 @@ grows_more old xs mid ys new g h =
       kept = λ b w. h.kept b (omega (arith, w, l1)) ∙ g.kept b w;
       comes = λ b le w. by b le w (either_side b (length mid));
       has = λ c k. has c (Contains-append_cases xs ys c k);
+      fresh = fresh;
     }
   where
     by : (b : ℕ) → length old ≤ b → b < length new → (b < length mid) ⊎ (length mid ≤ b) → Contains (xs ++ ys) (slice_index new b)
@@ -91,6 +147,16 @@ grows_more old xs mid ys new g h =
         contained_at new m.0 c (omega (arith, w, l2)) (h.kept m.0 m.1 ∙ stands_at mid c m)
     has c (inr k) = h.has c k
 
+    fresh : ((c : ℕ) → Contains (xs ++ ys) c → Contains old c → ⊥) → Once (xs ++ ys) → new ≡ old ++ (xs ++ ys)
+    fresh apart once =
+        let first : mid ≡ old ++ xs = g.fresh (λ c k o. apart c (Contains-append_left xs ys c k) o) (once_left xs ys once) in
+        let second : new ≡ mid ++ ys = h.fresh (λ c k o. other c k (Contains-append_cases old xs c (subst (λ zs. Contains zs c) first o))) (once_right xs ys once) in
+        second ∙ ap (λ zs. zs ++ ys) first ∙ append_assoc old xs ys
+      where
+        other : (c : ℕ) → Contains ys c → Contains old c ⊎ Contains xs c → ⊥
+        other c k (inl o) = apart c (Contains-append_right xs ys c k) o
+        other c k (inr o) = once_apart xs ys c once o k
+
 pub grows_by_one : (old : List ℕ) (y : ℕ) → Grows old (y ∷ []) (old ++ y ∷ [])
 grows_by_one old y =
     let e : length (old ++ y ∷ []) ≡ length old + 1 = length_pushed old y in
@@ -99,6 +165,7 @@ grows_by_one old y =
       kept = λ b w. push_front old y b w;
       comes = λ b le w. (0, omega arith, sym (push_last old y) ∙ ap (slice_index (old ++ y ∷ [])) (here b le w));
       has = λ c h. contained_at (old ++ y ∷ []) (length old) c (omega (arith, e)) (push_last old y ∙ only c h);
+      fresh = λ n o. refl;
     }
   where
     here : (b : ℕ) → length old ≤ b → b < length (old ++ y ∷ []) → length old ≡ b
@@ -116,6 +183,7 @@ grows_by_none old y is = record {
   kept = λ b w. refl;
   comes = λ b le w. absurd (omega (arith, le, w));
   has = λ c h. let P : ℕ → Type 0 = Contains old in subst P (only c h) is;
+  fresh = λ n o. absurd (n y (0, omega arith, refl) is);
 }
   where
     only : (c : ℕ) → Contains (y ∷ []) c → y ≡ c
@@ -196,6 +264,7 @@ module _ (root : List ℕ) (kids : ℕ → List ℕ) where
     has_root = g.has;
     closed = λ a c lt. absurd (no_place a lt);
     comes = λ b w. of_root (g.comes b (omega arith) w);
+    in_order = λ a. g.fresh (λ c h o. no_place o.0 o.1) a.roots ∙ sym (append-nil root);
   }
     where
       no_place : (k : ℕ) → k < 0 → ⊥
@@ -208,8 +277,32 @@ module _ (root : List ℕ) (kids : ℕ → List ℕ) where
     has_root = λ c h. stays c (so_far.has_root c h);
     closed = λ a c o h. close a c h (below_next a at o);
     comes = λ b w. come b w (either_side b (length old));
+    in_order = goes_on;
   }
     where
+      below : List ℕ
+      below = kids (slice_index old at)
+
+      new_there : AreApart root kids → (c : ℕ) → Contains below c → Contains old c → ⊥
+      new_there apart c h o = by (Contains-append_cases root (flat_map kids (take at old)) c (subst (λ zs. Contains zs c) (so_far.in_order apart) o))
+        where
+          by : Contains root c ⊎ Contains (flat_map kids (take at old)) c → ⊥
+          by (inl r) = apart.below_root (slice_index old at) c r h
+          by (inr r) =
+              let q = in_one kids (take at old) c r in
+              let less : q.0 < length (take at old) = q.1 in
+              let long : length (take at old) ≡ at = length-take-le at old (omega (arith, lt)) in
+              let before : q.0 < at = omega (arith, less, long) in
+              let same : slice_index (take at old) q.0 ≡ slice_index old at = apart.below_one (slice_index (take at old) q.0) (slice_index old at) c q.2 h in
+              once_at old so_far.meeting.once q.0 at before lt (sym (get_or-take at old q.0 0 before) ∙ same)
+
+      goes_on : AreApart root kids → new ≡ root ++ flat_map kids (take (at + 1) new)
+      goes_on apart =
+          let grown : new ≡ old ++ below = g.fresh (new_there apart) (apart.lists (slice_index old at)) in
+          let front : take (at + 1) new ≡ take at old ++ slice_index old at ∷ [] = ap (take (at + 1)) grown ∙ take-append-le (at + 1) old below (omega (arith, lt)) ∙ take_more old at 0 lt in
+          let joined : flat_map kids (take at old ++ slice_index old at ∷ []) ≡ flat_map kids (take at old) ++ below = flat_map-append kids (take at old) (slice_index old at ∷ []) ∙ ap (λ zs. flat_map kids (take at old) ++ zs) (append-nil below) in
+          grown ∙ ap (λ zs. zs ++ below) (so_far.in_order apart) ∙ append_assoc root (flat_map kids (take at old)) below ∙ ap (λ zs. root ++ zs) (sym (ap (flat_map kids) front ∙ joined))
+
       longer : length old ≤ length new
       longer = g.longer
 
@@ -239,10 +332,11 @@ module _ (root : List ℕ) (kids : ℕ → List ℕ) where
           let Q : ℕ → Type 0 = λ x. Contains (kids x) (slice_index new b) in
           of_one at (omega (arith, lt, ge)) (subst Q (sym (g.kept at lt)) (g.comes b ge w))
 
-  pub walk_ends : (at : ℕ) (met : List ℕ) (marks : List Bool) → length met ≤ at → IsWalking root kids at met marks → IsWalking root kids (length met) met marks
-  walk_ends at met marks le so_far = record {
+  pub walk_ends : (at : ℕ) (met : List ℕ) (marks : List Bool) → at ≡ length met → IsWalking root kids at met marks → IsWalking root kids (length met) met marks
+  walk_ends at met marks same so_far = record {
     meeting = so_far.meeting;
     has_root = so_far.has_root;
-    closed = λ a c o h. so_far.closed a c (omega (arith, le, o)) h;
+    closed = λ a c o h. so_far.closed a c (omega (arith, same, o)) h;
     comes = so_far.comes;
+    in_order = λ a. so_far.in_order a ∙ ap (λ n. root ++ flat_map kids (take n met)) same;
   }

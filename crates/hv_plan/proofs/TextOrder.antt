@@ -4,13 +4,15 @@ use Rattle.std.specs.Prelude.{Result, Ok, Err, IfOk}
 use Rattle.std.specs.List.Sorted.{IsStrictlyIncreasing}
 use Rattle.std.proofs.lemmas.List.{append_assoc}
 use Rattle.hv_text.specs.Words.{Piece}
-use Rattle.hv_world.specs.Lists.{Once}
+use Rattle.hv_text.specs.Lists.{Once}
 use Rattle.hv_plan.specs.Values.{Action, Decomposition, Root, Plan}
 use Rattle.hv_plan.specs.Lines.{NumberedLine, numbered, lines, is_start, is_end, behind_start, before_end, between}
 use Rattle.hv_plan.specs.Forms.{Form, blank, action, decomposition, root}
-use Rattle.hv_plan.specs.Spellings.{SpellsForm, no_words, an_action, a_decomposition, a_root, Each, no_more, one_more, Says, IsPlan, actions_among, decompositions_among, roots_among}
+use Rattle.hv_plan.specs.Spellings.{SpellsForm, no_words, an_action, a_decomposition, a_root, Each, no_more, one_more, Says, IsPlan, actions_among, decompositions_among, roots_among, SayPlan}
+use Rattle.hv_plan.specs.Plans.{IsBody}
 use Rattle.hv_plan.specs.Shapes.{line_numbers, IsInTextOrder}
 use Rattle.hv_plan.proofs.HeadLists.{lines_are}
+use Rattle.hv_plan.proofs.SpellingLemmas.{plan_table}
 
 -- lines with rising numbers, from n on; and numbers that rise so
 abbrev pub Rising : ℕ → List NumberedLine → Type 0
@@ -189,22 +191,30 @@ increasing n (x ∷ xs) u = λ k w. by k w (increasing (x + 1) xs u.1)
         let P : ℕ → Type 0 = λ j. slice_index (x ∷ xs) (suc k) < slice_index (x ∷ xs) j in
         subst P (sym e) (rest k (omega (arith, w)))
 
-pub in_text_order : (text : List ℕ) (p : Plan) → IsPlan text p → IsInTextOrder p
-in_text_order text p plan =
-    let rise : Rising 1 (between text) = before_rise 1 (behind_start (numbered 1 (lines text))) (behind_rise 1 (numbered 1 (lines text)) (numbered_rise 1 (lines text))) in
-    let o : AreOrdered 1 plan.body.forms = forms_ordered 1 plan.body.each rise in
+-- lines that rise say a plan in the order of the text
+say_in_order : (n : ℕ) (ls : List NumberedLine) (p : Plan) → Rising n ls → SayPlan ls p → IsInTextOrder p
+say_in_order n ls p rise says =
+    let o : AreOrdered n says.forms = forms_ordered n says.each rise in
     let A : List Action → Type 0 = λ xs. IsStrictlyIncreasing (map (λ a. a.line) xs) in
     let D : List Decomposition → Type 0 = λ xs. IsStrictlyIncreasing (map (λ d. d.line) xs) in
     record {
-      actions = subst A (sym plan.body.actions) (increasing 1 (action_lines plan.body.forms) o.actions);
-      decompositions = subst D (sym plan.body.decompositions) (increasing 1 (decomposition_lines plan.body.forms) o.decompositions);
-      once = subst Once (sym (all_lines plan)) o.once;
+      actions = subst A (sym says.actions) (increasing n (action_lines says.forms) o.actions);
+      decompositions = subst D (sym says.decompositions) (increasing n (decomposition_lines says.forms) o.decompositions);
+      once = subst Once (sym all_lines) o.once;
     }
   where
-    all_lines : (plan : IsPlan text p) → line_numbers p ≡ root_lines plan.body.forms ++ (action_lines plan.body.forms ++ decomposition_lines plan.body.forms)
-    all_lines plan =
+    all_lines : line_numbers p ≡ root_lines says.forms ++ (action_lines says.forms ++ decomposition_lines says.forms)
+    all_lines =
         ap (λ xs. p.root.line ∷ xs) (lines_are p)
-        ∙ (λ j. map (λ (r : Root). r.line) (sym plan.body.root j) ++ (map (λ (a : Action). a.line) (plan.body.actions j) ++ map (λ (d : Decomposition). d.line) (plan.body.decompositions j)))
+        ∙ (λ j. map (λ (r : Root). r.line) (sym says.root j) ++ (map (λ (a : Action). a.line) (says.actions j) ++ map (λ (d : Decomposition). d.line) (says.decompositions j)))
+
+-- the plan of the lines from a number on, up to the first end marker
+pub body_in_order : (n : ℕ) (ls : List (List ℕ)) (p : Plan) → IsBody (before_end (numbered n ls)) p → IsInTextOrder p
+body_in_order n ls p body = say_in_order n (before_end (numbered n ls)) p (before_rise n (numbered n ls) (numbered_rise n ls)) ((plan_table (before_end (numbered n ls)) p).1 body)
+
+-- the plan of a text
+pub in_text_order : (text : List ℕ) (p : Plan) → IsPlan text p → IsInTextOrder p
+in_text_order text p plan = say_in_order 1 (between text) p (before_rise 1 (behind_start (numbered 1 (lines text))) (behind_rise 1 (numbered 1 (lines text)) (numbered_rise 1 (lines text)))) plan.body
 
 pub order_if_read : {X E : Type 0} (text : List ℕ) (view : X → Plan) (r : Result X E) → IfOk r (λ x. IsPlan text (view x)) → IfOk r (λ x. IsInTextOrder (view x))
 order_if_read text view (Ok x) h = in_text_order text (view x) h

@@ -1,21 +1,17 @@
 -- What a tree that was built says.
 use Rattle.std.specs.Prelude.{List, ◌∷◌, length, map}
-use Rattle.hv_world.specs.Bindings.{ground_action_view}
+use Rattle.hv_world.specs.Bindings.{ground_actions_view}
 use Rattle.hv_plan.specs.FitViews.{decomposed_lines}
 use Rattle.hv_plan.specs.LineViews.{plan_view}
 use Rattle.hv_plan.specs.NodeViews.{nodes_of}
-use Rattle.hv_plan.specs.PlanTrees.{Node, PlanTree}
+use Rattle.hv_plan.specs.PlanTrees.{PlanTree}
 use Rattle.hv_plan.specs.ShapeViews.{shape_view}
-use Rattle.hv_plan.specs.declared.tree.Nodes as code_nodes
 use Rattle.hv_plan.specs.declared.tree.Tree as code
 
 abbrev pub tree_view : code.Tree → PlanTree
 tree_view t = record {
-  actions = map ground_action_view t.actions.items;
+  actions = ground_actions_view t.actions;
   action_ids = map (λ a. a.id) (plan_view t.plan.now).actions;
   nodes = nodes_of (plan_view t.plan.now) (shape_view t.shape) (decomposed_lines t.said);
   order = length t.shape.lines.items ∷ t.shape.numbers.items;
 }
-
-abbrev pub nodes_view : code_nodes.Nodes → List Node
-nodes_view n = (tree_view n.tree.now).nodes

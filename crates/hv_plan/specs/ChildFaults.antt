@@ -3,7 +3,7 @@ use Rattle.std.specs.Prelude.{◌≡◌, ℕ, List, Option, Some, map, length, C
 use Rattle.std.specs.List.{AllZip}
 use Rattle.hv_world.specs.Values.{TaskName}
 use Rattle.hv_world.specs.Worlds.{World, Method}
-use Rattle.hv_world.specs.Bindings.{ground_action_view}
+use Rattle.hv_world.specs.Bindings.{ground_actions_view}
 use Rattle.hv_plan.specs.Values.{Plan}
 use Rattle.hv_plan.specs.Shapes.{Parent}
 use Rattle.hv_plan.specs.Forms.{every}
@@ -43,7 +43,7 @@ ChildFaultIn w p qs k l = (q : Parent) × Contains qs q × IsChildFault w p q k 
 
 -- what names an item, by what the lines were found to say
 abbrev pub said_name : Said → Item → Option TaskName
-said_name s x = item_name (map ground_action_view s.actions.now) (decomposed_lines s.lines.now) s.places.now x
+said_name s x = item_name (ground_actions_view s.actions.now) (decomposed_lines s.lines.now) s.places.now x
 
 -- items have names, each of a task or an action that has a number
 pub record AreNumbered (tasks actions : ℕ) (name : Item → Option TaskName) (xs : List Item) : Type 0 where
@@ -57,7 +57,7 @@ IsMethodCause ns ms l o = MatchOption o (HaveSameNames ns ms) (λ c. (c.line ≡
 
 -- what names the items of a plan of this shape is what its lines say
 pub record IsSaid (w : World) (p : Plan) (s : Shape) (x : Said) : Type 0 where
-  pub actions : AllZip (IsActionOf w) p.actions (map ground_action_view x.actions.now)
+  pub actions : AllZip (IsActionOf w) p.actions (ground_actions_view x.actions.now)
   pub lines : AllZip (IsDecomposed w) p.decompositions (decomposed_lines x.lines.now)
   pub places : x.places.now ≡ s.lines
 

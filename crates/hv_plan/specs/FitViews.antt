@@ -1,7 +1,7 @@
 -- What the code finds that lines say.
 use Rattle.std.specs.Prelude.{◌≡◌, ℕ, List, [], ◌∷◌, Option, Some, None, option_map, option_and_then, Result, Ok, Err, length, map, slice_get, MatchOption}
 use Rattle.std.specs.List.{AllZip}
-use Rattle.hv_world.specs.Bindings.{GroundAction, object_number}
+use Rattle.hv_world.specs.Bindings.{GroundAction, ground_action, object_number}
 use Rattle.hv_world.specs.Values.{TaskName, compound, primitive}
 use Rattle.hv_world.specs.Worlds.{World, method_named}
 use Rattle.hv_plan.specs.Values.{Decomposition}
@@ -12,8 +12,9 @@ use Rattle.hv_plan.specs.LineFaults.{Entry, IsEarliest, FaultIn}
 use Rattle.hv_plan.specs.declared.cause.CauseKind.{CauseKind}
 use Rattle.hv_plan.specs.declared.cause.Cause.{Cause}
 use Rattle.hv_world.specs.declared.id.ObjectId.{ObjectId}
-use Rattle.hv_plan.specs.Lists.{lists_view, with_lists, IsTidy}
+use Rattle.hv_plan.specs.Lists.{with_lists}
 use Rattle.hv_plan.specs.declared.fit.Decomposed as code
+use Rattle.hv_plan.specs.declared.fit.Grounded as code_action
 use Rattle.hv_plan.specs.declared.fit.lines.DecomposedHead as code_head
 use Rattle.hv_plan.specs.declared.fit.lines.DecomposedLine as code_line
 use Rattle.hv_plan.specs.declared.fit.lines.DecomposedLines as code_lines
@@ -31,6 +32,9 @@ pub record IsDecomposed (w : World) (d : Decomposition) (x : Decomposed) : Type 
   pub is_for : MatchOption (slice_get w.methods x.method) ⊥ (λ m. IsForTask m.task x.task)
 
 -- what the code found of one line, and of all lines
+abbrev pub grounded_view : code_action.Grounded → GroundAction
+grounded_view g = ground_action g.action.0 (map object_number g.objects.items)
+
 abbrev pub decomposed_view : code.Decomposed → Decomposed
 decomposed_view x = record { task = x.task.0; objects = map object_number x.objects.items; method = x.method.0 }
 
@@ -41,12 +45,11 @@ abbrev pub headed : code_head.DecomposedHead → List ObjectId → Decomposed
 headed h os = record { task = h.task.0; objects = map object_number os; method = h.method.0 }
 
 abbrev pub decomposed_lines : code_lines.DecomposedLines → List Decomposed
-decomposed_lines ls = with_lists headed ls.heads.items (lists_view ls.objects)
+decomposed_lines ls = with_lists headed ls.heads.items ls.objects
 
 -- each line has a list of objects
 pub record AreTidy (ls : code_lines.DecomposedLines) : Type 0 where
-  pub objects : IsTidy ls.objects
-  pub as_many : length (lists_view ls.objects) ≡ length ls.heads.items
+  pub as_many : length ls.objects ≡ length ls.heads.items
 
 -- what a line was found to say, and the cause where it was found at fault
 abbrev pub kept : {X : Type 0} → Result X CauseKind → List X

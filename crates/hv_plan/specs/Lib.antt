@@ -4,6 +4,7 @@ pub mod Forms
 pub mod Spellings
 pub mod Plans
 pub mod Lists
+pub mod PlanLines
 pub mod LineViews
 pub mod Views
 pub mod Canonical

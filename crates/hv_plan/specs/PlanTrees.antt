@@ -1,13 +1,13 @@
 -- The tree that the lines of a plan form: its actions, and its nodes with children before parents.
-use Rattle.std.specs.Prelude.{◌≡◌, ℕ, ◌+◌, ◌-◌, ◌<◌, List, [], ◌∷◌, map, length, slice_get, MatchOption, Option, Some, None}
+use Rattle.std.specs.Prelude.{◌≡◌, ◌≢◌, ℕ, zero, suc, ◌+◌, ◌-◌, ◌<◌, List, [], ◌∷◌, ◌++◌, flat_map, AllPairs, Contains, map, length, slice_get, MatchOption, Option, Some, None}
 use Rattle.std.specs.List.{AllZip}
 use Rattle.hv_world.specs.Values.{compound, primitive}
 use Rattle.hv_world.specs.Bindings.{GroundAction}
-use Rattle.hv_world.specs.Lists.{Once}
+use Rattle.hv_text.specs.Lists.{Once}
 use Rattle.hv_world.specs.Worlds.{World, method_named}
 use Rattle.hv_plan.specs.Values.{Action, Decomposition, Root, Plan}
-use Rattle.hv_plan.specs.Shapes.{head}
-use Rattle.hv_plan.specs.Fits.{Says}
+use Rattle.hv_plan.specs.Shapes.{head, FormTree}
+use Rattle.hv_plan.specs.Fits.{Says, FitWorld}
 use Rattle.hv_plan.specs.Trees.{Item, Act, Task, Pre, Tree, Reached, IsTree, HasActions}
 
 -- What a decomposition line says, with numbers for names: its id, the number of the line, its task
@@ -79,9 +79,27 @@ pub record IsRootOf (t : PlanTree) (r : Root) (n : Node) : Type 0 where
 abbrev pub NodeIs : PlanTree → (Node → Type 0) → ℕ → Type 0
 NodeIs t Is v = MatchOption (slice_get t.nodes v) ⊥ Is
 
+-- the nodes among items, by number
+abbrev pub node_numbers : Item → List ℕ
+node_numbers (Act k) = []
+node_numbers (Task v) = v ∷ []
+node_numbers (Pre v) = []
+
+-- the nodes among the children of the nodes below n, those of the last of these nodes first
+abbrev pub child_nodes : (ℕ → List Item) → ℕ → List ℕ
+child_nodes children zero = []
+child_nodes children (suc n) = flat_map node_numbers (children n) ++ child_nodes children n
+
+-- the numbers below n, the greatest first
+abbrev pub countdown : ℕ → List ℕ
+countdown zero = []
+countdown (suc n) = n ∷ countdown n
+
 -- The tree of a plan: it has the plan's actions, a node for each decomposition line and one for the
 -- root line, which name as their children what the lines name by ids; children stand before parents,
--- each is a child once, and every action and every node is reached from the root line
+-- each is a child once, and every action and every node is reached from the root line. Nodes are
+-- numbered level by level: where the children of the last node, of the node before it, and so on down
+-- to node 0 are listed, their nodes are the numbers below that of the root line, the greatest first
 pub record IsTreeOf (w : World) (p : Plan) (t : PlanTree) : Type 0 where
   pub actions : AllZip (IsActionOf w) p.actions t.actions
   pub action_ids : t.action_ids ≡ map (λ a. a.id) p.actions
@@ -91,8 +109,18 @@ pub record IsTreeOf (w : World) (p : Plan) (t : PlanTree) : Type 0 where
   pub last : length t.nodes ≡ root + 1
   pub as_many : length lines ≡ root
   pub once : Once t.order
+  pub every : (v : ℕ) → v < length t.nodes → Contains t.order v
   pub root_node : NodeIs t (IsRootOf t p.root) root
   pub line_nodes : AllZip (λ d v. NodeIs t (IsNodeOf w t d) v) p.decompositions lines
   pub tree : IsTree (tree_of t)
+  pub child_once : (v : ℕ) → AllPairs ◌≢◌ (children_at t.nodes v)
+  pub numbers : child_nodes (children_at t.nodes) (length t.nodes) ≡ countdown root
   pub reached_lines : (v : ℕ) → v < root → Reached (tree_of t) (Task v)
   pub reached_actions : HasActions (tree_of t) (length p.actions)
+
+-- A tree of this world: that of a plan whose lines form a tree and fit the world
+pub record IsTreeIn (w : World) (t : PlanTree) : Type 0 where
+  pub plan : Plan
+  pub forms : FormTree plan
+  pub fits : FitWorld w plan
+  pub is_tree : IsTreeOf w plan t

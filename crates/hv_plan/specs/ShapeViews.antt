@@ -1,11 +1,11 @@
 -- The shape of a plan: what stands below what, with a number for each node.
-use Rattle.std.specs.Prelude.{◌≡◌, ◌+◌, ◌<◌, ◌↔◌, ℕ, List, [], length, map, slice_get, Option, Some, None, option_and_then}
+use Rattle.std.specs.Prelude.{◌≡◌, ◌≢◌, ◌+◌, ◌<◌, ◌↔◌, ℕ, suc, AllPairs, List, [], length, map, slice_get, Option, Some, None, option_and_then}
 use Rattle.std.specs.List.{AllZip}
 use Rattle.hv_plan.specs.Values.{Plan}
 use Rattle.hv_plan.specs.Trees.{Item, Act, Task, Pre, Tree, Reached, IsTree, HasActions}
-use Rattle.hv_plan.specs.Lists.{lists_view}
+use Rattle.hv_plan.specs.PlanTrees.{child_nodes, countdown}
 use Rattle.hv_plan.specs.TreeViews.{child_view}
-use Rattle.hv_plan.specs.declared.shape.Shape as code
+use Rattle.hv_plan.specs.declared.shape.nodes.Shape as code
 
 -- The place in the list of decomposition lines of each node, the node of the root line aside; the
 -- number of the node of each decomposition line; and the children of each node by number, those of
@@ -19,7 +19,7 @@ abbrev pub shape_view : code.Shape → Shape
 shape_view s = record {
   lines = s.lines.items;
   numbers = s.numbers.items;
-  children = map (map child_view) (lists_view s.children);
+  children = map (map child_view) s.children;
 }
 
 -- the list at a place, empty where there is none
@@ -60,5 +60,7 @@ pub record IsShape (p : Plan) (s : Shape) : Type 0 where
   pub of_root : AllZip (Stands p s) p.root.ids (children_of_node s (root_node p))
   pub of_lines : AllZip (λ d v. AllZip (Stands p s) d.children (children_of_node s v)) p.decompositions s.numbers
   pub tree : IsTree (shape_tree p s)
+  pub child_once : (v : ℕ) → AllPairs ◌≢◌ (children_of_node s v)
+  pub in_order : child_nodes (children_of_node s) (suc (length p.decompositions)) ≡ countdown (length p.decompositions)
   pub reached_lines : (v : ℕ) → v < length p.decompositions → Reached (shape_tree p s) (Task v)
   pub reached_actions : HasActions (shape_tree p s) (length p.actions)

@@ -1,7 +1,7 @@
 -- How the shape of a plan is found: lines of ids, the places of ids, a walk along places, and numbers.
-use Rattle.std.specs.Prelude.{◌≡◌, ◌+◌, ◌-◌, ◌<◌, ◌≤◌, ℕ, Bool, true, false, List, [], ◌∷◌, ◌++◌, map, flat_map, length, min, max, nat_eq, nat_lt, slice_index, slice_index_or, Contains, Option, Some, None, if◌then◌else◌}
+use Rattle.std.specs.Prelude.{◌≡◌, zero, suc, take, drop, ◌+◌, ◌-◌, ◌<◌, ◌≤◌, ℕ, Bool, true, false, List, [], ◌∷◌, ◌++◌, map, flat_map, length, min, max, nat_eq, nat_lt, slice_index, slice_index_or, Contains, Option, Some, None, if◌then◌else◌}
 use Rattle.std.specs.List.{list_any, position_or_len}
-use Rattle.hv_world.specs.Lists.{Once}
+use Rattle.hv_text.specs.Lists.{Once}
 use Rattle.hv_plan.specs.Values.{Plan}
 use Rattle.hv_plan.specs.Shapes.{heads, Parent, parents}
 use Rattle.hv_plan.specs.Trees.{Item, Act, Task}
@@ -90,11 +90,19 @@ pub record Grows (old these new : List ℕ) : Type 0 where
   pub kept : (b : ℕ) → b < length old → slice_index new b ≡ slice_index old b
   pub comes : (b : ℕ) → length old ≤ b → b < length new → Contains these (slice_index new b)
   pub has : (c : ℕ) → Contains these c → Contains new c
+  pub fresh : ((c : ℕ) → Contains these c → Contains old c → ⊥) → Once these → new ≡ old ++ these
 
 -- what was met is a child of the root, or of one that was met before it
 pub data Comes (root : List ℕ) (kids : ℕ → List ℕ) (met : List ℕ) (b : ℕ) : Type 0 where
   of_root : Contains root (slice_index met b) → Comes root kids met b
   of_one : (a : ℕ) → a < b → Contains (kids (slice_index met a)) (slice_index met b) → Comes root kids met b
+
+-- what stands below the root and below each place stands there once, and below nothing else
+pub record AreApart (root : List ℕ) (kids : ℕ → List ℕ) : Type 0 where
+  pub roots : Once root
+  pub lists : (a : ℕ) → Once (kids a)
+  pub below_root : (a c : ℕ) → Contains root c → Contains (kids a) c → ⊥
+  pub below_one : (a b c : ℕ) → Contains (kids a) c → Contains (kids b) c → a ≡ b
 
 -- where a walk is that has looked below the first it met
 pub record IsWalking (root : List ℕ) (kids : ℕ → List ℕ) (looked : ℕ) (met : List ℕ) (marks : List Bool) : Type 0 where
@@ -102,6 +110,7 @@ pub record IsWalking (root : List ℕ) (kids : ℕ → List ℕ) (looked : ℕ) 
   pub has_root : (c : ℕ) → Contains root c → Contains met c
   pub closed : (a c : ℕ) → a < looked → Contains (kids (slice_index met a)) c → Contains met c
   pub comes : (b : ℕ) → b < length met → Comes root kids met b
+  pub in_order : AreApart root kids → met ≡ root ++ flat_map kids (take looked met)
 
 -- the walk from the children of the root to all below
 abbrev pub IsWalk : List ℕ → (ℕ → List ℕ) → List ℕ → List Bool → Type 0
@@ -114,6 +123,15 @@ pub record HasMetAll (root : List ℕ) (kids : ℕ → List ℕ) (count : ℕ) (
   pub count_is : length marks ≡ count
   pub all : (k : ℕ) → k < count → is_marked marks k ≡ true
 
+-- the decomposition line of a place, where the first places are those of actions
+abbrev pub line_in : ℕ → ℕ → List ℕ
+line_in actions place = if nat_lt place actions then [] else (place - actions) ∷ []
+
+-- the first n of a list, the last of them first
+abbrev pub backward : List ℕ → ℕ → List ℕ
+backward xs zero = []
+backward xs (suc n) = slice_index xs n ∷ backward xs n
+
 -- The lines among what was met from a place of the walk on are numbered, those met later by lower numbers
 pub record IsNumbering (actions from : ℕ) (met lines numbers : List ℕ) : Type 0 where
   pub back : (v : ℕ) → v < length lines → (slice_index lines v < length numbers) × (slice_index numbers (slice_index lines v) ≡ v)
@@ -121,6 +139,7 @@ pub record IsNumbering (actions from : ℕ) (met lines numbers : List ℕ) : Typ
   pub given : (b k : ℕ) → from ≤ b → b < length met → slice_index met b ≡ actions + k → (slice_index numbers k < length lines) × (slice_index lines (slice_index numbers k) ≡ k)
   pub falling : (a b j k : ℕ) → from ≤ a → a < b → b < length met → slice_index met a ≡ actions + j → slice_index met b ≡ actions + k
       → slice_index numbers k < slice_index numbers j
+  pub in_order : flat_map (line_in actions) (drop from met) ≡ backward lines (length lines)
 
 -- what stands at a place: an action, or the node of a line
 abbrev pub item : ℕ → List ℕ → ℕ → Item

@@ -9,13 +9,13 @@ ghost use Rattle.hv_plan.specs.Causes.{IsTreeFault};
 ghost use Rattle.hv_plan.specs.ChildFaults.{AreNumbered, AreSizes, ChildFaultIn, IsMethodCause, IsSaid, said_name};
 ghost use Rattle.hv_plan.specs.Fits.{FitWorld, names_of};
 ghost use Rattle.hv_plan.specs.FitViews.{decomposed_lines, IsDecomposed};
-ghost use Rattle.hv_world.specs.Bindings.{ground_action_view};
+ghost use Rattle.hv_world.specs.Bindings.{ground_actions_view};
 ghost use Rattle.std.specs.List.{AllZip};
 ghost use Rattle.hv_plan.specs.Forms.{every};
 ghost use Rattle.hv_plan.specs.LineFaults.{IsEarliest};
 ghost use Rattle.hv_plan.specs.LineViews.{plan_view};
-ghost use Rattle.hv_plan.specs.PlanTrees.{IsActionOf, IsTreeOf};
-ghost use Rattle.hv_plan.specs.Shapes.{FormTree, IsInTextOrder, line_parent, parents};
+ghost use Rattle.hv_plan.specs.PlanTrees.{IsActionOf, IsTreeIn, IsTreeOf};
+ghost use Rattle.hv_plan.specs.Shapes.{FormTree, line_parent, parents};
 ghost use Rattle.hv_plan.specs.ShapeViews.{shape_view, IsShape};
 ghost use Rattle.hv_plan.specs.BuiltTrees.{tree_view};
 ghost use Rattle.hv_plan.specs.TreeViews.{child_view};
@@ -170,7 +170,7 @@ fn children_cause(
     ensures { IfOk result (λ o. IsEarliest (ChildFaultIn (world_view methods.now.world.now) (plan_view plan.now) (parents (plan_view plan.now))) o) }
 {
     let mut counts = zeros(alloc, methods.sizes.tasks + methods.sizes.actions)?;
-    let children = shape.children.at(shape.lines.len());
+    let children = shape.children.at(shape.root as usize);
     let top = methods.world.top();
     let root = methods.method_cause(alloc, &mut counts, plan.root_line, top, children)?;
     let lines = methods.lines_cause(alloc, &mut counts, plan, shape)?;
@@ -187,7 +187,7 @@ fn check_children<'s>(
 ) -> Result<(), TreeFault>
     requires form { FormTree (plan_view plan.now) }
     requires shape { IsShape (plan_view plan.now) (shape_view shape.now) }
-    requires actions { AllZip (IsActionOf (world_view world.now)) (plan_view plan.now).actions (map ground_action_view fits.now.actions.items) }
+    requires actions { AllZip (IsActionOf (world_view world.now)) (plan_view plan.now).actions (ground_actions_view fits.now.actions) }
     requires lines { AllZip (IsDecomposed (world_view world.now)) (plan_view plan.now).decompositions (decomposed_lines fits.now.lines) }
     ensures ok { OnOk result (FitWorld (world_view world.now) (plan_view plan.now)) }
     ensures err { IfErr result (IsTreeFault (world_view world.now) (plan_view plan.now)) }
@@ -245,8 +245,8 @@ impl<'p, 's> Tree<'p, 's> {
         world: &World<'s>,
         plan: &'p PlanText<'s>,
     ) -> Result<Tree<'p, 's>, TreeFault>
-        requires { IsInTextOrder (plan_view plan.now) }
         ensures ok { IfOk result (λ t. FormTree (plan_view plan.now) × FitWorld (world_view world.now) (plan_view plan.now) × IsTreeOf (world_view world.now) (plan_view plan.now) (tree_view t)) }
+        ensures tree { IfOk result (λ t. IsTreeIn (world_view world.now) (tree_view t)) }
         ensures err { IfErr result (IsTreeFault (world_view world.now) (plan_view plan.now)) }
     {
         let shape = shape_of(alloc, plan)?;

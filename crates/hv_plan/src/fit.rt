@@ -5,13 +5,13 @@ pub(crate) mod lines;
 
 ghost use Rattle.std.specs.Prelude.{◌≡◌, ◌↔◌, map, length, IfOk, IsTrue, MatchOption, MatchResult, option_map, slice_get};
 ghost use Rattle.hv_text.specs.Names.{text_of};
-ghost use Rattle.hv_world.specs.Bindings.{object_number, ground_action_view};
+ghost use Rattle.hv_world.specs.Bindings.{object_number};
 ghost use Rattle.hv_world.specs.MethodViews.{method_view};
 ghost use Rattle.hv_world.specs.Names.{place_in};
 ghost use Rattle.hv_world.specs.Views.{name_view, type_number};
 ghost use Rattle.hv_world.specs.WorldViews.{world_view};
 ghost use Rattle.hv_plan.specs.Fits.{parameters_of, AreObjects, AreOf, IsForTask};
-ghost use Rattle.hv_plan.specs.FitViews.{decomposed_view, IsDecomposed};
+ghost use Rattle.hv_plan.specs.FitViews.{decomposed_view, grounded_view, IsDecomposed};
 ghost use Rattle.hv_plan.specs.Forms.{every};
 ghost use Rattle.hv_plan.specs.LineFaults.{action_entry, line_entry, IsArgumentFault, IsObjectFault, IsSmallest};
 ghost use Rattle.hv_plan.specs.LineViews.{action_view, decomposition_view};
@@ -20,7 +20,7 @@ ghost use Rattle.hv_plan.specs.PlanTrees.{IsActionOf};
 use crate::cause::CauseKind;
 use crate::plan::{ActionLine, DecompositionLine};
 use hv_text::{Memory, Name};
-use hv_world::{GroundAction, Method, MethodId, ObjectId, TaskId, TaskName, TypeId, World};
+use hv_world::{ActionId, Method, MethodId, ObjectId, TaskId, TaskName, TypeId, World};
 use std::alloc::Global;
 
 /// What a decomposition line says: its task with the objects, and the method.
@@ -29,6 +29,13 @@ pub(crate) struct Decomposed {
     pub(crate) task: TaskId,
     pub(crate) objects: Vec<ObjectId>,
     pub(crate) method: MethodId,
+}
+
+/// What an action line says: its action with the objects.
+#[derive(Drop)]
+pub(crate) struct Grounded {
+    pub(crate) action: ActionId,
+    pub(crate) objects: Vec<ObjectId>,
 }
 
 // The objects of names; None where one of the names is no object.
@@ -65,19 +72,6 @@ fn parameters_of<'a, 's>(world: &'a World<'s>, name: TaskName) -> &'a [TypeId]
     }
 }
 
-// Whether objects are of types, one by one.
-fn are_of(world: &World<'_>, objects: &[ObjectId], types: &[TypeId]) -> bool
-    requires { length objects.now ≡ length types.now }
-    ensures { IsTrue result ↔ AreOf (world_view world.now) (map object_number objects.now) (map type_number types.now) }
-{
-    for place in 0..objects.len() {
-        if !world.is_of(objects[place], types[place]) {
-            return false;
-        }
-    }
-    true
-}
-
 // What keeps objects from being as the parameters of a task or an action.
 fn objects_fault(world: &World<'_>, name: TaskName, objects: &[ObjectId]) -> Option<CauseKind>
     ensures { MatchOption result (AreOf (world_view world.now) (map object_number objects.now) (parameters_of (world_view world.now) (name_view name))) (IsObjectFault (world_view world.now) (name_view name) (map object_number objects.now)) }
@@ -86,7 +80,7 @@ fn objects_fault(world: &World<'_>, name: TaskName, objects: &[ObjectId]) -> Opt
     if objects.len() != types.len() {
         return Some(CauseKind::ArgumentCount);
     }
-    if !are_of(world, objects, types) {
+    if !world.are_of(objects, types) {
         return Some(CauseKind::ArgumentType);
     }
     None
@@ -120,8 +114,8 @@ pub(crate) fn fit_action<'s>(
     alloc: Global,
     world: &World<'s>,
     line: ActionLine<'_, 's>,
-) -> Result<Result<GroundAction, CauseKind>, Memory>
-    ensures { IfOk result (λ r. MatchResult r (λ g. IsActionOf (world_view world.now) (action_view line.entry) (ground_action_view g)) (IsSmallest (world_view world.now) (action_entry (action_view line.entry)))) }
+) -> Result<Result<Grounded, CauseKind>, Memory>
+    ensures { IfOk result (λ r. MatchResult r (λ g. IsActionOf (world_view world.now) (action_view line.entry) (grounded_view g)) (IsSmallest (world_view world.now) (action_entry (action_view line.entry)))) }
 {
     let Some(name) = world.task_named(line.name) else {
         return Ok(Err(CauseKind::UnknownTask));
@@ -131,7 +125,7 @@ pub(crate) fn fit_action<'s>(
         Err(kind) => return Ok(Err(kind)),
     };
     match name {
-        TaskName::Primitive(action) => Ok(Ok(GroundAction { action, objects })),
+        TaskName::Primitive(action) => Ok(Ok(Grounded { action, objects })),
         TaskName::Compound(_) => Ok(Err(CauseKind::NotPrimitive)),
     }
 }

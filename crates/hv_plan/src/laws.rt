@@ -1,9 +1,9 @@
 //! What is read of a plan is what the table of its lines spells; and its lines form a tree or have a cause.
 
 ghost use Rattle.hv_text.specs.declared.fault.TheConstants.{MOST_BYTES};
-ghost use Rattle.std.specs.Prelude.{◌≡◌, ◌↔◌, ◌⊎◌, ◌≤◌, ℕ, List, Some, false, length};
+ghost use Rattle.std.specs.Prelude.{◌≡◌, ◌↔◌, ◌⊎◌, ◌<◌, ◌≤◌, ◌+◌, ℕ, List, Contains, Some, false, length, IsSome};
 ghost use Rattle.hv_text.specs.Words.{Piece};
-ghost use Rattle.hv_plan.specs.Values.{Plan};
+ghost use Rattle.hv_plan.specs.Values.{Decomposition, Plan};
 ghost use Rattle.hv_plan.specs.Lines.{NumberedLine};
 ghost use Rattle.hv_plan.specs.Forms.{Form, form_of};
 ghost use Rattle.hv_plan.specs.Plans.{IsBody, fault_from};
@@ -13,7 +13,10 @@ ghost use Rattle.hv_plan.specs.Bare.{bare_plan};
 ghost use Rattle.hv_world.specs.Worlds.{World};
 ghost use Rattle.hv_plan.specs.Shapes.{FormTree};
 ghost use Rattle.hv_plan.specs.Fits.{FitWorld};
-ghost use Rattle.hv_plan.specs.Causes.{Qualifies};
+ghost use Rattle.hv_plan.specs.Causes.{IsCause, Qualifies};
+ghost use Rattle.hv_plan.specs.PlanTrees.{PlanTree, children_at, IsNodeOf, IsTreeOf, NodeIs};
+ghost use Rattle.hv_plan.specs.Trees.{Task};
+ghost use Rattle.hv_plan.specs.declared.cause.Cause.{Cause};
 ghost use Rattle.hv_plan.specs.declared.cause.CauseKind.{CauseKind};
 ghost use Rattle.hv_plan.specs.declared.fault.PlanFault.{PlanFault};
 ghost use Rattle.hv_plan.specs.declared.fault.PlanFault.TheVariants as faults;
@@ -45,7 +48,27 @@ pub fn plans_are_read_back()
     ensures again { (text : List ℕ) (p q : Plan) → IsPlan text p → IsPlan (plan_text p) q → plan_text q ≡ plan_text p }
 {}
 
-/// Lines that form a tree that fits a world qualify for no cause.
+/// A plan whose lines form a tree has one tree in a world: no two differ in their nodes or in the
+/// numbers of these.
+pub fn a_plan_has_one_tree()
+    ensures { (w : World) (p : Plan) (t u : PlanTree) → FormTree p → IsTreeOf w p t → IsTreeOf w p u → t ≡ u }
+{}
+
+/// Each node of a tree below that of the root line is the node of a decomposition line, so a child
+/// that is a node has a task.
+pub fn nodes_are_lines()
+    ensures lines { (w : World) (p : Plan) (t : PlanTree) → IsTreeOf w p t → (v : ℕ) → v + 1 < length t.nodes → (d : Decomposition) × Contains p.decompositions d × NodeIs t (IsNodeOf w t d) v }
+    ensures tasks { (w : World) (p : Plan) (t : PlanTree) → IsTreeOf w p t → (v u : ℕ) → Contains (children_at t.nodes v) (Task u) → NodeIs t (λ n. IsSome n.task) u }
+{}
+
+/// Lines that form a tree that fits a world qualify for no cause; and one cause at one line is
+/// reported of others.
 pub fn a_tree_or_a_cause()
-    ensures { (w : World) (p : Plan) (k : CauseKind) (l : ℕ) → FormTree p → FitWorld w p → Qualifies w p k l → ⊥ }
+    ensures no_cause { (w : World) (p : Plan) (k : CauseKind) (l : ℕ) → FormTree p → FitWorld w p → Qualifies w p k l → ⊥ }
+    ensures one_cause { (w : World) (p : Plan) (c d : Cause) → IsCause w p c → IsCause w p d → c ≡ d }
+{}
+
+/// A plan has no more lines than its text has bytes, so 32 bits are enough for each place in it.
+pub fn plans_are_small()
+    ensures { (text : List ℕ) (p : Plan) → IsPlan text p → length p.actions + length p.decompositions ≤ length text }
 {}

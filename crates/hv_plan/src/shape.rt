@@ -5,6 +5,7 @@
 //! reported in its turn.
 
 mod begins;
+mod nodes;
 mod numbers;
 mod places;
 mod repeats;
@@ -12,41 +13,27 @@ mod seed;
 mod walk;
 
 ghost use Rattle.std.specs.Prelude.{◌≡◌, ℕ, ◌+◌, None, map, length, Contains, IfOk, IfErr, OnOk};
-ghost use Rattle.hv_world.specs.Lists.{Once};
+ghost use Rattle.hv_text.specs.Lists.{Once};
 ghost use Rattle.hv_plan.specs.Causes.{number};
 ghost use Rattle.hv_plan.specs.LineViews.{plan_view};
-ghost use Rattle.hv_plan.specs.Lists.{lists_view};
-ghost use Rattle.hv_plan.specs.Shapes.{ids, all_children, FormTree, IsInTextOrder};
+ghost use Rattle.hv_plan.specs.Shapes.{ids, all_children, FormTree};
 ghost use Rattle.hv_plan.specs.ShapeViews.{shape_view, IsShape};
 ghost use Rattle.hv_plan.specs.ShapeCauses.{NoneBelow, IsFirstFor, IsFormFault};
 ghost use Rattle.hv_plan.specs.Shaping.{line_unless, IsFirst, IsMissed, IsRepeat, HasMetAll, is_marked, lines_of_heads, lines_of_children, place_of, places_of_lines, kids};
 ghost use Rattle.hv_plan.specs.declared.cause.CauseKind.TheVariants as kinds;
 
 use crate::cause::{Cause, CauseKind, TreeFault};
-use crate::lists::Lists;
 use crate::plan::PlanText;
-use crate::tree::Child;
 use begins::{line_count, line_numbers};
-use hv_text::Memory;
+use hv_text::{Lists, Memory};
 use indexmap::IndexSet;
-use numbers::{node_children, number_met};
+pub(crate) use nodes::Shape;
+use numbers::{node_children, number_met, short};
 use places::{child_places, id_table, places_of, unknown_child};
 use repeats::{earlier, repeated_id, second_parent};
 use seed::Seeded;
 use std::alloc::Global;
 use walk::walk_from;
-
-/// What stands below what in a plan. Each decomposition line has a node, with a number less than that
-/// of the line that names it as a child; the last node is that of the root line.
-#[derive(Drop)]
-pub(crate) struct Shape {
-    /// The place in the list of decomposition lines of each node below that of the root line, children before parents.
-    pub(crate) lines: Vec<u32>,
-    /// The number of the node of each decomposition line.
-    pub(crate) numbers: Vec<u32>,
-    /// The children of each node by number; those of the root line come last.
-    pub(crate) children: Lists<Child>,
-}
 
 /// The children of the root line and those of each decomposition line, as places.
 #[derive(Drop)]
@@ -62,7 +49,6 @@ struct Below {
 /// `RepeatedId`, else `UnknownChild`, else `TwoParents`, else `Unreached`, each at the first line at fault; `Memory`
 /// where a growth was refused.
 pub(crate) fn shape_of(alloc: Global, plan: &PlanText<'_>) -> Result<Shape, TreeFault>
-    requires { IsInTextOrder (plan_view plan.now) }
     ensures ok { IfOk result (λ s. FormTree (plan_view plan.now) × IsShape (plan_view plan.now) (shape_view s)) }
     ensures err { IfErr result (IsFormFault (plan_view plan.now)) }
 {
@@ -88,7 +74,6 @@ fn none_at(plan: &PlanText<'_>, kind: CauseKind, line: Option<u32>) -> Result<()
 
 // Whether each id begins one line.
 fn check_ids(alloc: Global, plan: &PlanText<'_>) -> Result<(), TreeFault>
-    requires { IsInTextOrder (plan_view plan.now) }
     ensures none { OnOk result (NoneBelow (plan_view plan.now) 51) }
     ensures once { OnOk result (Once (ids (plan_view plan.now))) }
     ensures err { IfErr result (IsFormFault (plan_view plan.now)) }
@@ -101,7 +86,6 @@ fn check_ids(alloc: Global, plan: &PlanText<'_>) -> Result<(), TreeFault>
 // The shape of a plan in which no id begins two lines, where the line is known that names a child a
 // second time.
 fn shape_of_ids(alloc: Global, plan: &PlanText<'_>, second: Option<u32>) -> Result<Shape, TreeFault>
-    requires order { IsInTextOrder (plan_view plan.now) }
     requires once { Once (ids (plan_view plan.now)) }
     requires second { IsFirst (IsRepeat (all_children (plan_view plan.now)) (lines_of_children (plan_view plan.now)) (length (all_children (plan_view plan.now)))) second }
     requires none { NoneBelow (plan_view plan.now) 51 }
@@ -115,12 +99,11 @@ fn shape_of_ids(alloc: Global, plan: &PlanText<'_>, second: Option<u32>) -> Resu
 
 // The children of each line as places, where each child begins a line and is a child once.
 fn known_places(alloc: Global, plan: &PlanText<'_>, second: Option<u32>) -> Result<Below, TreeFault>
-    requires order { IsInTextOrder (plan_view plan.now) }
     requires once { Once (ids (plan_view plan.now)) }
     requires second { IsFirst (IsRepeat (all_children (plan_view plan.now)) (lines_of_children (plan_view plan.now)) (length (all_children (plan_view plan.now)))) second }
     requires none { NoneBelow (plan_view plan.now) 51 }
     ensures root { IfOk result (λ b. b.root.items ≡ map (place_of (ids (plan_view plan.now))) (plan_view plan.now).root.ids) }
-    ensures lists { IfOk result (λ b. lists_view b.lists ≡ places_of_lines (ids (plan_view plan.now)) (plan_view plan.now)) }
+    ensures lists { IfOk result (λ b. b.lists ≡ places_of_lines (ids (plan_view plan.now)) (plan_view plan.now)) }
     ensures known { OnOk result ((i : ℕ) → Contains (all_children (plan_view plan.now)) i → Contains (ids (plan_view plan.now)) i) }
     ensures single { OnOk result (Once (all_children (plan_view plan.now))) }
     ensures none { OnOk result (NoneBelow (plan_view plan.now) 53) }
@@ -140,7 +123,6 @@ fn check_children(
     table: &IndexSet<u64, Seeded>,
     second: Option<u32>,
 ) -> Result<(), TreeFault>
-    requires order { IsInTextOrder (plan_view plan.now) }
     requires table { table.now.keys ≡ ids (plan_view plan.now) }
     requires second { IsFirst (IsRepeat (all_children (plan_view plan.now)) (lines_of_children (plan_view plan.now)) (length (all_children (plan_view plan.now)))) second }
     requires none { NoneBelow (plan_view plan.now) 51 }
@@ -162,7 +144,7 @@ fn places_below(
     table: &IndexSet<u64, Seeded>,
 ) -> Result<Below, Memory>
     ensures root { IfOk result (λ b. b.root.items ≡ map (place_of table.now.keys) (plan_view plan.now).root.ids) }
-    ensures lists { IfOk result (λ b. lists_view b.lists ≡ places_of_lines table.now.keys (plan_view plan.now)) }
+    ensures lists { IfOk result (λ b. b.lists ≡ places_of_lines table.now.keys (plan_view plan.now)) }
 {
     let root = places_of(alloc, table, &plan.root)?;
     let lists = child_places(alloc, table, &plan.decompositions)?;
@@ -172,7 +154,7 @@ fn places_below(
 // The shape of a plan in which each child begins one line and is a child once.
 fn shape_below(alloc: Global, plan: &PlanText<'_>, below: &Below) -> Result<Shape, TreeFault>
     requires root { below.now.root.items ≡ map (place_of (ids (plan_view plan.now))) (plan_view plan.now).root.ids }
-    requires lists { lists_view below.now.lists ≡ places_of_lines (ids (plan_view plan.now)) (plan_view plan.now) }
+    requires lists { below.now.lists ≡ places_of_lines (ids (plan_view plan.now)) (plan_view plan.now) }
     requires once { Once (ids (plan_view plan.now)) }
     requires known { (i : ℕ) → Contains (all_children (plan_view plan.now)) i → Contains (ids (plan_view plan.now)) i }
     requires single { Once (all_children (plan_view plan.now)) }
@@ -188,11 +170,11 @@ fn shape_below(alloc: Global, plan: &PlanText<'_>, below: &Below) -> Result<Shap
 // What a walk has met that has met all lines.
 fn walk_below(alloc: Global, plan: &PlanText<'_>, below: &Below) -> Result<Vec<usize>, TreeFault>
     requires root { below.now.root.items ≡ map (place_of (ids (plan_view plan.now))) (plan_view plan.now).root.ids }
-    requires lists { lists_view below.now.lists ≡ places_of_lines (ids (plan_view plan.now)) (plan_view plan.now) }
+    requires lists { below.now.lists ≡ places_of_lines (ids (plan_view plan.now)) (plan_view plan.now) }
     requires once { Once (ids (plan_view plan.now)) }
     requires known { (i : ℕ) → Contains (all_children (plan_view plan.now)) i → Contains (ids (plan_view plan.now)) i }
     requires none { NoneBelow (plan_view plan.now) 53 }
-    ensures met { IfOk result (λ v. HasMetAll below.now.root.items (kids (lists_view below.now.lists) (length (plan_view plan.now).actions)) (length (ids (plan_view plan.now))) v.items) }
+    ensures met { IfOk result (λ v. HasMetAll below.now.root.items (kids below.now.lists (length (plan_view plan.now).actions)) (length (ids (plan_view plan.now))) v.items) }
     ensures err { IfErr result (IsFormFault (plan_view plan.now)) }
 {
     let actions = plan.actions.len();
@@ -238,17 +220,19 @@ fn numbered(
     below: &Below,
 ) -> Result<Shape, Memory>
     requires root { below.now.root.items ≡ map (place_of (ids (plan_view plan.now))) (plan_view plan.now).root.ids }
-    requires lists { lists_view below.now.lists ≡ places_of_lines (ids (plan_view plan.now)) (plan_view plan.now) }
+    requires lists { below.now.lists ≡ places_of_lines (ids (plan_view plan.now)) (plan_view plan.now) }
     requires once { Once (ids (plan_view plan.now)) }
     requires known { (i : ℕ) → Contains (all_children (plan_view plan.now)) i → Contains (ids (plan_view plan.now)) i }
     requires single { Once (all_children (plan_view plan.now)) }
-    requires met { HasMetAll below.now.root.items (kids (lists_view below.now.lists) (length (plan_view plan.now).actions)) (length (ids (plan_view plan.now))) met.items }
+    requires met { HasMetAll below.now.root.items (kids below.now.lists (length (plan_view plan.now).actions)) (length (ids (plan_view plan.now))) met.items }
     ensures { IfOk result (λ s. FormTree (plan_view plan.now) × IsShape (plan_view plan.now) (shape_view s)) }
 {
     let actions = plan.actions.len();
     let numbering = number_met(alloc, actions, below.lists.len(), met)?;
     let children = node_children(alloc, actions, &numbering, &below.root, &below.lists)?;
+    let count = short(numbering.lines.len().saturating_add(1))?;
     Ok(Shape {
+        root: count - 1,
         lines: numbering.lines,
         numbers: numbering.numbers,
         children,

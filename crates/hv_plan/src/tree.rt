@@ -1,8 +1,8 @@
 //! The tree that the lines of a plan form.
 
-ghost use Rattle.std.specs.Prelude.{◌≡◌, map, option_map, option_and_then, slice_get, length, MatchOption};
-ghost use Rattle.hv_world.specs.Bindings.{object_number, ground_action_view};
-ghost use Rattle.hv_plan.specs.BuiltTrees.{nodes_view, tree_view};
+ghost use Rattle.std.specs.Prelude.{◌≡◌, ◌<◌, map, option_map, option_and_then, slice_get, length, IfSome};
+ghost use Rattle.hv_world.specs.Bindings.{object_number, ground_actions_view};
+ghost use Rattle.hv_plan.specs.BuiltTrees.{tree_view};
 ghost use Rattle.hv_plan.specs.FitViews.{decomposed_line, decomposed_lines};
 ghost use Rattle.hv_plan.specs.LineViews.{action_view, decomposition_view, plan_view};
 ghost use Rattle.hv_plan.specs.NodeViews.{node_of, node_of_line, node_of_root};
@@ -12,7 +12,7 @@ ghost use Rattle.hv_plan.specs.TreeViews.{child_view, node_view};
 use crate::fit::lines::{DecomposedLine, DecomposedLines};
 use crate::plan::{ActionLine, DecompositionLine, PlanText};
 use crate::shape::Shape;
-use hv_world::{GroundAction, MethodId, ObjectId, TaskId};
+use hv_world::{GroundActions, MethodId, ObjectId, TaskId};
 
 /// What stands below a node: an action by its place in plan order, or a node by its number. 32 bits
 /// are enough for the lines of every text.
@@ -50,15 +50,9 @@ pub struct Node<'a> {
 #[derive(Drop)]
 pub struct Tree<'p, 's> {
     pub(crate) plan: &'p PlanText<'s>,
-    pub(crate) actions: Vec<GroundAction>,
+    pub(crate) actions: GroundActions,
     pub(crate) said: DecomposedLines,
     pub(crate) shape: Shape,
-}
-
-/// The nodes of a tree, by number.
-#[derive(Clone, Copy)]
-pub struct Nodes<'a, 'p, 's> {
-    tree: &'a Tree<'p, 's>,
 }
 
 impl<'a> Node<'a> {
@@ -150,8 +144,8 @@ fn root_node<'a>(line: u32, children: &'a [Child]) -> Node<'a>
 
 impl<'p, 's> Tree<'p, 's> {
     /// The actions, in plan order.
-    pub fn actions(&self) -> &[GroundAction]
-        ensures { map ground_action_view result.now ≡ (tree_view self.now).actions }
+    pub fn actions(&self) -> &GroundActions
+        ensures { ground_actions_view result.now ≡ (tree_view self.now).actions }
     {
         &self.actions
     }
@@ -171,11 +165,12 @@ impl<'p, 's> Tree<'p, 's> {
         Some(line.id)
     }
 
-    /// The nodes by number, children before parents; the last is that of the root line.
-    pub fn nodes(&self) -> Nodes<'_, 'p, 's>
-        ensures { nodes_view result ≡ (tree_view self.now).nodes }
+    /// How many nodes there are, one at least: children have lower numbers than parents, and the last
+    /// node is that of the root line.
+    pub fn node_count(&self) -> u32
+        ensures { result ≡ length (tree_view self.now).nodes }
     {
-        Nodes { tree: self }
+        self.shape.root + 1
     }
 
     // The place of the line of a node, where it is a decomposition line.
@@ -213,50 +208,32 @@ impl<'p, 's> Tree<'p, 's> {
     }
 
     /// The node of a number, where there is one.
-    pub fn node(&self, node: usize) -> Option<Node<'_>>
+    pub fn node(&self, node: u32) -> Option<Node<'_>>
         ensures { option_map node_view result ≡ slice_get (tree_view self.now).nodes node }
     {
-        if node <= self.shape.lines.len() {
-            Some(self.node_of_place(node, self.place_of(node)))
+        if node <= self.shape.root {
+            Some(self.node_of_place(node as usize, self.place_of(node as usize)))
         } else {
             None
         }
     }
 
     // The number of the node of the decomposition line at a place, where there is one.
-    fn number_of(&self, line: usize) -> Option<usize>
+    fn number_of(&self, line: usize) -> Option<u32>
         ensures { result ≡ slice_get self.now.shape.numbers.items line }
     {
-        match self.shape.numbers.get(line) {
-            Some(number) => Some(*number as usize),
-            None => None,
-        }
+        self.shape.numbers.get(line).copied()
     }
 
     /// The number of the k-th node in the order of nodes, where there is one: 0 is the root line, and
     /// the decomposition lines follow as the text has them.
-    pub fn node_at(&self, k: usize) -> Option<usize>
-        ensures { result ≡ slice_get (tree_view self.now).order k }
+    pub fn node_at(&self, k: usize) -> Option<u32>
+        ensures number { result ≡ slice_get (tree_view self.now).order k }
+        ensures within { IfSome result (λ v. v < length (tree_view self.now).nodes) }
     {
         match k.checked_sub(1) {
-            None => Some(self.shape.lines.len()),
+            None => Some(self.shape.root),
             Some(line) => self.number_of(line),
         }
-    }
-}
-
-impl<'a, 'p, 's> Nodes<'a, 'p, 's> {
-    /// How many nodes there are; one at least, since the root line has one.
-    pub fn len(&self) -> usize
-        ensures { result ≡ length (nodes_view self.now) }
-    {
-        self.tree.shape.lines.len() + 1
-    }
-
-    /// The node of a number, where there is one.
-    pub fn get(&self, node: usize) -> Option<Node<'a>>
-        ensures { option_map node_view result ≡ slice_get (nodes_view self.now) node }
-    {
-        self.tree.node(node)
     }
 }

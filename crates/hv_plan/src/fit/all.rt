@@ -2,10 +2,10 @@
 
 ghost use Rattle.std.specs.Prelude.{◌≡◌, ◌++◌, map, IfOk, IfErr, OnOk};
 ghost use Rattle.std.specs.List.{AllZip};
-ghost use Rattle.hv_world.specs.Bindings.{ground_action_view};
+ghost use Rattle.hv_world.specs.Bindings.{ground_actions_view};
 ghost use Rattle.hv_world.specs.WorldViews.{world_view};
 ghost use Rattle.hv_plan.specs.Causes.{IsTreeFault};
-ghost use Rattle.hv_plan.specs.FitViews.{decomposed_view, decomposed_lines, AreTidy, IsDecomposed, AreFitted, kept, cause_at};
+ghost use Rattle.hv_plan.specs.FitViews.{decomposed_view, decomposed_lines, grounded_view, AreTidy, IsDecomposed, AreFitted, kept, cause_at};
 ghost use Rattle.hv_plan.specs.LineFaults.{action_entry, line_entry, earlier};
 ghost use Rattle.hv_plan.specs.LineViews.{actions_view, decompositions_view, plan_view};
 ghost use Rattle.hv_plan.specs.PlanTrees.{IsActionOf};
@@ -13,23 +13,23 @@ ghost use Rattle.hv_plan.specs.Shapes.{FormTree};
 
 use crate::cause::{Cause, CauseKind, TreeFault, earlier};
 use crate::fit::lines::DecomposedLines;
-use crate::fit::{Decomposed, fit_action, fit_line};
+use crate::fit::{Decomposed, Grounded, fit_action, fit_line};
 use crate::plan::{ActionLines, DecompositionLines, PlanText};
 use hv_text::Memory;
-use hv_world::{GroundAction, World};
+use hv_world::{GroundActions, World};
 use std::alloc::Global;
 
 /// What the lines of a plan say: the action of each action line, and what each decomposition line says.
 #[derive(Drop)]
 pub(crate) struct Fits {
-    pub(crate) actions: Vec<GroundAction>,
+    pub(crate) actions: GroundActions,
     pub(crate) lines: DecomposedLines,
 }
 
 // What action lines say, and the cause that is reported of them.
 #[derive(Drop)]
 struct FittedActions {
-    actions: Vec<GroundAction>,
+    actions: GroundActions,
     cause: Option<Cause>,
 }
 
@@ -40,18 +40,18 @@ struct FittedLines {
     cause: Option<Cause>,
 }
 
-// Notes what a line says, or the cause where it comes before the one that was found.
-fn note<T: Drop>(
-    items: &mut Vec<T>,
+// Notes what an action line says, or the cause where it comes before the one that was found.
+fn note_action(
+    actions: &mut GroundActions,
     cause: &mut Option<Cause>,
-    fit: Result<T, CauseKind>,
+    fit: Result<Grounded, CauseKind>,
     line: u32,
 ) -> Result<(), Memory>
-    ensures items { OnOk result (items.new.items ≡ items.old.items ++ kept fit) }
+    ensures actions { OnOk result (ground_actions_view actions.new ≡ ground_actions_view actions.old ++ map grounded_view (kept fit)) }
     ensures cause { OnOk result (cause.new ≡ earlier cause.old (cause_at fit line)) }
 {
     match fit {
-        Ok(item) => items.push(item)?,
+        Ok(ground) => actions.push(ground.action, &ground.objects)?,
         Err(kind) => *cause = earlier(*cause, Some(Cause { kind, line })),
     }
     Ok(())
@@ -82,14 +82,14 @@ fn fit_actions<'s>(
     world: &World<'s>,
     lines: &ActionLines<'s>,
 ) -> Result<FittedActions, Memory>
-    ensures { IfOk result (λ f. AreFitted (world_view world.now) action_entry (IsActionOf (world_view world.now)) (actions_view lines.now) (map ground_action_view f.actions.items) f.cause) }
+    ensures { IfOk result (λ f. AreFitted (world_view world.now) action_entry (IsActionOf (world_view world.now)) (actions_view lines.now) (ground_actions_view f.actions) f.cause) }
 {
-    let mut actions = Vec::with_capacity(alloc, lines.len())?;
+    let mut actions = GroundActions::with_capacity(alloc, lines.len())?;
     let mut cause = None;
     for place in 0..lines.len() {
         let line = lines.at(place);
         let fit = fit_action(alloc, world, line)?;
-        note(&mut actions, &mut cause, fit, line.line)?;
+        note_action(&mut actions, &mut cause, fit, line.line)?;
     }
     Ok(FittedActions { actions, cause })
 }
@@ -124,7 +124,7 @@ pub(crate) fn fit<'s>(
     plan: &PlanText<'s>,
 ) -> Result<Fits, TreeFault>
     requires { FormTree (plan_view plan.now) }
-    ensures actions { IfOk result (λ f. AllZip (IsActionOf (world_view world.now)) (plan_view plan.now).actions (map ground_action_view f.actions.items)) }
+    ensures actions { IfOk result (λ f. AllZip (IsActionOf (world_view world.now)) (plan_view plan.now).actions (ground_actions_view f.actions)) }
     ensures lines { IfOk result (λ f. AllZip (IsDecomposed (world_view world.now)) (plan_view plan.now).decompositions (decomposed_lines f.lines)) }
     ensures err { IfErr result (IsTreeFault (world_view world.now) (plan_view plan.now)) }
 {

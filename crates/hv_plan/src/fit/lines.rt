@@ -4,8 +4,7 @@ ghost use Rattle.std.specs.Prelude.{◌≡◌, ◌<◌, ◌++◌, ◌∷◌, [],
 ghost use Rattle.hv_plan.specs.FitViews.{decomposed_view, decomposed_line, decomposed_lines, AreTidy};
 
 use super::Decomposed;
-use crate::lists::Lists;
-use hv_text::Memory;
+use hv_text::{Lists, Memory};
 use hv_world::{MethodId, ObjectId, TaskId};
 use std::alloc::Global;
 

@@ -4,8 +4,7 @@ ghost use Rattle.std.specs.Prelude.{◌≡◌, ◌<◌, ◌^◌, ◌==◌, ◌++
 ghost use Rattle.hv_text.specs.Names.{text_of};
 ghost use Rattle.hv_plan.specs.LineViews.{action_view, actions_view, AreTidyActions};
 
-use crate::lists::Lists;
-use hv_text::{Memory, Name};
+use hv_text::{Lists, Memory, Name};
 use std::alloc::Global;
 
 /// A line that says: the node of this id is this action with these arguments.

@@ -1,11 +1,10 @@
 //! Decomposition lines.
 
-ghost use Rattle.std.specs.Prelude.{◌≡◌, ◌<◌, ◌^◌, ◌==◌, ◌++◌, ◌∷◌, [], Some, map, length, option_map, slice_get, IfOk, OnOk};
+ghost use Rattle.std.specs.Prelude.{◌≡◌, ◌<◌, ◌^◌, ◌==◌, ◌++◌, ◌∷◌, [], Some, map, length, sum_by, option_map, slice_get, IfOk, OnOk};
 ghost use Rattle.hv_text.specs.Names.{text_of};
 ghost use Rattle.hv_plan.specs.LineViews.{decomposition_view, decompositions_view, AreTidy};
 
-use crate::lists::Lists;
-use hv_text::{Memory, Name};
+use hv_text::{Lists, Memory, Name};
 use std::alloc::Global;
 
 /// A line that says: the node of this id is this task with these arguments, and this method decomposes it
@@ -115,7 +114,7 @@ impl<'s> DecompositionLines<'s> {
 
     /// How many children all lines have together.
     pub(crate) fn child_count(&self) -> usize
-        ensures { result ≡ length self.now.children.items.items }
+        ensures { result ≡ sum_by length self.now.children }
     {
         self.children.item_count()
     }

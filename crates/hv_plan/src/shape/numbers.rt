@@ -1,14 +1,12 @@
 //! The numbers of nodes, children before parents.
 
 ghost use Rattle.std.specs.Prelude.{◌≡◌, ℕ, ◌+◌, ◌<◌, ◌≤◌, ◌∷◌, [], ◌++◌, map, length, slice_index, slice_index_or, slice_set, Contains, IfOk, OnOk};
-ghost use Rattle.hv_world.specs.Lists.{Once};
-ghost use Rattle.hv_plan.specs.Lists.{lists_view, IsTidy};
+ghost use Rattle.hv_text.specs.Lists.{Once};
 ghost use Rattle.hv_plan.specs.TreeViews.{child_view};
 ghost use Rattle.hv_plan.specs.Shaping.{IsNumbering, item, items_at, children_by_number};
 
-use crate::lists::Lists;
 use crate::tree::Child;
-use hv_text::Memory;
+use hv_text::{Lists, Memory};
 use std::alloc::Global;
 
 /// The decomposition lines by number, and the number of each.
@@ -18,8 +16,12 @@ pub(super) struct Numbering {
     pub(super) numbers: Vec<u32>,
 }
 
-// A number in 32 bits, which are enough for the lines of every text; `Memory` where it has more.
-fn short(number: usize) -> Result<u32, Memory>
+/// A number in 32 bits, which are enough for the lines of every text.
+///
+/// # Errors
+///
+/// `Memory` where it has more.
+pub(super) fn short(number: usize) -> Result<u32, Memory>
     ensures { IfOk result (λ short. short ≡ number) }
 {
     match u32::try_from(number) {
@@ -122,10 +124,8 @@ fn push_items(
     children: &mut Lists<Child>,
     places: &[usize],
 ) -> Result<(), Memory>
-    requires tidy { IsTidy children.old }
-    requires places { (c : ℕ) → Contains places.now c → c < actions + length numbers.now }
-    ensures children { OnOk result (map (map child_view) (lists_view children.new) ≡ map (map child_view) (lists_view children.old) ++ items_at actions numbers.now places.now ∷ []) }
-    ensures tidy { OnOk result (IsTidy children.new) }
+    requires { (c : ℕ) → Contains places.now c → c < actions + length numbers.now }
+    ensures { OnOk result (map (map child_view) children.new ≡ map (map child_view) children.old ++ items_at actions numbers.now places.now ∷ []) }
 {
     let items = items(alloc, actions, numbers, places)?;
     children.push(&items)?;
@@ -141,8 +141,8 @@ pub(super) fn node_children(
     lists: &Lists<usize>,
 ) -> Result<Lists<Child>, Memory>
     requires root { (c : ℕ) → Contains root.now c → c < actions + length numbering.now.numbers.items }
-    requires lists { (k c : ℕ) → Contains (slice_index_or (lists_view lists.now) k []) c → c < actions + length numbering.now.numbers.items }
-    ensures { IfOk result (λ ls. map (map child_view) (lists_view ls) ≡ children_by_number actions numbering.now.lines.items numbering.now.numbers.items root.now (lists_view lists.now)) }
+    requires lists { (k c : ℕ) → Contains (slice_index_or lists.now k []) c → c < actions + length numbering.now.numbers.items }
+    ensures { IfOk result (λ ls. map (map child_view) ls ≡ children_by_number actions numbering.now.lines.items numbering.now.numbers.items root.now lists.now) }
 {
     let mut children = Lists::with_capacity(alloc, numbering.lines.len().saturating_add(1))?;
     for line in &numbering.lines {

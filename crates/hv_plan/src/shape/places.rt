@@ -1,18 +1,16 @@
 //! The places of ids.
 
 ghost use Rattle.std.specs.Prelude.{◌≡◌, ◌++◌, ◌∷◌, [], map, length, IfOk, OnOk};
-ghost use Rattle.hv_world.specs.Lists.{Once};
+ghost use Rattle.hv_text.specs.Lists.{Once};
 ghost use Rattle.hv_plan.specs.LineViews.{decompositions_view, plan_view};
-ghost use Rattle.hv_plan.specs.Lists.{lists_view, IsTidy};
 ghost use Rattle.hv_plan.specs.Shapes.{ids, all_children};
 ghost use Rattle.hv_plan.specs.Shaping.{place_of, is_known, IsFirst, IsMissed, lines_of_children};
 
 use super::begins::{children, line_ids};
 use super::repeats::earlier;
 use super::seed::Seeded;
-use crate::lists::Lists;
 use crate::plan::{DecompositionLines, PlanText};
-use hv_text::Memory;
+use hv_text::{Lists, Memory};
 use indexmap::IndexSet;
 use std::alloc::Global;
 
@@ -96,9 +94,7 @@ fn push_places(
     lists: &mut Lists<usize>,
     children: &[u64],
 ) -> Result<(), Memory>
-    requires { IsTidy lists.old }
-    ensures lists { OnOk result (lists_view lists.new ≡ lists_view lists.old ++ map (place_of table.now.keys) children.now ∷ []) }
-    ensures tidy { OnOk result (IsTidy lists.new) }
+    ensures { OnOk result (lists.new ≡ lists.old ++ map (place_of table.now.keys) children.now ∷ []) }
 {
     let places = places_of(alloc, table, children)?;
     lists.push(&places)?;
@@ -111,7 +107,7 @@ pub(super) fn child_places(
     table: &IndexSet<u64, Seeded>,
     lines: &DecompositionLines<'_>,
 ) -> Result<Lists<usize>, Memory>
-    ensures { IfOk result (λ ls. lists_view ls ≡ map (λ d. map (place_of table.now.keys) d.children) (decompositions_view lines.now)) }
+    ensures { IfOk result (λ ls. ls ≡ map (λ d. map (place_of table.now.keys) d.children) (decompositions_view lines.now)) }
 {
     let mut lists = Lists::with_capacity(alloc, lines.len())?;
     for place in 0..lines.len() {

@@ -1,11 +1,9 @@
 //! A walk from the root line down.
 
 ghost use Rattle.std.specs.Prelude.{◌≡◌, ℕ, ◌<◌, ◌∷◌, [], length, Contains, IfOk, OnOk};
-ghost use Rattle.hv_plan.specs.Lists.{lists_view};
 ghost use Rattle.hv_plan.specs.Shaping.{kids, IsMeeting, Grows, IsWalk};
 
-use crate::lists::Lists;
-use hv_text::Memory;
+use hv_text::{Lists, Memory};
 use std::alloc::Global;
 
 /// The places that a walk has met, in its order, and for each place whether it was met.
@@ -46,7 +44,7 @@ fn meet_all(walk: &mut Walk, places: &[usize]) -> Result<(), Memory>
 
 /// The places of the children of a place: an action line has none.
 fn kids(lists: &Lists<usize>, actions: usize, place: usize) -> &[usize]
-    ensures { result.now ≡ kids (lists_view lists.now) actions place }
+    ensures { result.now ≡ kids lists.now actions place }
 {
     match place.checked_sub(actions) {
         Some(line) => lists.at(line),
@@ -63,8 +61,8 @@ pub(super) fn walk_from(
     lists: &Lists<usize>,
 ) -> Result<Walk, Memory>
     requires root { (c : ℕ) → Contains root.now c → c < count }
-    requires lists { (v c : ℕ) → Contains (kids (lists_view lists.now) actions v) c → c < count }
-    ensures walk { IfOk result (λ w. IsWalk root.now (kids (lists_view lists.now) actions) w.met.items w.is_met.items) }
+    requires lists { (v c : ℕ) → Contains (kids lists.now actions v) c → c < count }
+    ensures walk { IfOk result (λ w. IsWalk root.now (kids lists.now actions) w.met.items w.is_met.items) }
     ensures count { IfOk result (λ w. length w.is_met.items ≡ count) }
 {
     let mut walk = Walk {

@@ -1,7 +1,7 @@
 //! The names of children and of subtasks, and a number for each.
 
 ghost use Rattle.std.specs.Prelude.{◌≡◌, ◌+◌, ◌<◌, ◌^◌, length, map, option_map, IfOk, IfSome};
-ghost use Rattle.hv_world.specs.Bindings.{ground_action_view};
+ghost use Rattle.hv_world.specs.Bindings.{ground_actions_view};
 ghost use Rattle.hv_world.specs.Views.{name_view, subtask_view};
 ghost use Rattle.hv_world.specs.WorldViews.{world_view};
 ghost use Rattle.hv_plan.specs.Fits.{names_of};
@@ -14,7 +14,7 @@ ghost use Rattle.hv_plan.specs.TreeViews.{child_view};
 use crate::fit::lines::DecomposedLines;
 use crate::tree::Child;
 use hv_text::Memory;
-use hv_world::{GroundAction, Subtask, TaskName, World};
+use hv_world::{GroundActions, Subtask, TaskName, World};
 use std::alloc::Global;
 
 /// How many tasks and actions a world has. Each has a number: the tasks come first.
@@ -29,7 +29,7 @@ pub(crate) struct Sizes {
 /// each node.
 #[derive(Clone, Copy)]
 pub(crate) struct Said<'a> {
-    pub(crate) actions: &'a [GroundAction],
+    pub(crate) actions: &'a GroundActions,
     pub(crate) lines: &'a DecomposedLines,
     pub(crate) places: &'a [u32],
 }
@@ -110,7 +110,7 @@ pub(crate) fn numbers_of_subtasks(
 impl Said<'_> {
     // The task of a node, where there is one.
     fn task_name(&self, node: usize) -> Option<TaskName>
-        ensures { option_map name_view result ≡ item_name (map ground_action_view self.now.actions.now) (decomposed_lines self.now.lines.now) self.now.places.now (items.Task node) }
+        ensures { option_map name_view result ≡ item_name (ground_actions_view self.now.actions.now) (decomposed_lines self.now.lines.now) self.now.places.now (items.Task node) }
     {
         let place = *self.places.get(node)?;
         let line = self.lines.get(place as usize)?;
@@ -119,11 +119,11 @@ impl Said<'_> {
 
     // The name of a child, where there is one.
     fn name(&self, child: Child) -> Option<TaskName>
-        ensures { option_map name_view result ≡ item_name (map ground_action_view self.now.actions.now) (decomposed_lines self.now.lines.now) self.now.places.now (child_view child) }
+        ensures { option_map name_view result ≡ item_name (ground_actions_view self.now.actions.now) (decomposed_lines self.now.lines.now) self.now.places.now (child_view child) }
     {
         match child {
             Child::Action(action) => match self.actions.get(action as usize) {
-                Some(action) => Some(TaskName::Primitive(action.action)),
+                Some(action) => Some(TaskName::Primitive(action.action())),
                 None => None,
             },
             Child::Node(node) => self.task_name(node as usize),
@@ -136,7 +136,7 @@ impl Said<'_> {
         alloc: Global,
         children: &[Child],
     ) -> Result<Option<Vec<TaskName>>, Memory>
-        ensures { IfOk result (λ o. option_map (λ v. map name_view v.items) o ≡ every (item_name (map ground_action_view self.now.actions.now) (decomposed_lines self.now.lines.now) self.now.places.now) (map child_view children.now)) }
+        ensures { IfOk result (λ o. option_map (λ v. map name_view v.items) o ≡ every (item_name (ground_actions_view self.now.actions.now) (decomposed_lines self.now.lines.now) self.now.places.now) (map child_view children.now)) }
     {
         let mut names = Vec::new(alloc);
         for child in children {

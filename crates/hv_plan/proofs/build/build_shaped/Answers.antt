@@ -1,5 +1,5 @@
 use Rattle.std.proofs.Common.{map}
-use Rattle.hv_world.specs.Bindings.{ground_action_view}
+use Rattle.hv_world.specs.Bindings.{ground_actions_view}
 use Rattle.hv_world.specs.WorldViews.{world_view}
 use Rattle.hv_plan.specs.FitViews.{decomposed_lines}
 use Rattle.hv_plan.specs.LineViews.{plan_view}
@@ -10,6 +10,6 @@ use Rattle.hv_plan.proofs.build.build_shaped.Goals as goal
 pub returns-clause-ok : goal.returns-clause-ok
 returns-clause-ok c = (
   c.in_ok-check_children.ensures.ok,
-  is_tree_of (world_view c.args.world.now) (plan_view c.args.plan.now) (shape_view c.args.shape) c.requires.shape (map ground_action_view c.in_ok-fits.fits.actions.items) (decomposed_lines c.in_ok-fits.fits.lines)
+  is_tree_of (world_view c.args.world.now) (plan_view c.args.plan.now) (shape_view c.args.shape) c.requires.shape (ground_actions_view c.in_ok-fits.fits.actions) (decomposed_lines c.in_ok-fits.fits.lines)
       c.in_ok-fits.ensures.actions c.in_ok-fits.ensures.lines,
 )

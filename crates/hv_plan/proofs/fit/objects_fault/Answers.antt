@@ -19,3 +19,6 @@ returns-then-not-are_of c =
     type (length-map c.args.objects.now object_number ∙ e ∙ sym (length-map c.parameters_of-types.result.now type_number) ∙ ap length c.parameters_of-types.ensures)
     (λ all. not_true c.are_of.result c.if-not-are_of.true
     (c.are_of.ensures.1 (subst (λ ts. AreOf (world_view c.args.world.now) (map object_number c.args.objects.now) ts) (sym c.parameters_of-types.ensures) all)))
+
+pub returns : goal.returns
+returns c = subst (λ ts. AreOf (world_view c.args.world.now) (map object_number c.args.objects.now) ts) c.parameters_of-types.ensures (c.are_of.ensures.0 c.if-not-are_of.false)

@@ -1,5 +1,9 @@
 use Rattle.hv_plan.proofs.FormLaws.{tree_has_no_cause}
+use Rattle.hv_plan.proofs.OneCause.{one_cause}
 use Rattle.hv_plan.proofs.laws.a_tree_or_a_cause.Goals as goal
 
-pub returns : goal.returns
-returns c w p k l form fits q = tree_has_no_cause w p form fits k l q
+pub returns-clause-no_cause : goal.returns-clause-no_cause
+returns-clause-no_cause c = λ w p k l form fits q. tree_has_no_cause w p form fits k l q
+
+pub returns-clause-one_cause : goal.returns-clause-one_cause
+returns-clause-one_cause c = λ w p d e is other. one_cause w p d e is other

@@ -9,10 +9,10 @@ pub none_at-requires-clause-first : goal.none_at-requires-clause-first
 none_at-requires-clause-first c =
     let p = plan_view c.args.plan.now in
     let P : List ℕ → Type 0 = λ ks. IsFirst (IsMissed (is_known ks (all_children p)) (lines_of_children p) (length (all_children p))) c.in_ok-unknown.unknown in
-    unknowns_are p c.requires.order c.in_ok-unknown.unknown (subst P c.requires.table c.in_ok-unknown.ensures)
+    unknowns_are p c.args.plan.now.order c.in_ok-unknown.unknown (subst P c.requires.table c.in_ok-unknown.ensures)
 
 pub none_at-requires-2-clause-first : goal.none_at-requires-2-clause-first
-none_at-requires-2-clause-first c = pairs_are (plan_view c.args.plan.now) c.requires.order c.args.second c.requires.second
+none_at-requires-2-clause-first c = pairs_are (plan_view c.args.plan.now) c.args.plan.now.order c.args.second c.requires.second
 
 pub returns-clause-known : goal.returns-clause-known
 returns-clause-known c =

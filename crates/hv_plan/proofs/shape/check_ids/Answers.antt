@@ -9,7 +9,7 @@ pub none_at-requires-clause-below : goal.none_at-requires-clause-below
 none_at-requires-clause-below c = none_below (plan_view c.args.plan.now)
 
 pub none_at-requires-clause-first : goal.none_at-requires-clause-first
-none_at-requires-clause-first c = repeats_are (plan_view c.args.plan.now) c.requires c.in_ok-repeat.repeat c.in_ok-repeat.ensures
+none_at-requires-clause-first c = repeats_are (plan_view c.args.plan.now) c.args.plan.now.order c.in_ok-repeat.repeat c.in_ok-repeat.ensures
 
 pub returns-clause-once : goal.returns-clause-once
 returns-clause-once c =

@@ -1,6 +1,5 @@
 use Rattle.std.proofs.Common.{◌≡◌, ◌<◌, ℕ, List, Option, subst, ◌∙◌, arith, length, Contains}
 use Rattle.hv_plan.specs.LineViews.{plan_view}
-use Rattle.hv_plan.specs.Lists.{lists_view}
 use Rattle.hv_plan.specs.Shapes.{ids}
 use Rattle.hv_plan.specs.Shaping.{IsFirst, IsMissed, IsWalk, is_marked, lines_of_heads, kids}
 use Rattle.hv_plan.proofs.ShapeTrees.{root_within, kids_within}
@@ -17,15 +16,15 @@ walk_from-requires-clause-root c = λ x h.
 pub walk_from-requires-clause-lists : goal.walk_from-requires-clause-lists
 walk_from-requires-clause-lists c = λ v x h.
     let p = plan_view c.args.plan.now in
-    let P : ℕ → Type 0 = λ n. Contains (kids (lists_view c.args.below.now.lists) n v) x in
-    let w : x < length (ids p) = kids_within p (lists_view c.args.below.now.lists) c.requires.lists c.requires.known v x (subst P c.len-actions.ensures.count h) in
+    let P : ℕ → Type 0 = λ n. Contains (kids c.args.below.now.lists n v) x in
+    let w : x < length (ids p) = kids_within p c.args.below.now.lists c.requires.lists c.requires.known v x (subst P c.len-actions.ensures.count h) in
     omega (arith, w, c.line_count.ensures)
 
 pub none_at-requires-clause-first : goal.none_at-requires-clause-first
 none_at-requires-clause-first c = λ w.
     let p = plan_view c.args.plan.now in
     let root = c.args.below.now.root.items in
-    let lists = lists_view c.args.below.now.lists in
+    let lists = c.args.below.now.lists in
     let met = c.in_ok-walk.walk.met.items in
     let marks = c.in_ok-walk.walk.is_met.items in
     let count : length marks ≡ length (ids p) = c.in_ok-walk.ensures.count ∙ c.line_count.ensures in
@@ -39,7 +38,7 @@ pub returns-clause-met : goal.returns-clause-met
 returns-clause-met c =
     let p = plan_view c.args.plan.now in
     let root = c.args.below.now.root.items in
-    let lists = lists_view c.args.below.now.lists in
+    let lists = c.args.below.now.lists in
     let met = c.in_ok-walk.walk.met.items in
     let marks = c.in_ok-walk.walk.is_met.items in
     let count : length marks ≡ length (ids p) = c.in_ok-walk.ensures.count ∙ c.line_count.ensures in

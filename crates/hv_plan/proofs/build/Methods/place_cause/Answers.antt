@@ -3,7 +3,6 @@ use Rattle.hv_world.specs.WorldViews.{world_view}
 use Rattle.hv_plan.specs.FitViews.{decomposed_line, decomposed_lines, IsDecomposed}
 use Rattle.hv_plan.specs.LineViews.{decomposition_view, plan_view}
 use Rattle.hv_plan.specs.ShapeViews.{shape_view}
-use Rattle.hv_plan.specs.Lists.{lists_view}
 use Rattle.hv_plan.specs.TreeViews.{child_view}
 use Rattle.hv_plan.proofs.FitLemmas.{same_length, member_at}
 use Rattle.hv_plan.proofs.ChildLemmas.{slice_get_here, list_here, node_within, names_are_numbered, children_stand_at, cause_of_children, if_ok_more}
@@ -17,7 +16,7 @@ line_cause-requires-clause-known c =
     let within : c.args.place < length c.args.shape.now.numbers.items = omega (arith, c.requires.shape.as_many_numbers, c.requires.place) in
     let number_at : slice_get c.args.shape.now.numbers.items c.args.place ≡ Some c.index.result.now = slice_get_here c.args.shape.now.numbers.items c.args.place c.index.result.now within c.index.ensures in
     let below : c.index.result.now < length s.children = node_within p s c.requires.shape c.args.place c.index.result.now number_at in
-    let kids = list_here child_view (lists_view c.args.shape.now.children) c.index.result.now c.at-children.result.now below c.at-children.ensures in
+    let kids = list_here child_view c.args.shape.now.children c.index.result.now c.at-children.result.now below c.at-children.ensures in
     (names_are_numbered w c.args.self.now.sizes.tasks c.args.self.now.sizes.actions c.requires.sizes p s c.args.self.now.said c.requires.said (decomposition_view c.at-line.result).children (map child_view c.at-children.result.now)
     (children_stand_at p s c.requires.shape c.args.place c.index.result.now (decomposition_view c.at-line.result) (map child_view c.at-children.result.now) c.at-line.ensures number_at kids))
 
@@ -30,7 +29,7 @@ returns-clause-cause c =
     let within : c.args.place < length c.args.shape.now.numbers.items = omega (arith, c.requires.shape.as_many_numbers, c.requires.place) in
     let number_at : slice_get c.args.shape.now.numbers.items c.args.place ≡ Some c.index.result.now = slice_get_here c.args.shape.now.numbers.items c.args.place c.index.result.now within c.index.ensures in
     let below : c.index.result.now < length s.children = node_within p s c.requires.shape c.args.place c.index.result.now number_at in
-    let kids = list_here child_view (lists_view c.args.shape.now.children) c.index.result.now c.at-children.result.now below c.at-children.ensures in
+    let kids = list_here child_view c.args.shape.now.children c.index.result.now c.at-children.result.now below c.at-children.ensures in
     if_ok_more _ _ c.line_cause.result
     (λ o found d is.
     cause_of_children w c.args.self.now.sizes.tasks c.args.self.now.sizes.actions c.requires.sizes p s x c.requires.said c.requires.form c.requires.shape c.args.place c.index.result.now

@@ -27,4 +27,4 @@ returns-in_default-clause-so_far c =
     let met = c.args.met.now in
     let at = c.args.at in
     let less : slice_index met at < c.args.actions = omega (arith, c.in_default.ensures) in
-    no_number c.args.actions at met c.args.numbering.now.lines.items c.args.numbering.now.numbers.items less c.requires.so_far
+    no_number c.args.actions at met c.args.numbering.now.lines.items c.args.numbering.now.numbers.items c.requires.at less c.requires.so_far

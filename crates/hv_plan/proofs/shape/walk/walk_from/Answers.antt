@@ -1,6 +1,5 @@
 use Rattle.std.proofs.Common.{◌≡◌, ◌<◌, ◌≤◌, ℕ, List, ap, subst, ◌∙◌, arith, length, slice_index, Contains}
 use Rattle.std.proofs.lemmas.Grind.{get_or_default_zero}
-use Rattle.hv_plan.specs.Lists.{lists_view}
 use Rattle.hv_plan.specs.Shaping.{kids, Grows}
 use Rattle.hv_plan.proofs.ShapeWalks.{met_fits, walk_starts, walk_goes, walk_ends}
 use Rattle.hv_plan.proofs.shape.walk.walk_from.Goals as goal
@@ -13,7 +12,7 @@ meet_all-requires-clause-within c = λ x h.
 pub met-init : goal.met-init
 met-init c =
     let root = c.args.root.now in
-    let below = kids (lists_view c.args.lists.now) c.args.actions in
+    let below = kids c.args.lists.now c.args.actions in
     let met = c.meet_all.new.walk.met.items in
     let marks = c.meet_all.new.walk.is_met.items in
     let P : List ℕ → Type 0 = λ old. Grows old root met in
@@ -30,7 +29,7 @@ meet_all-requires-in-met-clause-within c = λ x h.
 pub met-preserved : goal.met-preserved
 met-preserved c =
     let root = c.args.root.now in
-    let below = kids (lists_view c.args.lists.now) c.args.actions in
+    let below = kids c.args.lists.now c.args.actions in
     let old = c.met.walk.met.items in
     let met = c.meet_all-in-met.new.walk.met.items in
     let marks = c.meet_all-in-met.new.walk.is_met.items in
@@ -45,5 +44,5 @@ met-preserved c =
 
 pub returns-clause-walk : goal.returns-clause-walk
 returns-clause-walk c =
-    walk_ends c.args.root.now (kids (lists_view c.args.lists.now) c.args.actions) c.met.at c.met.walk.met.items c.met.walk.is_met.items
-    (omega (arith, c.met-test.false, c.len.ensures, c.met.walk.met.ok)) c.met.invariant.0
+    walk_ends c.args.root.now (kids c.args.lists.now c.args.actions) c.met.at c.met.walk.met.items c.met.walk.is_met.items
+    (omega (arith, c.met-test.false, c.len.ensures, c.met.walk.met.ok, c.met.invariant.2)) c.met.invariant.0

@@ -5,17 +5,16 @@ use Rattle.hv_plan.specs.ShapeViews.{shape_view}
 use Rattle.hv_plan.proofs.AssemblyLemmas.{node_here, no_node_behind}
 use Rattle.hv_plan.proofs.tree.Tree.node.Goals as goal
 
-pub returns-then-node-len : goal.returns-then-node-len
-returns-then-node-len c =
+pub returns-then-node-self : goal.returns-then-node-self
+returns-then-node-self c =
     let p = plan_view c.args.self.now.plan.now in
     let s = shape_view c.args.self.now.shape in
     let made = rw c.place_of.ensures at c.node_of_place.ensures in
-    let lines = c.args.self.now.shape.lines.ok in
-    let here = node_here p s (decomposed_lines c.args.self.now.said) c.args.node (omega (arith, c.if-node-len.true, lines)) in
+    let here = node_here p s (decomposed_lines c.args.self.now.said) c.args.node (omega (arith, c.if-node-self.true, c.args.self.now.shape.last)) in
     cc (made, here)
 
-pub returns-else-node-len : goal.returns-else-node-len
-returns-else-node-len c =
+pub returns-else-node-self : goal.returns-else-node-self
+returns-else-node-self c =
     let p = plan_view c.args.self.now.plan.now in
     let s = shape_view c.args.self.now.shape in
-    sym (no_node_behind p s (decomposed_lines c.args.self.now.said) c.args.node (omega (arith, c.if-node-len.false, c.len.ensures)))
+    sym (no_node_behind p s (decomposed_lines c.args.self.now.said) c.args.node (omega (arith, c.if-node-self.false, c.args.self.now.shape.last)))

@@ -1,11 +1,10 @@
 use Rattle.std.proofs.Common.{◌∙◌, Some, sym}
 use Rattle.hv_plan.specs.FitViews.{headed}
-use Rattle.hv_plan.specs.Lists.{lists_view}
 use Rattle.hv_plan.proofs.ListLemmas.{with_at}
 use Rattle.hv_plan.proofs.fit.lines.DecomposedLines.at.Goals as goal
 
 pub returns : goal.returns
 returns c =
     let ls = c.args.self.now in
-    with_at headed ls.heads.items (lists_view ls.objects) c.args.place c.index-head.result.now c.requires c.index-head.ensures
+    with_at headed ls.heads.items ls.objects c.args.place c.index-head.result.now c.requires c.index-head.ensures
     ∙ (λ i. Some (headed c.index-head.result.now (sym c.at.ensures i)))

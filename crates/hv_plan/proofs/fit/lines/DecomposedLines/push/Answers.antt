@@ -1,6 +1,6 @@
 use Rattle.std.proofs.Common.{◌∙◌}
 use Rattle.hv_plan.specs.FitViews.{headed}
-use Rattle.hv_plan.specs.Lists.{lists_view, with_lists}
+use Rattle.hv_plan.specs.Lists.{with_lists}
 use Rattle.hv_plan.proofs.ListLemmas.{with_more}
 use Rattle.hv_plan.proofs.fit.lines.DecomposedLines.push.Goals as goal
 
@@ -9,4 +9,4 @@ returns-clause-lines c =
     let ls = c.args.self.now in
     let listed = rw c.deref.ensures.value at c.in_ok-push.ensures.lists in
     (λ i. with_lists headed (c.in_ok-push-2.ensures.items i) (listed i))
-    ∙ with_more headed ls.heads.items (lists_view ls.objects) _ c.args.line.objects.items c.requires.as_many
+    ∙ with_more headed ls.heads.items ls.objects _ c.args.line.objects.items c.requires.as_many

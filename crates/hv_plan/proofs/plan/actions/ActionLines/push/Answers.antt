@@ -1,5 +1,5 @@
 use Rattle.std.proofs.Common.{◌∙◌}
-use Rattle.hv_plan.specs.Lists.{lists_view, with_lists}
+use Rattle.hv_plan.specs.Lists.{with_lists}
 use Rattle.hv_plan.specs.LineViews.{headed_action}
 use Rattle.hv_plan.proofs.ListLemmas.{with_more}
 use Rattle.hv_plan.proofs.plan.actions.ActionLines.push.Goals as goal
@@ -9,4 +9,4 @@ returns-clause-lines c =
     let as' = c.args.self.now in
     let line = c.args.line in
     (λ i. with_lists headed_action (c.in_ok-push-2.ensures.items i) (c.in_ok-push.ensures.lists i))
-    ∙ with_more headed_action as'.heads.items (lists_view as'.arguments) _ line.arguments.now c.requires.as_many_arguments
+    ∙ with_more headed_action as'.heads.items as'.arguments _ line.arguments.now c.requires.as_many_arguments

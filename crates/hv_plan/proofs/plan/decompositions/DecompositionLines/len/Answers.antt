@@ -1,5 +1,4 @@
 use Rattle.std.proofs.Common.{◌≡◌, ◌∙◌, length, sym, rules}
-use Rattle.hv_plan.specs.Lists.{lists_view}
 use Rattle.hv_plan.proofs.LineLists.{length_lines}
 use Rattle.hv_plan.proofs.plan.decompositions.DecompositionLines.len.Goals as goal
 
@@ -7,4 +6,4 @@ pub returns-clause-count : goal.returns-clause-count
 returns-clause-count c =
     let ds = c.args.self.now in
     let same : c.len.result ≡ length ds.heads.items = search rules in
-    same ∙ sym (length_lines ds.heads.items (lists_view ds.arguments) (lists_view ds.children))
+    same ∙ sym (length_lines ds.heads.items ds.arguments ds.children)

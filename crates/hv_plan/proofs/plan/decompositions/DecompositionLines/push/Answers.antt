@@ -1,5 +1,4 @@
 use Rattle.std.proofs.Common.{◌∙◌}
-use Rattle.hv_plan.specs.Lists.{lists_view}
 use Rattle.hv_plan.specs.LineViews.{lines_of}
 use Rattle.hv_plan.proofs.LineLists.{line_more}
 use Rattle.hv_plan.proofs.plan.decompositions.DecompositionLines.push.Goals as goal
@@ -9,4 +8,4 @@ returns-clause-lines c =
     let ds = c.args.self.now in
     let line = c.args.line in
     (λ i. lines_of (c.in_ok-push-3.ensures.items i) (c.in_ok-push.ensures.lists i) (c.in_ok-push-2.ensures.lists i))
-    ∙ line_more ds.heads.items (lists_view ds.arguments) (lists_view ds.children) _ line.arguments.now line.children.now c.requires.as_many_arguments c.requires.as_many_children
+    ∙ line_more ds.heads.items ds.arguments ds.children _ line.arguments.now line.children.now c.requires.as_many_arguments c.requires.as_many_children

@@ -1,5 +1,5 @@
 use Rattle.std.proofs.Common.{◌≡◌, drop, map}
-use Rattle.hv_world.specs.Bindings.{ground_action_view}
+use Rattle.hv_world.specs.Bindings.{ground_actions_view}
 use Rattle.hv_world.specs.Views.{name_view}
 use Rattle.hv_plan.specs.FitViews.{decomposed_lines, item_name}
 use Rattle.hv_plan.specs.Forms.{every, behind}
@@ -9,6 +9,6 @@ use Rattle.hv_plan.proofs.subtasks.names.Said.names.Given as goal
 -- the names so far and those of the children that are left are those of all children
 abbrev pub invariant-loop-child : goal.invariant-loop-child
 invariant-loop-child l =
-    let name = item_name (map ground_action_view l.self.actions.now) (decomposed_lines l.self.lines.now) l.self.places.now in
+    let name = item_name (ground_actions_view l.self.actions.now) (decomposed_lines l.self.lines.now) l.self.places.now in
     behind (map name_view l.names.items) (every name (map child_view (drop l.child-index l.children)))
     ≡ every name (map child_view l.children)
