@@ -11,3 +11,7 @@ pub mod HistoryLemmas
 pub mod GrowLemmas
 pub mod NoteLemmas
 pub mod NextLemmas
+pub mod DecisionLemmas
+pub mod WordLemmas
+pub mod BitLemmas
+pub mod LitLemmas

@@ -1,25 +1,22 @@
 -- Changes that are noted on the way of a plan.
-use Rattle.std.proofs.Common.{◌≡◌, ◌<◌, ◌≤◌, ◌+◌, ◌++◌, ◌↔◌, ◌⊎◌, inl, inr, ℕ, zero, suc, Bool, true, false, true≢false, IsTrue, bytes_eq, nat_le, List, [], ◌∷◌, length, map, drop, get_or, slice_get, Option, None, Some, if◌then◌else◌, refl, sym, ap, ◌∙◌, subst, arith}
+use Rattle.std.proofs.Common.{◌≡◌, ◌<◌, ◌≤◌, ◌+◌, ◌++◌, ◌↔◌, ◌⊎◌, inl, inr, ℕ, zero, suc, Bool, true, false, true≢false, IsTrue, bytes_eq, nat_le, List, [], ◌∷◌, length, map, drop, slice_get, Option, None, Some, if◌then◌else◌, refl, sym, ap, ◌∙◌, subst, arith}
 use Rattle.std.specs.List.{Contains}
 use Rattle.std.specs.Cmp.Lexicographic.{bytes_decides}
 use Rattle.std.proofs.lemmas.Bool.{cases_lt}
-use Rattle.std.proofs.lemmas.List.{length-append, map-append, at_drop_more, at_drop_all}
+use Rattle.std.proofs.lemmas.List.{length-append, map-append, at_drop_more}
 use Rattle.std.proofs.lemmas.List.Elements.{Contains-append_left, Contains-append_right, Contains-append_cases}
-use Rattle.hv_world.specs.declared.formula.Atom as code_atom
-use Rattle.hv_world.specs.declared.binding.GroundAction as code_action
-use Rattle.hv_world.specs.Views.{atom_view}
-use Rattle.hv_world.specs.Bindings.{GroundAction, ground_action_view}
+use Rattle.hv_world.specs.Bindings.{GroundAction}
 use Rattle.hv_world.specs.Worlds.{World, Action}
-use Rattle.hv_world.specs.Values.{Atom, Formula}
+use Rattle.hv_world.specs.Values.{Formula}
 use Rattle.hv_state.specs.Truth.{True}
-use Rattle.hv_state.specs.Atoms.{GroundAtom, Atoms, Same, After, atom_under, atoms_under}
+use Rattle.hv_state.specs.Atoms.{GroundAtom, Atoms, Same, After, atoms_under}
 use Rattle.hv_state.specs.Rows.{row_of, HasSameRows}
 use Rattle.hv_state.specs.Plans.{Plan, AfterAction, StateAt, IsApplicableIn, IsApplicable, StopsAt}
 use Rattle.hv_state.specs.Changes.{Change, Stays, AreChanges, none_yet, stays, turns, told, Tells, TrueAfter, Table, beside, rows_of, kept}
 use Rattle.hv_state.specs.Notes.{touched_by, touched_in, Before, IsAdded, Turns, AreNoted, IsPassed, IsRecorded}
 use Rattle.hv_state.proofs.RowLemmas.{contains_first, contains_later, contains_cases, contains_none}
 use Rattle.hv_state.proofs.StateLemmas.{same_atom, atom_listed, row_listed}
-use Rattle.hv_state.proofs.PlanLemmas.{applies, acted, same_itself, applicable_same, applicable_if, only_if, same_back, same_through, after_same, next_state, push_at}
+use Rattle.hv_state.proofs.PlanLemmas.{read_there, applies, acted, applicable_same, applicable_if, only_if, same_back, same_through, after_same, next_state, push_at}
 use Rattle.hv_state.proofs.GrowLemmas.{empty_rows}
 use Rattle.hv_state.proofs.ChangeLemmas.{told_push, if_true, is_from, late, Says, tells}
 
@@ -244,16 +241,11 @@ so_far_whole p n start now t so_far whole = record { begun = so_far.begun; ran =
 pub moment_is : (p : Plan) (start : Atoms) (t : Table) → IsRecorded p start t → (k : ℕ) → k ≤ length p.actions → Same (TrueAfter start (kept t) k) (StateAt p k)
 moment_is p start t recorded k le g = tells_from p g (start g) (recorded.begun g) (length p.actions) (kept t g) (recorded.changes g) k le
 
--- the atoms that are left, and the actions
-module _ (env : List ℕ) (atoms : List code_atom.Atom) (i : ℕ) where
-  pub atoms_left : (a : code_atom.Atom) → i < length atoms → a ≡ get_or atoms i a → atoms_under env (map atom_view (drop i atoms)) ≡ atom_under env (atom_view a) ∷ atoms_under env (map atom_view (drop (i + 1) atoms))
-  atoms_left a lt is = at_drop_more (λ xs. atoms_under env (map atom_view xs)) atoms i a lt ∙ ap (λ b. atom_under env (atom_view b) ∷ atoms_under env (map atom_view (drop (i + 1) atoms))) (sym is)
-
-  pub no_atoms_left : length atoms ≤ i → atoms_under env (map atom_view (drop i atoms)) ≡ []
-  no_atoms_left le = at_drop_all (λ xs. atoms_under env (map atom_view xs)) atoms i le
-
-pub touched_left : (actions : List code_action.GroundAction) (i : ℕ) (a : code_action.GroundAction) → i < length actions → a ≡ get_or actions i a → map ground_action_view (drop i actions) ≡ ground_action_view a ∷ map ground_action_view (drop (i + 1) actions)
-touched_left actions i a lt is = at_drop_more (map ground_action_view) actions i a lt ∙ ap (λ b. ground_action_view b ∷ map ground_action_view (drop (i + 1) actions)) (sym is)
+-- the actions that are left
+pub actions_left : (actions : List GroundAction) (i : ℕ) (a : GroundAction) → slice_get actions i ≡ Some a → drop i actions ≡ a ∷ drop (i + 1) actions
+actions_left actions i a there =
+    let read = read_there actions i a there in
+    at_drop_more (λ xs. xs) actions i a read.0 ∙ ap (λ b. b ∷ drop (i + 1) actions) read.1
 
 pub touched_more : (w : World) (old pushed now : List (List ℕ)) (a : GroundAction) (rest : List GroundAction) (Q : List ℕ → Type 0) → pushed ≡ old ++ map row_of (touched_by w a) → HasSameRows pushed now
     → ((r : List ℕ) → (Contains old r ⊎ Contains (map row_of (touched_in w (a ∷ rest))) r) ↔ Q r) → (r : List ℕ) → (Contains now r ⊎ Contains (map row_of (touched_in w rest)) r) ↔ Q r
@@ -286,13 +278,13 @@ touched_more w old pushed now a rest Q is same before r = (from, to)
         by (inr m) = elim (Contains-append_cases by_a by_rest r (subst (λ xs. Contains xs r) both m)) [ inl l ↦ inl (put (Contains-append_right old by_a r l)) | inr l ↦ inr l ]
 
 -- an action that the world has, done and noted
-module _ (w : World) (step : GroundAction) (a : Action) (there : slice_get w.actions step.action ≡ Some a) (start before after : Atoms) (from : ℕ) (t u v : Table) (env : List ℕ) where
-  pub passed : (f : Formula) (deletes adds deletes' adds' : List Atom) → env ≡ step.objects → f ≡ a.precondition → deletes ≡ a.deletes → adds ≡ a.adds → deletes' ≡ a.deletes → adds' ≡ a.adds
-      → True w.typing before f env → Same after (After before (atoms_under env deletes) (atoms_under env adds)) → AreNoted start after from (atoms_under env deletes') t u → AreNoted start after from (atoms_under env adds') u v → IsPassed w step start before after from t v
-  passed f deletes adds deletes' adds' os fs ds as' ds' as'' h same first next =
+module _ (w : World) (step : GroundAction) (a : Action) (there : slice_get w.actions step.action ≡ Some a) (start before after : Atoms) (from : ℕ) (t u v : Table) (deletes adds : List GroundAtom) where
+  pub passed : (f : Formula) (env : List ℕ) → env ≡ step.objects → f ≡ a.precondition → deletes ≡ atoms_under step.objects a.deletes → adds ≡ atoms_under step.objects a.adds → True w.typing before f env → Same after (After before deletes adds) → AreNoted start after from deletes t u
+      → AreNoted start after from adds u v → IsPassed w step start before after from t v
+  passed f env os fs ds as' h same first next =
       record {
         applicable = applies w before step a there f env fs os h;
-        state = acted w before step a there after before env deletes adds os ds as' (same_itself before) same;
+        state = acted w before step a there after deletes adds ds as' same;
         noted = subst (λ o. AreNoted start after from (elim o [ None ↦ [] | Some x ↦ atoms_under step.objects x.deletes ++ atoms_under step.objects x.adds ]) t v) (sym there)
-            (noted_both start after from (atoms_under step.objects a.deletes) (atoms_under step.objects a.adds) t u v (subst (λ o. AreNoted start after from (atoms_under o a.deletes) t u) os (subst (λ xs. AreNoted start after from (atoms_under env xs) t u) ds' first)) (subst (λ o. AreNoted start after from (atoms_under o a.adds) u v) os (subst (λ xs. AreNoted start after from (atoms_under env xs) u v) as'' next)));
+            (subst (λ xs. AreNoted start after from (xs ++ atoms_under step.objects a.adds) t v) ds (subst (λ xs. AreNoted start after from (deletes ++ xs) t v) as' (noted_both start after from deletes adds t u v first next)));
       }

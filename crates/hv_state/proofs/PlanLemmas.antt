@@ -1,12 +1,11 @@
 -- The states that a plan passes, as the code finds them.
-use Rattle.std.proofs.Common.{◌≡◌, ◌<◌, ◌+◌, ◌++◌, ◌↔◌, inl, inr, ℕ, zero, suc, List, [], ◌∷◌, length, map, take, get_or, slice_get, Option, None, Some, IsSomeAnd, sym, ap, ◌∙◌, subst, arith}
+use Rattle.std.proofs.Common.{◌≡◌, ◌<◌, ◌+◌, ◌++◌, ◌↔◌, inl, inr, ℕ, zero, suc, List, [], ◌∷◌, length, take, get_or, slice_get, Option, None, Some, IsSomeAnd, sym, ap, ◌∙◌, subst, arith}
 use Rattle.std.specs.List.{Contains}
 use Rattle.std.proofs.lemmas.List.{take_more}
-use Rattle.hv_world.specs.Values.{Atom, Formula, Formulas, holds, and, or, not, imply, forall, exists, equal, no_formulas, more_formulas}
+use Rattle.hv_world.specs.Values.{Formula, Formulas, holds, and, or, not, imply, forall, exists, equal, no_formulas, more_formulas}
 use Rattle.hv_world.specs.Types.{Typing}
-use Rattle.hv_world.specs.Bindings.{GroundAction, ground_action_view}
+use Rattle.hv_world.specs.Bindings.{GroundAction}
 use Rattle.hv_world.specs.Worlds.{World, Action}
-use Rattle.hv_world.specs.declared.binding.GroundAction as code
 use Rattle.hv_state.specs.Atoms.{GroundAtom, Atoms, Same, After, atoms_under, atom_under}
 use Rattle.hv_state.specs.Truth.{ForEach, ForSome, True, AllTrue, SomeTrue}
 use Rattle.hv_state.specs.Plans.{Plan, IsApplicableIn, AfterAction, AfterActions, Start, StateAt, IsApplicable}
@@ -83,13 +82,10 @@ module _ (w : World) (S : Atoms) (g : GroundAction) (a : Action) (there : slice_
   pub applies : (f : Formula) (env : List ℕ) → f ≡ a.precondition → env ≡ g.objects → True w.typing S f env → IsApplicableIn w S g
   applies f env fs os h = subst (λ o. IsSomeAnd o (λ b. True w.typing S b.precondition g.objects)) (sym there) (subst (λ x. True w.typing S x g.objects) fs (subst (True w.typing S f) os h))
 
-  pub acted : (T U : Atoms) (env : List ℕ) (deletes adds : List Atom) → env ≡ g.objects → deletes ≡ a.deletes → adds ≡ a.adds → Same U S → Same T (After U (atoms_under env deletes) (atoms_under env adds)) → Same T (AfterAction w S g)
-  acted T U env deletes adds os ds as' e h =
+  pub acted : (T : Atoms) (deletes adds : List GroundAtom) → deletes ≡ atoms_under g.objects a.deletes → adds ≡ atoms_under g.objects a.adds → Same T (After S deletes adds) → Same T (AfterAction w S g)
+  acted T deletes adds ds as' h =
       subst (λ o. Same T (elim o [ None ↦ S | Some b ↦ After S (atoms_under g.objects b.deletes) (atoms_under g.objects b.adds) ])) (sym there)
-      (subst (λ xs. Same T (After S (atoms_under g.objects xs) (atoms_under g.objects a.adds))) ds
-      (subst (λ xs. Same T (After S (atoms_under g.objects deletes) (atoms_under g.objects xs))) as'
-      (subst (λ o. Same T (After S (atoms_under o deletes) (atoms_under o adds))) os
-      (same_through T (After U (atoms_under env deletes) (atoms_under env adds)) (After S (atoms_under env deletes) (atoms_under env adds)) h (after_sets U S (atoms_under env deletes) (atoms_under env adds) e)))))
+      (subst (λ xs. Same T (After S xs (atoms_under g.objects a.adds))) ds (subst (λ xs. Same T (After S deletes xs)) as' h))
 
 -- one action more
 after_push : (w : World) (xs : List GroundAction) (a : GroundAction) (S : Atoms) → Same (AfterActions w S (xs ++ a ∷ [])) (AfterAction w (AfterActions w S xs) a)
@@ -100,11 +96,6 @@ pub read_there : {X : Type 0} (xs : List X) (k : ℕ) (x : X) → slice_get xs k
 read_there [] k x e = absurd cc
 read_there (y ∷ ys) zero x e = (omega arith, cc)
 read_there (y ∷ ys) (suc k) x e = let rest = read_there ys k x e in (omega (arith, rest.0), rest.1)
-
-pub action_there : (actions : List code.GroundAction) (k : ℕ) (s : code.GroundAction) → k < length actions → s ≡ get_or actions k s → slice_get (map ground_action_view actions) k ≡ Some (ground_action_view s)
-action_there [] k s lt e = absurd (omega arith)
-action_there (x ∷ xs) zero s lt e = ap (λ y. Some (ground_action_view y)) (sym e)
-action_there (x ∷ xs) (suc k) s lt e = action_there xs k s (omega arith) e
 
 module _ (p : Plan) (k : ℕ) (a : GroundAction) (there : slice_get p.actions k ≡ Some a) where
   pub applicable_if : IsApplicableIn p.world (StateAt p k) a → IsApplicable p k

@@ -13,10 +13,7 @@ use Rattle.std.proofs.lemmas.List.{get_or-map, length-map, map-append, get_or_de
 use Rattle.std.proofs.lemmas.List.Edits.{length-insert, get_or-insert_below, get_or-insert_at, get_or-insert_above, length-remove, get_or-remove_below, get_or-remove_above}
 use Rattle.std.proofs.lemmas.List.Elements.{Contains-append_left, Contains-push, Contains-push_cases}
 use Rattle.std.proofs.lemmas.List.Quantifiers.{all_pairs_remove}
-use Rattle.hv_world.specs.declared.formula.Atom.{Atom}
-use Rattle.hv_world.specs.Views.{atom_view}
-use Rattle.hv_state.specs.Atoms.{atom_under}
-use Rattle.hv_state.specs.Rows.{row_of, rows_under, rows_in, IsBelow, Ascend, IsGap, IsPlace, IsWithout, IsWith}
+use Rattle.hv_state.specs.Rows.{rows_in, IsBelow, Ascend, IsGap, IsPlace, IsWithout, IsWith}
 
 -- the order of rows
 pub below_itself : (x : List ℕ) → IsBelow x x → ⊥
@@ -306,14 +303,13 @@ pub none_left : {X : Type 0} (xs : List X) → length xs ≡ 0 → xs ≡ []
 none_left [] e = refl
 none_left (x ∷ xs) e = absurd (omega arith)
 
--- the rows of the atoms that are left
-module _ (env : List ℕ) (atoms : List Atom) (i : ℕ) where
-  pub rows_left : (a : Atom) → i < length atoms → a ≡ get_or atoms i a → rows_under env (map atom_view (drop i atoms)) ≡ row_of (atom_under env (atom_view a)) ∷ rows_under env (map atom_view (drop (i + 1) atoms))
-  rows_left a lt is =
-      at_drop_more (λ xs. rows_under env (map atom_view xs)) atoms i a lt ∙ ap (λ b. row_of (atom_under env (atom_view b)) ∷ rows_under env (map atom_view (drop (i + 1) atoms))) (sym is)
+-- the rows that are left
+module _ (rows : List Row) (i : ℕ) where
+  pub rows_left : (v : Row) → i < length rows → v ≡ get_or rows i v → rows_in (drop i rows) ≡ v.numbers.value.items ∷ rows_in (drop (i + 1) rows)
+  rows_left v lt is = at_drop_more rows_in rows i v lt ∙ ap (λ (u : Row). u.numbers.value.items ∷ rows_in (drop (i + 1) rows)) (sym is)
 
-  pub no_rows_left : length atoms ≤ i → rows_under env (map atom_view (drop i atoms)) ≡ []
-  no_rows_left le = at_drop_all (λ xs. rows_under env (map atom_view xs)) atoms i le
+  pub no_rows_left : length rows ≤ i → rows_in (drop i rows) ≡ []
+  no_rows_left le = at_drop_all rows_in rows i le
 
 -- a row is there where it was found
 pub place_tells : (rows : List (List ℕ)) (row : List ℕ) (r : Result ℕ ℕ) → IsPlace rows row r → (is_ok r ≡ true) ↔ Contains rows row

@@ -1,15 +1,11 @@
 -- States by rows, as sets of atoms.
-use Rattle.std.proofs.Common.{◌≡◌, ◌<◌, ◌⊎◌, inl, inr, ℕ, List, [], ◌∷◌, length, map, Result, Ok, Err, OnErr, sym, ap, ◌∙◌, subst, arith}
+use Rattle.std.proofs.Common.{◌≡◌, ◌<◌, ◌⊎◌, inl, inr, ℕ, List, [], ◌∷◌, length, map, Result, Ok, Err, OnErr, refl, sym, ap, ◌∙◌, subst, arith}
 use Rattle.std.specs.List.{Contains}
 use Rattle.std.proofs.lemmas.List.{get_or-map, length-map}
-use Rattle.hv_state.specs.Atoms.{GroundAtom, ground_atom, Same, After}
-use Rattle.hv_state.specs.Rows.{row_of, Listed, IsWithoutAll, IsWithAll, HasSameRows}
+use Rattle.hv_state.specs.Atoms.{GroundAtom, Same, After}
+use Rattle.hv_state.specs.Rows.{row_of, atom_of, Listed, IsWithoutAll, IsWithAll, HasSameRows}
 
 -- a row is of one atom
-abbrev atom_of : List ℕ → GroundAtom
-atom_of [] = ground_atom 0 []
-atom_of (p ∷ os) = ground_atom p os
-
 pub same_atom : (g h : GroundAtom) → row_of g ≡ row_of h → g ≡ h
 same_atom g h e = ap atom_of e
 
@@ -41,3 +37,14 @@ applied old mid rows new deletes adds without is all g = (λ m. from ((all (row_
     to : After (Listed old) deletes adds g → Listed new g
     to (inl (m, kept)) = (all (row_of g)).1 (inl ((without (row_of g)).1 (m, λ gone. kept (atom_listed deletes g gone))))
     to (inr m) = (all (row_of g)).1 (inr (subst (λ xs. Contains xs (row_of g)) (sym is) (row_listed adds g m)))
+
+-- the atoms of the rows of atoms
+pub atoms_again : (gs : List GroundAtom) → map atom_of (map row_of gs) ≡ gs
+atoms_again [] = refl
+atoms_again (g ∷ gs) = ap (λ hs. g ∷ hs) (atoms_again gs)
+
+pub atoms_are : (rows : List (List ℕ)) (gs : List GroundAtom) → rows ≡ map row_of gs → map atom_of rows ≡ gs
+atoms_are rows gs e = ap (map atom_of) e ∙ atoms_again gs
+
+pub rows_are : (rows : List (List ℕ)) (gs : List GroundAtom) → rows ≡ map row_of gs → rows ≡ map row_of (map atom_of rows)
+rows_are rows gs e = e ∙ ap (map row_of) (sym (atoms_are rows gs e))

@@ -5,6 +5,8 @@ use Rattle.hv_world.specs.Values.{Term, object, variable, Atom}
 use Rattle.hv_world.specs.Views.{term_view}
 use Rattle.hv_world.specs.Bindings.{objects_in}
 use Rattle.hv_state.specs.declared.atom.AtomView.{AtomView}
+use Rattle.hv_state.specs.declared.atom.Objects.{Objects}
+use Rattle.hv_state.specs.declared.atom.Objects.TheVariants.{OfTerms, Given}
 
 -- a predicate's number, and the numbers of its objects
 pub record GroundAtom : Type 0 where
@@ -38,6 +40,10 @@ atoms_under env xs = map (atom_under env) xs
 abbrev pub After : Atoms → List GroundAtom → List GroundAtom → Atoms
 After S deletes adds g = (S g × (Contains deletes g → ⊥)) ⊎ Contains adds g
 
--- the atom that the code reads
+-- the objects, and the atom, that the code reads
+abbrev pub objects_read : Objects → List ℕ
+objects_read (OfTerms terms binding) = map (object_of (objects_in binding.now)) (map term_view terms.now)
+objects_read (Given numbers) = numbers.now
+
 abbrev pub atom_read : AtomView → GroundAtom
-atom_read v = ground_atom v.predicate.0 (map (object_of (objects_in v.binding.now)) (map term_view v.terms.now))
+atom_read v = ground_atom v.predicate.0 (objects_read v.objects)

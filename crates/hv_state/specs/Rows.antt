@@ -6,11 +6,16 @@ use Rattle.std.specs.Cmp.Lexicographic.{slice_cmp}
 use Rattle.std.specs.declared.cmp.Ordering.TheVariants.{Less}
 use Rattle.hv_world.specs.Values.{Atom}
 use Rattle.hv_state.specs.declared.rows.Row.{Row}
-use Rattle.hv_state.specs.Atoms.{GroundAtom, Atoms, atoms_under}
+use Rattle.hv_state.specs.Atoms.{GroundAtom, ground_atom, Atoms, atoms_under}
 
 -- an atom as a row: its predicate, and then its objects
 abbrev pub row_of : GroundAtom → List ℕ
 row_of g = g.predicate ∷ g.objects
+
+-- the atom of a row
+abbrev pub atom_of : List ℕ → GroundAtom
+atom_of [] = ground_atom 0 []
+atom_of (p ∷ os) = ground_atom p os
 
 abbrev pub rows_under : List ℕ → List Atom → List (List ℕ)
 rows_under env xs = map row_of (atoms_under env xs)

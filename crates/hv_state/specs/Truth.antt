@@ -4,6 +4,10 @@ use Rattle.hv_world.specs.Values.{Formula, Formulas, holds, and, or, not, imply,
 use Rattle.hv_world.specs.Types.{Typing, Of}
 use Rattle.hv_state.specs.Atoms.{Atoms, object_of, atom_under}
 
+-- it is so, or it is not
+abbrev pub IsDecided : Type 0 → Type 0
+IsDecided P = P ⊎ (P → ⊥)
+
 -- P holds whichever objects of these types follow env
 abbrev pub ForEach : Typing → (List ℕ → Type 0) → List ℕ → List ℕ → Type 0
 ForEach w P [] env = P env

@@ -7,12 +7,20 @@ ghost use Rattle.hv_state.specs.Atoms.{object_of, atom_under, atom_read};
 
 use hv_world::{Atom, Binding, ObjectId, PredicateId, Term};
 
-/// A predicate and its terms, read with the objects of a binding. Making one takes no memory.
+/// An atom as it is read: a predicate and its objects. Making one takes no memory.
 #[derive(Clone, Copy)]
 pub struct AtomView<'a> {
-    pub predicate: PredicateId,
-    pub terms: &'a [Term],
-    pub binding: &'a Binding<'a>,
+    pub(crate) predicate: PredicateId,
+    pub(crate) objects: Objects<'a>,
+}
+
+/// The objects of an atom.
+#[derive(Clone, Copy)]
+pub(crate) enum Objects<'a> {
+    /// Those of terms, with the objects of a binding.
+    OfTerms(&'a [Term], &'a Binding<'a>),
+    /// These, by their numbers.
+    Given(&'a [usize]),
 }
 
 impl<'a> AtomView<'a> {
@@ -22,8 +30,7 @@ impl<'a> AtomView<'a> {
     {
         AtomView {
             predicate: atom.predicate,
-            terms: &atom.terms,
-            binding,
+            objects: Objects::OfTerms(&atom.terms, binding),
         }
     }
 }

@@ -3,10 +3,15 @@
 #![tactic(auto)]
 
 mod atom;
+mod bit_state;
+mod bits;
 mod changes;
 mod evaluate;
 mod facts;
+mod ground;
+mod lanes;
 mod laws;
+mod lit;
 mod next;
 mod pass;
 mod rows;
@@ -16,9 +21,13 @@ mod touched;
 mod trace;
 
 pub use atom::AtomView;
+pub use bit_state::BitState;
 pub use evaluate::truth;
+pub use ground::GroundAtoms;
+pub use lanes::next_row;
 pub use laws::{
-    adds_come_last, changes_tell, no_object_fails_and_none_serves, truth_is_of_sets, truth_stays,
+    adds_come_last, changes_tell, no_object_fails_and_none_serves, truth_is_decided,
+    truth_is_of_sets, truth_stays,
 };
 pub use sorted::SortedState;
 pub use state::State;

@@ -1,20 +1,23 @@
 //! One action of a plan, and what it changes.
 
 ghost use Rattle.std.specs.Prelude.{◌≡◌, ◌∷◌, [], map, Bool, true, false, IfOk};
-ghost use Rattle.hv_world.specs.Views.{atom_view};
-ghost use Rattle.hv_world.specs.Bindings.{objects_in, ground_action_view};
+ghost use Rattle.hv_world.specs.Bindings.{ground_action_view};
 ghost use Rattle.hv_world.specs.WorldViews.{world_view};
-ghost use Rattle.hv_state.specs.Atoms.{atoms_under, atom_read};
+ghost use Rattle.hv_state.specs.Atoms.{atom_read};
 ghost use Rattle.hv_state.specs.Plans.{IsApplicableIn};
+ghost use Rattle.hv_state.specs.Rows.{atom_of, rows_in};
 ghost use Rattle.hv_state.specs.Notes.{AreNoted, IsPassed};
 
 use crate::atom::AtomView;
 use crate::changes::{Change, Changes, Moment};
 use crate::evaluate::truth;
 use crate::facts::Facts;
+use crate::ground::GroundAtoms;
+use crate::rows::Row;
 use crate::state::State;
 use hv_text::Memory;
-use hv_world::{Atom, Binding, GroundAction, World};
+use hv_world::{Binding, GroundAction, World};
+use std::alloc::Global;
 
 // Notes how an atom is now, where its changes say otherwise.
 fn note<S: State>(
@@ -38,27 +41,27 @@ fn note<S: State>(
     Ok(())
 }
 
-// Notes how atoms are now.
+// Notes how the atoms of rows are now.
 fn note_all<S: State>(
     changes: &mut Changes,
     first: &S,
     state: &S,
     from: usize,
-    atoms: &[Atom],
-    binding: &Binding<'_>,
+    rows: &[Row],
 ) -> Result<(), Memory>
-    ensures { IfOk result (λ _. AreNoted (S.atoms first.now) (S.atoms state.now) from (atoms_under (objects_in binding.now) (map atom_view atoms.now)) changes.old changes.new) }
+    ensures { IfOk result (λ _. AreNoted (S.atoms first.now) (S.atoms state.now) from (map atom_of (rows_in rows.now)) changes.old changes.new) }
 {
-    for atom in atoms {
-        note(changes, first, state, from, &AtomView::new(atom, &*binding))?;
+    for row in rows {
+        note(changes, first, state, from, &row.atom())?;
     }
     Ok(())
 }
 
 /// Does an action where it is applicable, notes what it changes, and says whether it was.
 pub(crate) fn pass<S: State>(
+    alloc: Global,
     world: &World<'_>,
-    step: &GroundAction,
+    step: &GroundAction<'_>,
     first: &S,
     state: &mut S,
     changes: &mut Changes,
@@ -67,15 +70,17 @@ pub(crate) fn pass<S: State>(
     ensures done { IfOk result (λ ran. ran ≡ true → IsPassed (world_view world.now) (ground_action_view step.now) (S.atoms first.now) (S.atoms state.old) (S.atoms state.new) from changes.old changes.new) }
     ensures stopped { IfOk result (λ ran. ran ≡ false → IsApplicableIn (world_view world.now) (S.atoms state.old) (ground_action_view step.now) → ⊥) }
 {
-    let Some(action) = world.action(step.action) else {
+    let Some(action) = world.action(step.action()) else {
         return Ok(false);
     };
-    let objects = Binding::Given(&step.objects);
+    let objects = Binding::Given(step.objects());
     if !truth(world, &*state, action.precondition(), &objects) {
         return Ok(false);
     }
-    state.apply(action.deletes(), action.adds(), &objects)?;
-    note_all(changes, first, &*state, from, action.deletes(), &objects)?;
-    note_all(changes, first, &*state, from, action.adds(), &objects)?;
+    let deletes = GroundAtoms::of(alloc, action.deletes(), &objects)?;
+    let adds = GroundAtoms::of(alloc, action.adds(), &objects)?;
+    state.apply(&deletes, &adds)?;
+    note_all(changes, first, &*state, from, deletes.rows())?;
+    note_all(changes, first, &*state, from, adds.rows())?;
     Ok(true)
 }

@@ -1,29 +1,69 @@
 //! Sorted lists of atoms, each as a row of numbers: that of its predicate, then those of its objects.
 
-ghost use Rattle.std.specs.Prelude.{◌≡◌, ◌+◌, ◌<◌, ◌≤◌, ◌++◌, map, length, IfOk};
+ghost use Rattle.std.specs.Prelude.{◌≡◌, ◌+◌, ◌<◌, ◌≤◌, ◌++◌, ◌∷◌, map, length, IfOk};
 ghost use Rattle.std.specs.Ordering.{nat_cmp};
 ghost use Rattle.std.specs.Cmp.Lexicographic.{slice_cmp};
 ghost use Rattle.std.specs.Vec.{vec_len, vec_capacity};
 ghost use Rattle.hv_world.specs.Views.{term_view, atom_view};
 ghost use Rattle.hv_world.specs.Bindings.{objects_in};
-ghost use Rattle.hv_state.specs.Atoms.{object_of, atom_read};
-ghost use Rattle.hv_state.specs.Rows.{row_of, rows_under, rows_in, Ascend, IsPlace, IsWithout, IsWith, IsWithoutAll, IsWithAll, HasSameRows};
+ghost use Rattle.hv_state.specs.Atoms.{object_of, objects_read, atom_read};
+ghost use Rattle.hv_state.specs.Rows.{row_of, atom_of, rows_under, rows_in, Ascend, IsPlace, IsWithout, IsWith, IsWithoutAll, IsWithAll, HasSameRows};
 
-use crate::atom::{AtomView, object_of};
+use crate::atom::{AtomView, Objects, object_of};
 use hv_text::Memory;
-use hv_world::{Atom, Binding, Term};
+use hv_world::{Atom, Binding, PredicateId, Term};
 use std::alloc::Global;
 use std::cmp::Ordering;
 use std::rc::Rc;
 
-/// The row of an atom. A state and its copies share it.
+/// The row of an atom. States and lists share it.
 #[derive(PartialEq, Eq, PartialOrd, Ord, Drop)]
 pub(crate) struct Row {
     pub(crate) numbers: Rc<Vec<usize>>,
 }
 
+impl Row {
+    /// The atom of the row.
+    pub(crate) fn atom(&self) -> AtomView<'_>
+        ensures { atom_read result ≡ atom_of self.now.numbers.value.items }
+    {
+        atom_in(&self.numbers)
+    }
+
+    /// The numbers of the row.
+    pub(crate) fn as_slice(&self) -> &[usize]
+        ensures { result.now ≡ self.now.numbers.value.items }
+    {
+        &self.numbers
+    }
+
+    /// The same row once more, shared.
+    pub(crate) fn shared(&self) -> Result<Row, Memory>
+        ensures { IfOk result (λ row. row.numbers.value.items ≡ self.now.numbers.value.items) }
+    {
+        let numbers = self.numbers.clone()?;
+        Ok(Row { numbers })
+    }
+}
+
+// The atom of a row. There is no row of no numbers, and it would read as predicate 0.
+fn atom_in(row: &[usize]) -> AtomView<'_>
+    ensures { atom_read result ≡ atom_of row.now }
+{
+    match row {
+        [] => AtomView {
+            predicate: PredicateId(0),
+            objects: Objects::Given(&[]),
+        },
+        [predicate, objects @ ..] => AtomView {
+            predicate: PredicateId(*predicate),
+            objects: Objects::Given(objects),
+        },
+    }
+}
+
 // How objects stand to those of terms.
-fn compare_objects(objects: &[usize], terms: &[Term], binding: &Binding<'_>) -> Ordering
+fn compare_to_terms(objects: &[usize], terms: &[Term], binding: &Binding<'_>) -> Ordering
     ensures { result ≡ slice_cmp nat_cmp objects.now (map (object_of (objects_in binding.now)) (map term_view terms.now)) }
 {
     let mut left = terms;
@@ -43,6 +83,16 @@ fn compare_objects(objects: &[usize], terms: &[Term], binding: &Binding<'_>) -> 
     }
 }
 
+// How objects stand to those of an atom.
+fn compare_objects(objects: &[usize], others: &Objects<'_>) -> Ordering
+    ensures { result ≡ slice_cmp nat_cmp objects.now (objects_read others.now) }
+{
+    match others {
+        Objects::OfTerms(terms, binding) => compare_to_terms(objects, terms, binding),
+        Objects::Given(given) => objects.cmp(given),
+    }
+}
+
 /// How a row stands to that of an atom.
 pub(crate) fn compare(row: &[usize], atom: &AtomView<'_>) -> Ordering
     ensures { result ≡ slice_cmp nat_cmp row.now (row_of (atom_read atom.now)) }
@@ -50,7 +100,7 @@ pub(crate) fn compare(row: &[usize], atom: &AtomView<'_>) -> Ordering
     match row {
         [] => Ordering::Less,
         [predicate, objects @ ..] => match predicate.cmp(&atom.predicate.0) {
-            Ordering::Equal => compare_objects(objects, atom.terms, atom.binding),
+            Ordering::Equal => compare_objects(objects, &atom.objects),
             other => other,
         },
     }
@@ -64,37 +114,37 @@ pub(crate) fn find(rows: &[Row], atom: &AtomView<'_>) -> Result<usize, usize>
     rows.binary_search_by(|row| compare(&row.numbers, atom))
 }
 
-// Where a row stands, or where it would.
-fn place(rows: &[Row], row: &[usize]) -> Result<usize, usize>
+/// Where a row stands, or where it would.
+pub(crate) fn place(rows: &[Row], row: &[usize]) -> Result<usize, usize>
     requires { Ascend (rows_in rows.now) }
     ensures { IsPlace (rows_in rows.now) row.now result }
 {
     rows.binary_search_by(|other| other.numbers.as_slice().cmp(&row))
 }
 
-// Takes the row of an atom out.
-fn remove(rows: &mut Vec<Row>, atom: &AtomView<'_>)
+// Takes a row out.
+fn remove(rows: &mut Vec<Row>, row: &[usize])
     requires { Ascend (rows_in rows.old.items) }
     ensures ascend { Ascend (rows_in rows.new.items) }
-    ensures exact { IsWithout (rows_in rows.old.items) (row_of (atom_read atom.now)) (rows_in rows.new.items) }
+    ensures exact { IsWithout (rows_in rows.old.items) row.now (rows_in rows.new.items) }
     ensures fewer { vec_len rows.new ≤ vec_len rows.old }
     ensures capacity { vec_capacity rows.new ≡ vec_capacity rows.old }
 {
-    if let Ok(place) = find(rows, atom) {
+    if let Ok(place) = place(rows, row) {
         rows.remove(place);
     }
 }
 
-/// Takes the rows of atoms out.
-pub(crate) fn remove_all(rows: &mut Vec<Row>, atoms: &[Atom], binding: &Binding<'_>)
+/// Takes rows out.
+pub(crate) fn remove_all(rows: &mut Vec<Row>, gone: &[Row])
     requires { Ascend (rows_in rows.old.items) }
     ensures ascend { Ascend (rows_in rows.new.items) }
-    ensures exact { IsWithoutAll (rows_in rows.old.items) (rows_under (objects_in binding.now) (map atom_view atoms.now)) (rows_in rows.new.items) }
+    ensures exact { IsWithoutAll (rows_in rows.old.items) (rows_in gone.now) (rows_in rows.new.items) }
     ensures fewer { vec_len rows.new ≤ vec_len rows.old }
     ensures capacity { vec_capacity rows.new ≡ vec_capacity rows.old }
 {
-    for atom in atoms {
-        remove(rows, &AtomView::new(atom, &*binding));
+    for row in gone {
+        remove(rows, &row.numbers);
     }
 }
 
@@ -124,16 +174,36 @@ pub(crate) fn put_all(rows: &mut Vec<Row>, mut new: Vec<Row>)
     }
 }
 
-// The row of an atom.
-fn row_of(alloc: Global, atom: &AtomView<'_>) -> Result<Vec<usize>, Memory>
+// Puts the objects of terms behind other numbers.
+fn push_objects(row: &mut Vec<usize>, terms: &[Term], binding: &Binding<'_>) -> Result<(), Memory>
+    ensures { IfOk result (λ _. row.new.items ≡ row.old.items ++ map (object_of (objects_in binding.now)) (map term_view terms.now)) }
+{
+    row.reserve(terms.len())?;
+    for term in terms {
+        row.push(object_of(binding, *term).0)?;
+    }
+    Ok(())
+}
+
+// The numbers of an atom's row.
+fn numbers_of(alloc: Global, atom: &AtomView<'_>) -> Result<Vec<usize>, Memory>
     ensures { IfOk result (λ row. row.items ≡ row_of (atom_read atom.now)) }
 {
     let mut row = Vec::new(alloc);
     row.push(atom.predicate.0)?;
-    for term in atom.terms {
-        row.push(object_of(atom.binding, *term).0)?;
+    match atom.objects {
+        Objects::OfTerms(terms, binding) => push_objects(&mut row, terms, binding)?,
+        Objects::Given(objects) => row.extend_from_slice(objects)?,
     }
     Ok(row)
+}
+
+/// The row of an atom.
+pub(crate) fn row_of(alloc: Global, atom: &AtomView<'_>) -> Result<Row, Memory>
+    ensures { IfOk result (λ row. row.numbers.value.items ≡ row_of (atom_read atom.now)) }
+{
+    let numbers = Rc::new(alloc, numbers_of(alloc, atom)?)?;
+    Ok(Row { numbers })
 }
 
 /// Puts the rows of atoms behind others.
@@ -146,9 +216,7 @@ pub(crate) fn push_rows(
     ensures { IfOk result (λ _. rows_in rows.new.items ≡ rows_in rows.old.items ++ rows_under (objects_in binding.now) (map atom_view atoms.now)) }
 {
     for atom in atoms {
-        let row = row_of(alloc, &AtomView::new(atom, &*binding))?;
-        let numbers = Rc::new(alloc, row)?;
-        rows.push(Row { numbers })?;
+        rows.push(row_of(alloc, &AtomView::new(atom, &*binding))?)?;
     }
     Ok(())
 }
@@ -175,14 +243,22 @@ pub(crate) fn sort_distinct(rows: &mut Vec<Row>)
     rows.dedup();
 }
 
+/// Puts rows behind others once more, shared.
+pub(crate) fn push_copies(rows: &mut Vec<Row>, more: &[Row]) -> Result<(), Memory>
+    ensures { IfOk result (λ _. rows_in rows.new.items ≡ rows_in rows.old.items ++ rows_in more.now) }
+{
+    rows.reserve(more.len())?;
+    for row in more {
+        rows.push(row.shared()?)?;
+    }
+    Ok(())
+}
+
 /// The same rows once more, shared.
 pub(crate) fn copy_of(alloc: Global, rows: &[Row]) -> Result<Vec<Row>, Memory>
     ensures { IfOk result (λ copy. rows_in copy.items ≡ rows_in rows.now) }
 {
     let mut copy = Vec::new(alloc);
-    for row in rows {
-        let numbers = row.numbers.clone()?;
-        copy.push(Row { numbers })?;
-    }
+    push_copies(&mut copy, rows)?;
     Ok(copy)
 }

@@ -4,10 +4,11 @@ ghost use Rattle.std.specs.Prelude.{ℕ, List};
 ghost use Rattle.hv_state.specs.Rows.{rows_in, Ascend, Listed};
 
 use crate::atom::AtomView;
+use crate::ground::GroundAtoms;
 use crate::rows::{Row, copy_of, find, put_all, remove_all, rows_of, sort_distinct};
 use crate::state::State;
 use hv_text::Memory;
-use hv_world::{Atom, Binding, World};
+use hv_world::{Binding, World};
 use std::alloc::Global;
 use std::marker::Model;
 
@@ -43,15 +44,10 @@ impl State for SortedState {
         find(&self.rows, atom).is_ok()
     }
 
-    fn apply(
-        &mut self,
-        deletes: &[Atom],
-        adds: &[Atom],
-        binding: &Binding<'_>,
-    ) -> Result<(), Memory> {
-        let new = rows_of(*self.rows.allocator(), adds, binding)?;
+    fn apply(&mut self, deletes: &GroundAtoms, adds: &GroundAtoms) -> Result<(), Memory> {
+        let new = copy_of(*self.rows.allocator(), adds.rows())?;
         self.rows.reserve(new.len())?;
-        remove_all(&mut self.rows, deletes, binding);
+        remove_all(&mut self.rows, deletes.rows());
         put_all(&mut self.rows, new);
         Ok(())
     }

@@ -1,15 +1,14 @@
 //! States: sets of atoms without variables.
 
-ghost use Rattle.std.specs.Prelude.{◌≡◌, ◌↔◌, [], IsTrue, IfOk, OnOk, OnErr, map};
+ghost use Rattle.std.specs.Prelude.{◌↔◌, [], IsTrue, IfOk, OnOk, OnErr};
 ghost use Rattle.std.specs.List.{Contains};
-ghost use Rattle.hv_world.specs.Views.{atom_view};
-ghost use Rattle.hv_world.specs.Bindings.{objects_in};
 ghost use Rattle.hv_world.specs.WorldViews.{world_view};
 ghost use Rattle.hv_state.specs.Atoms.{GroundAtom, Same, After, atoms_under, atom_read};
 
 use crate::atom::AtomView;
+use crate::ground::GroundAtoms;
 use hv_text::Memory;
-use hv_world::{Atom, Binding, World};
+use hv_world::{GroundActions, World};
 use std::alloc::Global;
 
 /// A set of atoms without variables: those that are true.
@@ -24,6 +23,21 @@ pub trait State: Sized + Drop {
     fn initial(alloc: Global, world: &World<'_>) -> Result<Self, Memory>
         ensures { IfOk result (λ s. Same (atoms s) (Contains (atoms_under [] (world_view world.now).init))) };
 
+    /// The state that a world begins with, made for what these actions delete and add.
+    ///
+    /// # Errors
+    ///
+    /// `Memory` where a growth was refused.
+    fn initial_for(
+        alloc: Global,
+        world: &World<'_>,
+        _actions: &GroundActions,
+    ) -> Result<Self, Memory>
+        ensures { IfOk result (λ s. Same (atoms s) (Contains (atoms_under [] (world_view world.now).init))) }
+    {
+        Self::initial(alloc, world)
+    }
+
     /// Another state with the same atoms.
     ///
     /// # Errors
@@ -36,17 +50,12 @@ pub trait State: Sized + Drop {
     fn holds(&self, atom: &AtomView<'_>) -> bool
         ensures { IsTrue result ↔ atoms self.now (atom_read atom.now) };
 
-    /// Makes atoms false, and then others true, both with the objects of a binding.
+    /// Makes atoms false, and then others true.
     ///
     /// # Errors
     ///
     /// `Memory` where a growth was refused; the same atoms are true then as before.
-    fn apply(
-        &mut self,
-        deletes: &[Atom],
-        adds: &[Atom],
-        binding: &Binding<'_>,
-    ) -> Result<(), Memory>
-        ensures ok { OnOk result (Same (atoms self.new) (After (atoms self.old) (atoms_under (objects_in binding.now) (map atom_view deletes.now)) (atoms_under (objects_in binding.now) (map atom_view adds.now)))) }
+    fn apply(&mut self, deletes: &GroundAtoms, adds: &GroundAtoms) -> Result<(), Memory>
+        ensures ok { OnOk result (Same (atoms self.new) (After (atoms self.old) deletes.now adds.now)) }
         ensures err { OnErr result (Same (atoms self.new) (atoms self.old)) };
 }

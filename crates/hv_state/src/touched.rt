@@ -1,14 +1,14 @@
 //! The atoms that the actions of a plan touch.
 
 ghost use Rattle.std.specs.Prelude.{◌≡◌, ◌++◌, map, IfOk};
-ghost use Rattle.hv_world.specs.Bindings.{ground_action_view};
+ghost use Rattle.hv_world.specs.Bindings.{ground_action_view, ground_actions_view};
 ghost use Rattle.hv_world.specs.WorldViews.{world_view};
 ghost use Rattle.hv_state.specs.Rows.{row_of, rows_in, Ascend, HasSameRows};
 ghost use Rattle.hv_state.specs.Notes.{touched_by, touched_in};
 
 use crate::rows::{Row, push_rows, sort_distinct};
 use hv_text::Memory;
-use hv_world::{Binding, GroundAction, World};
+use hv_world::{Binding, GroundAction, GroundActions, World};
 use std::alloc::Global;
 
 // Puts the rows of what an action deletes and adds behind others.
@@ -16,12 +16,12 @@ fn push_touched(
     alloc: Global,
     rows: &mut Vec<Row>,
     world: &World<'_>,
-    step: &GroundAction,
+    step: &GroundAction<'_>,
 ) -> Result<(), Memory>
     ensures { IfOk result (λ _. rows_in rows.new.items ≡ rows_in rows.old.items ++ map row_of (touched_by (world_view world.now) (ground_action_view step.now))) }
 {
-    if let Some(action) = world.action(step.action) {
-        let objects = Binding::Given(&step.objects);
+    if let Some(action) = world.action(step.action()) {
+        let objects = Binding::Given(step.objects());
         push_rows(alloc, rows, action.deletes(), &objects)?;
         push_rows(alloc, rows, action.adds(), &objects)?;
     }
@@ -33,15 +33,15 @@ fn push_touched(
 pub(crate) fn touched(
     alloc: Global,
     world: &World<'_>,
-    actions: &[GroundAction],
+    actions: &GroundActions,
 ) -> Result<Vec<Row>, Memory>
     ensures ascend { IfOk result (λ rows. Ascend (rows_in rows.items)) }
-    ensures exact { IfOk result (λ rows. HasSameRows (map row_of (touched_in (world_view world.now) (map ground_action_view actions.now))) (rows_in rows.items)) }
+    ensures exact { IfOk result (λ rows. HasSameRows (map row_of (touched_in (world_view world.now) (ground_actions_view actions.now))) (rows_in rows.items)) }
 {
     let mut rows = Vec::new(alloc);
     let mut distinct = 0;
-    for step in actions {
-        push_touched(alloc, &mut rows, world, step)?;
+    for number in 0..actions.len() {
+        push_touched(alloc, &mut rows, world, &actions.at(number))?;
         if rows.len() / 2 > distinct {
             sort_distinct(&mut rows);
             distinct = rows.len();

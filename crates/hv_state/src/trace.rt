@@ -1,8 +1,8 @@
 //! The states that a plan passes.
 
-ghost use Rattle.std.specs.Prelude.{◌≡◌, ◌≤◌, ◌<◌, ◌↔◌, ◌+◌, ℕ, length, map, IsTrue, IfOk, IfErr, MatchOption};
+ghost use Rattle.std.specs.Prelude.{◌≡◌, ◌≤◌, ◌<◌, ◌↔◌, ◌+◌, ℕ, length, IsTrue, IfOk, IfErr, MatchOption};
 ghost use Rattle.hv_world.specs.Views.{formula_view};
-ghost use Rattle.hv_world.specs.Bindings.{objects_in, ground_action_view};
+ghost use Rattle.hv_world.specs.Bindings.{objects_in, ground_actions_view};
 ghost use Rattle.hv_world.specs.WorldViews.{world_view};
 ghost use Rattle.hv_state.specs.Truth.{True};
 ghost use Rattle.hv_state.specs.Plans.{Plan, plan, StateAt, CanRun, IsStop, GoalHolds};
@@ -15,7 +15,7 @@ use crate::pass::pass;
 use crate::state::State;
 use crate::touched::touched;
 use hv_text::Memory;
-use hv_world::{Binding, Formula, GroundAction, World};
+use hv_world::{Binding, Formula, GroundActions, World};
 use std::alloc::Global;
 use std::marker::Model;
 
@@ -42,15 +42,14 @@ impl From<Memory> for Stop {
 #[derive(Drop)]
 pub struct Trace<'a, 's, S: State> {
     world: &'a World<'s>,
-    actions: &'a [GroundAction],
+    actions: &'a GroundActions,
     first: S,
     changes: Changes,
 }
 
 impl<'a, 's, S: State> Model for Trace<'a, 's, S> {
-    ghost use Rattle.std.specs.Prelude.{map};
     ghost use Rattle.std.specs.Coded.{codes};
-    ghost use Rattle.hv_world.specs.Bindings.{ground_action_view};
+    ghost use Rattle.hv_world.specs.Bindings.{ground_actions_view};
     ghost use Rattle.hv_world.specs.WorldViews.{world_view};
     ghost use Rattle.hv_state.specs.Codes.{formula_code};
     ghost use Rattle.hv_state.specs.Plans.{Plan, plan};
@@ -60,9 +59,9 @@ impl<'a, 's, S: State> Model for Trace<'a, 's, S> {
 
     ghost coded = { Prim.hlevel (codes, formula_code) };
 
-    ghost view = { λ t. plan (world_view t.world.now) (map ground_action_view t.actions.now) };
+    ghost view = { λ t. plan (world_view t.world.now) (ground_actions_view t.actions.now) };
 
-    ghost invariant = { λ t. IsRecorded (plan (world_view t.world.now) (map ground_action_view t.actions.now)) (S.atoms t.first) t.changes };
+    ghost invariant = { λ t. IsRecorded (plan (world_view t.world.now) (ground_actions_view t.actions.now)) (S.atoms t.first) t.changes };
 }
 
 impl<'a, 's, S: State> Trace<'a, 's, S> {
@@ -75,17 +74,25 @@ impl<'a, 's, S: State> Trace<'a, 's, S> {
     pub fn run(
         alloc: Global,
         world: &'a World<'s>,
-        actions: &'a [GroundAction],
+        actions: &'a GroundActions,
     ) -> Result<Trace<'a, 's, S>, Stop>
-        ensures plan { IfOk result (λ t. t ≡ plan (world_view world.now) (map ground_action_view actions.now)) }
-        ensures ran { IfOk result (λ _. CanRun (plan (world_view world.now) (map ground_action_view actions.now))) }
-        ensures stop { IfErr result (IsStop (plan (world_view world.now) (map ground_action_view actions.now))) }
+        ensures plan { IfOk result (λ t. t ≡ plan (world_view world.now) (ground_actions_view actions.now)) }
+        ensures ran { IfOk result (λ _. CanRun (plan (world_view world.now) (ground_actions_view actions.now))) }
+        ensures stop { IfErr result (IsStop (plan (world_view world.now) (ground_actions_view actions.now))) }
     {
-        let first = S::initial(alloc, world)?;
+        let first = S::initial_for(alloc, world, actions)?;
         let mut state = first.copy(alloc)?;
         let mut changes = Changes::none(alloc, touched(alloc, world, actions)?)?;
-        for (number, step) in actions.iter().enumerate() {
-            if !pass(world, step, &first, &mut state, &mut changes, number + 1)? {
+        for number in 0..actions.len() {
+            if !pass(
+                alloc,
+                world,
+                &actions.at(number),
+                &first,
+                &mut state,
+                &mut changes,
+                number + 1,
+            )? {
                 return Err(Stop::Inapplicable(number));
             }
         }

@@ -1,28 +1,26 @@
 use Rattle.std.proofs.Common.{◌∷◌, ◌+◌, [], drop, map, sym, subst}
-use Rattle.hv_world.specs.Views.{atom_view}
-use Rattle.hv_world.specs.Bindings.{objects_in}
-use Rattle.hv_state.specs.Atoms.{atom_under, atoms_under}
+use Rattle.hv_state.specs.Rows.{atom_of, rows_in}
 use Rattle.hv_state.specs.Notes.{AreNoted}
-use Rattle.hv_state.proofs.NoteLemmas.{noted_both, noted_nothing, atoms_left, no_atoms_left}
+use Rattle.hv_state.proofs.RowLemmas.{rows_left, no_rows_left}
+use Rattle.hv_state.proofs.NoteLemmas.{noted_both, noted_nothing}
 use Rattle.hv_state.proofs.pass.note_all.Goals as goal
 
-pub loop-atom-preserved : goal.loop-atom-preserved
-loop-atom-preserved g c = λ t m.
+pub loop-row-preserved : goal.loop-row-preserved
+loop-row-preserved g c = λ t m.
     let start = g.S.State.atoms c.args.first.now in
     let now = g.S.State.atoms c.args.state.now in
     let from = c.args.from in
-    let env = objects_in c.args.binding.now in
-    let atoms = c.args.atoms.now in
-    let i = c.loop-atom.atom-index in
-    let first = atom_under env (atom_view c.atom-item.result) in
-    let one = subst (λ x. AreNoted start now from (x ∷ []) c.loop-atom.changes c.note.new.changes) c.new.ensures c.in_ok-note.ensures in
-    let both = noted_both start now from (first ∷ []) (atoms_under env (map atom_view (drop (i + 1) atoms))) c.loop-atom.changes c.note.new.changes t one m in
-    c.loop-atom.invariant t (subst (λ xs. AreNoted start now from xs c.loop-atom.changes t) (sym (atoms_left env atoms i c.atom-item.result c.loop-atom-test.true c.atom-item.is)) both)
+    let rows = c.args.rows.now in
+    let i = c.loop-row.row-index in
+    let first = atom_of c.row-item.result.numbers.value.items in
+    let one = subst (λ x. AreNoted start now from (x ∷ []) c.loop-row.changes c.note.new.changes) c.atom.ensures c.in_ok-note.ensures in
+    let both = noted_both start now from (first ∷ []) (map atom_of (rows_in (drop (i + 1) rows))) c.loop-row.changes c.note.new.changes t one m in
+    c.loop-row.invariant t (subst (λ xs. AreNoted start now from (map atom_of xs) c.loop-row.changes t) (sym (rows_left rows i c.row-item.result c.loop-row-test.true c.row-item.is)) both)
 
 pub returns : goal.returns
 returns g c =
     let start = g.S.State.atoms c.args.first.now in
     let now = g.S.State.atoms c.args.state.now in
     let from = c.args.from in
-    let t = c.loop-atom.changes in
-    c.loop-atom.invariant t (subst (λ xs. AreNoted start now from xs t t) (sym (no_atoms_left (objects_in c.args.binding.now) c.args.atoms.now c.loop-atom.atom-index c.loop-atom-test.false)) (noted_nothing start now from t))
+    let t = c.loop-row.changes in
+    c.loop-row.invariant t (subst (λ xs. AreNoted start now from (map atom_of xs) t t) (sym (no_rows_left c.args.rows.now c.loop-row.row-index c.loop-row-test.false)) (noted_nothing start now from t))

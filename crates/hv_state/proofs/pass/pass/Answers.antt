@@ -1,7 +1,10 @@
-use Rattle.std.proofs.Common.{rules, ◌≡◌, Some, slice_get, option_map, map, sym, ap, ◌∙◌, IsTrue}
+use Rattle.std.proofs.Common.{rules, ◌≡◌, Some, slice_get, option_map, map, sym, subst, ap, ◌∙◌, IsTrue}
 use Rattle.hv_world.specs.Bindings.{object_number, ground_action_view}
 use Rattle.hv_world.specs.SectionViews.{action_view}
 use Rattle.hv_world.specs.WorldViews.{world_view}
+use Rattle.hv_state.specs.Atoms.{atoms_under}
+use Rattle.hv_state.specs.Notes.{AreNoted}
+use Rattle.hv_state.proofs.StateLemmas.{atoms_are}
 use Rattle.hv_state.proofs.NoteLemmas.{passed}
 use Rattle.hv_state.proofs.pass.pass.Goals as goal
 
@@ -12,8 +15,15 @@ returns-clause-done g c = λ ran.
     let start = g.S.State.atoms c.args.first.now in
     let before = g.S.State.atoms c.args.state.now in
     let after = g.S.State.atoms c.apply.new.self in
+    let from = c.args.from in
     let a = action_view c.in-Some.action.now in
-    let there : slice_get w.actions step.action ≡ Some a = sym c.action.ensures ∙ ap (option_map (λ x. action_view x.now)) c.in-Some.is in
-    let objects : map object_number c.deref.result.now ≡ step.objects = ap (map object_number) c.deref.ensures.value in
+    let deletes = c.in_ok-deletes.deletes in
+    let adds = c.in_ok-adds.adds in
+    let there : slice_get w.actions step.action ≡ Some a = sym (c.action-2.ensures ∙ ap (slice_get w.actions) c.action.ensures) ∙ ap (option_map (λ x. action_view x.now)) c.in-Some.is in
+    let objects : map object_number c.objects.result.now ≡ step.objects = c.objects.ensures in
+    let gone : deletes ≡ atoms_under step.objects a.deletes = c.in_ok-deletes.ensures ∙ (λ i. atoms_under (objects i) (c.deletes.ensures i)) in
+    let come : adds ≡ atoms_under step.objects a.adds = c.in_ok-adds.ensures ∙ (λ i. atoms_under (objects i) (c.adds.ensures i)) in
     let is : IsTrue c.truth.result = search (rules, c.if-not-truth.false) in
-    passed w step a there start before after c.args.from c.args.changes.now c.note_all.new.changes c.note_all-2.new.changes (map object_number c.deref.result.now) _ _ _ _ _ objects c.precondition.ensures c.deletes.ensures c.adds.ensures c.deletes-2.ensures c.adds-2.ensures (c.truth.ensures.0 is) c.in_ok-apply.ensures.ok c.in_ok-note_all.ensures c.in_ok-note_all-2.ensures
+    let first = subst (λ xs. AreNoted start after from xs c.args.changes.now c.note_all.new.changes) (atoms_are _ deletes c.rows.ensures) c.in_ok-note_all.ensures in
+    let next = subst (λ xs. AreNoted start after from xs c.note_all.new.changes c.note_all-2.new.changes) (atoms_are _ adds c.rows-2.ensures) c.in_ok-note_all-2.ensures in
+    passed w step a there start before after from c.args.changes.now c.note_all.new.changes c.note_all-2.new.changes deletes adds _ (map object_number c.objects.result.now) objects c.precondition.ensures gone come (c.truth.ensures.0 is) c.in_ok-apply.ensures.ok first next

@@ -1,33 +1,34 @@
-use Rattle.std.proofs.Common.{◌↔◌, ◌⊎◌, ◌+◌, ℕ, List, drop, map, sym, subst}
+use Rattle.std.proofs.Common.{◌≡◌, ◌↔◌, ◌⊎◌, ◌+◌, ℕ, List, [], drop, map, sym, subst, arith}
 use Rattle.std.specs.List.{Contains}
 use Rattle.std.proofs.lemmas.List.{at_drop_all}
-use Rattle.hv_world.specs.Bindings.{ground_action_view}
+use Rattle.hv_world.specs.Bindings.{ground_action_view, ground_actions_view}
 use Rattle.hv_world.specs.WorldViews.{world_view}
 use Rattle.hv_state.specs.Rows.{row_of, rows_in, HasSameRows}
 use Rattle.hv_state.specs.Notes.{touched_in}
 use Rattle.hv_state.proofs.RowLemmas.{put_in}
-use Rattle.hv_state.proofs.NoteLemmas.{touched_left, touched_more}
+use Rattle.hv_state.proofs.NoteLemmas.{actions_left, touched_more}
 use Rattle.hv_state.proofs.touched.touched.Goals.{then-len-distinct, else-len-distinct}
 use Rattle.hv_state.proofs.touched.touched.Goals as goal
 
-pub loop-step-preserved : goal.loop-step-preserved
-loop-step-preserved c =
+pub loop-number-preserved : goal.loop-number-preserved
+loop-number-preserved c =
     let w = world_view c.args.world.now in
-    let actions = c.args.actions.now in
-    let i = c.loop-step.step-index in
-    let old = rows_in c.loop-step.rows.items in
+    let actions = ground_actions_view c.args.actions.now in
+    let i = c.loop-number.number in
+    let old = rows_in c.loop-number.rows.items in
     let pushed = rows_in c.push_touched.new.rows.items in
     let now = rows_in c.if-len-distinct.rows.items in
-    let Q = λ (r : List ℕ). Contains (map row_of (touched_in w (map ground_action_view actions))) r in
+    let Q = λ (r : List ℕ). Contains (map row_of (touched_in w actions)) r in
     let same : HasSameRows pushed now = elim c.if-len-distinct.branch [ then-len-distinct b ↦ subst (λ v. HasSameRows pushed (rows_in v.items)) (sym b.rows-is) b.sort_distinct.ensures.exact | else-len-distinct b ↦ subst (λ v. HasSameRows pushed (rows_in v.items)) (sym b.rows-is) (λ r. (λ m. m, λ m. m)) ] in
-    let before = subst (λ xs. (r : List ℕ) → (Contains old r ⊎ Contains (map row_of (touched_in w xs)) r) ↔ Q r) (touched_left actions i c.step-item.result c.loop-step-test.true c.step-item.is) c.loop-step.invariant in
-    touched_more w old pushed now (ground_action_view c.step-item.result) (map ground_action_view (drop (i + 1) actions)) Q c.in_ok-push_touched.ensures same before
+    let before = subst (λ xs. (r : List ℕ) → (Contains old r ⊎ Contains (map row_of (touched_in w xs)) r) ↔ Q r) (actions_left actions i (ground_action_view c.at.result) c.at.ensures) c.loop-number.invariant in
+    touched_more w old pushed now (ground_action_view c.at.result) (drop (i + 1) actions) Q c.in_ok-push_touched.ensures same before
 
 pub returns-clause-exact : goal.returns-clause-exact
 returns-clause-exact c = λ r.
     let w = world_view c.args.world.now in
-    let actions = c.args.actions.now in
-    let Q = λ (x : List ℕ). Contains (map row_of (touched_in w (map ground_action_view actions))) x in
-    let whole = put_in (rows_in c.loop-step.rows.items) _ Q (at_drop_all (λ xs. map row_of (touched_in w (map ground_action_view xs))) actions c.loop-step.step-index c.loop-step-test.false) c.loop-step.invariant r in
+    let actions = ground_actions_view c.args.actions.now in
+    let Q = λ (x : List ℕ). Contains (map row_of (touched_in w actions)) x in
+    let none : map row_of (touched_in w (drop c.loop-number.number actions)) ≡ [] = at_drop_all (λ xs. map row_of (touched_in w xs)) actions c.loop-number.number (omega (arith, c.loop-number-test.false, c.len-number-end.ensures)) in
+    let whole = put_in (rows_in c.loop-number.rows.items) _ Q none c.loop-number.invariant r in
     let same = c.sort_distinct-2.ensures.exact r in
     (λ m. whole.0 (same.0 m), λ m. same.1 (whole.1 m))

@@ -1,5 +1,5 @@
-use Rattle.std.proofs.Common.{◌≤◌, ◌↔◌, IsTrue, length, map, sym, subst}
-use Rattle.hv_world.specs.Bindings.{objects_in, ground_action_view}
+use Rattle.std.proofs.Common.{◌≤◌, ◌↔◌, IsTrue, length, sym, subst}
+use Rattle.hv_world.specs.Bindings.{objects_in, ground_actions_view}
 use Rattle.hv_world.specs.Views.{formula_view}
 use Rattle.hv_world.specs.WorldViews.{world_view}
 use Rattle.hv_state.specs.Truth.{True}
@@ -15,7 +15,7 @@ returns g c =
     let k = c.args.k in
     let f = formula_view c.args.formula.now in
     let env = objects_in c.args.binding.now in
-    let p = plan (world_view t.world.now) (map ground_action_view t.actions.now) in
+    let p = plan (world_view t.world.now) (ground_actions_view t.actions.now) in
     let start = g.S.State.atoms t.first in
     let within : k ≤ length p.actions = subst (λ v. k ≤ length v.actions) (sym c.self.view_is) c.requires in
     let same = true_same p.world.typing (TrueAfter start (kept t.changes) k) (StateAt p k) (moment_is p start t.changes c.self.invariant k within) f env in

@@ -4,7 +4,7 @@ use Rattle.std.specs.Cmp.Lexicographic.{slice_cmp}
 use Rattle.hv_world.specs.Views.{term_view}
 use Rattle.hv_world.specs.Bindings.{objects_in}
 use Rattle.hv_state.specs.Atoms.{object_of}
-use Rattle.hv_state.proofs.rows.compare_objects.Given as goal
+use Rattle.hv_state.proofs.rows.compare_to_terms.Given as goal
 
 -- what is left decides
 abbrev pub invariant-loop-object : goal.invariant-loop-object

@@ -1,7 +1,7 @@
 use Rattle.std.proofs.Common.{◌≡◌, ◌++◌, drop}
 use Rattle.hv_state.specs.Rows.{rows_in}
-use Rattle.hv_state.proofs.rows.copy_of.Given as goal
+use Rattle.hv_state.proofs.rows.push_copies.Given as goal
 
 -- the rows so far, and what is left
 abbrev pub invariant-loop-row : goal.invariant-loop-row
-invariant-loop-row l = rows_in l.copy.items ++ rows_in (drop l.row-index l.rows) ≡ rows_in l.rows
+invariant-loop-row l = rows_in l.rows.items ++ rows_in (drop l.row-index l.more) ≡ rows_in l.fn.rows.items ++ rows_in l.more

@@ -3,7 +3,7 @@ use Rattle.hv_world.specs.Bindings.{objects_in}
 use Rattle.hv_world.specs.Views.{term_view}
 use Rattle.hv_state.specs.Atoms.{object_of}
 use Rattle.hv_state.proofs.TermLemmas.{more_objects}
-use Rattle.hv_state.proofs.rows.compare_objects.Goals as goal
+use Rattle.hv_state.proofs.rows.compare_to_terms.Goals as goal
 
 pub returns-in-empty : goal.returns-in-empty
 returns-in-empty c =

@@ -1,0 +1,107 @@
+-- What a change of the rows that are lit is to a state.
+use Rattle.std.proofs.Common.{◌≡◌, ◌≤◌, ◌<◌, ◌*◌, ◌++◌, ◌↔◌, ◌⊎◌, inl, inr, ℕ, List, [], length, map, Result, Ok, Err, IfOk, get_or, ◌+◌, ◌∷◌, refl, sym, subst, ◌∙◌, ap, arith}
+use Rattle.std.specs.List.{Contains}
+use Rattle.hv_state.specs.declared.rows.Row.{Row}
+use Rattle.std.proofs.lemmas.List.{get_or_default, get_or-map, length-map, map_push}
+use Rattle.std.proofs.lemmas.List.Elements.{Contains-append_left, Contains-append_right}
+use Rattle.hv_state.specs.Atoms.{GroundAtom, Same, After}
+use Rattle.hv_state.specs.Rows.{row_of, rows_in, Ascend, HasSameRows, IsGap}
+use Rattle.hv_state.specs.Bits.{Has, Bits, Lit, Shown, Knows, AreBits, AreLit, AreDark, IsChanged}
+use Rattle.hv_state.proofs.RowLemmas.{gap_lacks}
+use Rattle.hv_state.proofs.StateLemmas.{atom_listed, row_listed}
+use Rattle.hv_state.proofs.BitLemmas.{LitBelow, one_place, lit_more, dark_more}
+
+-- as many words
+pub still_bits : (rows : List (List ℕ)) (old new : List ℕ) → AreBits rows old → length new ≡ length old → AreBits rows new
+still_bits rows old new bits e = record {
+  order = bits.order;
+  room = subst (λ n. length rows ≤ 64 * n) (sym e) bits.room;
+}
+
+-- first cleared, then set
+pub changed : (rows : List (List ℕ)) (old mid new : List ℕ) (deletes adds : List (List ℕ)) → AreDark rows old deletes mid → AreLit rows mid adds new → IsChanged rows old deletes adds new
+changed rows old mid new deletes adds dark lit r = (from, to)
+  where
+    from : Lit (rows, new) r → (Lit (rows, old) r × (Contains deletes r → ⊥)) ⊎ Contains adds r
+    from l = elim ((lit r).0 l) [ inl m ↦ inl ((dark r).0 m) | inr a ↦ inr a ]
+
+    to : (Lit (rows, old) r × (Contains deletes r → ⊥)) ⊎ Contains adds r → Lit (rows, new) r
+    to (inl o) = (lit r).1 (inl ((dark r).1 o))
+    to (inr a) = (lit r).1 (inr a)
+
+-- a table of the rows of two lists
+pub knows_first : (xs ys both sorted : List (List ℕ)) → both ≡ xs ++ ys → HasSameRows both sorted → Knows sorted xs
+knows_first xs ys both sorted e same r m = (same r).1 (subst (λ rows. Contains rows r) (sym e) (Contains-append_left xs ys r m))
+
+pub knows_second : (xs ys both sorted : List (List ℕ)) → both ≡ xs ++ ys → HasSameRows both sorted → Knows sorted ys
+knows_second xs ys both sorted e same r m = (same r).1 (subst (λ rows. Contains rows r) (sym e) (Contains-append_right xs ys r m))
+
+pub knows_last : (table xs ys both : List (List ℕ)) → both ≡ xs ++ ys → Knows table both → Knows table ys
+knows_last table xs ys both e known r m = known r (subst (λ rows. Contains rows r) (sym e) (Contains-append_right xs ys r m))
+
+-- set where none was
+pub lit_alone : (rows : List (List ℕ)) (old new : List ℕ) (more : List (List ℕ)) → ((i : ℕ) → Has old i → ⊥) → AreLit rows old more new → (r : List ℕ) → Lit (rows, new) r ↔ Contains more r
+lit_alone rows old new more none lit r = (λ l. elim ((lit r).0 l) [ inl o ↦ absurd (none o.0.0 o.1) | inr m ↦ m ], λ m. (lit r).1 (inr m))
+
+-- all rows that are lit
+pub lit_of_all : (b : Bits) (n : ℕ) (lit : List (List ℕ)) → length b.0 ≤ n → ((r : List ℕ) → Contains lit r ↔ LitBelow b n r) → (r : List ℕ) → Contains lit r ↔ Lit b r
+lit_of_all b n lit le before r = (λ m. (let l = (before r).0 m in (l.0, l.2)), λ l. (before r).1 (l.0, omega (arith, l.0.1, le), l.1))
+
+module _ (rows : List Row) (words : List ℕ) (n : ℕ) (lt : n < length rows) (lit : List Row) (before : (r : List ℕ) → Contains (rows_in lit) r ↔ LitBelow (rows_in rows, words) n r) where
+  within : n < length (rows_in rows)
+  within = omega (arith, lt, length-map rows (λ (u : Row). u.numbers.value.items))
+
+  pub push_lit : (v u : Row) (new : List Row) → v ≡ get_or rows n v → new ≡ lit ++ u ∷ [] → u.numbers.value.items ≡ v.numbers.value.items → Has words n → (r : List ℕ) → Contains (rows_in new) r ↔ LitBelow (rows_in rows, words) (n + 1) r
+  push_lit v u new is pushed same h =
+      let at : get_or (rows_in rows) n [] ≡ u.numbers.value.items = get_or-map (λ (u : Row). u.numbers.value.items) rows n v [] lt ∙ ap (λ (u : Row). u.numbers.value.items) (sym is) ∙ sym same in
+      let seen : rows_in new ≡ rows_in lit ++ u.numbers.value.items ∷ [] = ap rows_in pushed ∙ map_push (λ (u : Row). u.numbers.value.items) lit u in
+      subst (λ xs. (r : List ℕ) → Contains xs r ↔ LitBelow (rows_in rows, words) (n + 1) r) (sym seen) (lit_more (rows_in rows, words) n u.numbers.value.items within at (rows_in lit) before h)
+
+  pub skip_dark : (new : List Row) → new ≡ lit → (Has words n → ⊥) → (r : List ℕ) → Contains (rows_in new) r ↔ LitBelow (rows_in rows, words) (n + 1) r
+  skip_dark new same dark =
+      subst (λ xs. (r : List ℕ) → Contains (rows_in xs) r ↔ LitBelow (rows_in rows, words) (n + 1) r) (sym same) (dark_more (rows_in rows, words) n (get_or (rows_in rows) n []) within refl (rows_in lit) before dark)
+
+pub none_below : (b : Bits) (r : List ℕ) → Contains [] r ↔ LitBelow b 0 r
+none_below b r = (λ m. absurd (omega (arith, m.1)), λ l. absurd (omega (arith, l.1)))
+
+-- the bit of a row that was found tells whether it is lit
+pub found_lit : (rows : List (List ℕ)) (words : List ℕ) (row : List ℕ) (i : ℕ) → Ascend rows → i < length rows → get_or rows i [] ≡ row → Has words i ↔ Lit (rows, words) row
+found_lit rows words row i ascend lt at = (λ h. ((i, lt, get_or_default rows i row [] lt ∙ at), h), λ l. subst (Has words) (one_place rows ascend row row refl l.0 (i, lt, get_or_default rows i row [] lt ∙ at)) l.1)
+
+pub both_ways : {A B C : Type 0} → A ↔ B → B ↔ C → A ↔ C
+both_ways ab bc = (λ a. bc.0 (ab.0 a), λ c. ab.1 (bc.1 c))
+
+pub pair_is : (rows rows' : List (List ℕ)) (words words' : List ℕ) → rows ≡ rows' → words ≡ words' → let b : Bits = (rows, words) in let b' : Bits = (rows', words') in b ≡ b'
+pair_is rows rows' words words' e f = λ i. (e i, f i)
+
+pub if_ok : {T E : Type 0} (r : Result T E) (P Q : T → Type 0) → ((x : T) → P x → Q x) → IfOk r P → IfOk r Q
+if_ok (Ok x) P Q f p = f x p
+if_ok (Err e) P Q f p = tt
+
+pub lacking_dark : (rows : List (List ℕ)) (words : List ℕ) (row : List ℕ) (i : ℕ) → IsGap rows row i → Lit (rows, words) row → ⊥
+lacking_dark rows words row i gap l = gap_lacks rows i row gap l.0
+
+-- as sets of atoms
+pub shown_begun : (b : Bits) (rows : List (List ℕ)) (gs : List GroundAtom) → rows ≡ map row_of gs → ((r : List ℕ) → Lit b r ↔ Contains rows r) → Same (Shown b) (Contains gs)
+shown_begun b rows gs is lit g = (λ l. atom_listed gs g (subst (λ xs. Contains xs (row_of g)) is ((lit (row_of g)).0 l)), λ m. (lit (row_of g)).1 (subst (λ xs. Contains xs (row_of g)) (sym is) (row_listed gs g m)))
+
+pub shown_same : (b old : Bits) → b ≡ old → Same (Shown b) (Shown old)
+shown_same b old e g = (λ l. subst (λ x. Shown x g) e l, λ l. subst (λ x. Shown x g) (sym e) l)
+
+pub shown_changed : (old mid : Bits) (new : List ℕ) (gone come : List (List ℕ)) (deletes adds : List GroundAtom) → gone ≡ map row_of deletes → come ≡ map row_of adds → ((r : List ℕ) → Lit mid r ↔ Lit old r)
+    → IsChanged mid.0 mid.1 gone come new → Same (Shown (mid.0, new)) (After (Shown old) deletes adds)
+shown_changed old mid new gone come deletes adds is_gone is_come same change g = (λ l. from ((change (row_of g)).0 l), to)
+  where
+    deleted : Contains deletes g → Contains gone (row_of g)
+    deleted m = subst (λ xs. Contains xs (row_of g)) (sym is_gone) (row_listed deletes g m)
+
+    of_deleted : Contains gone (row_of g) → Contains deletes g
+    of_deleted m = atom_listed deletes g (subst (λ xs. Contains xs (row_of g)) is_gone m)
+
+    from : (Lit mid (row_of g) × (Contains gone (row_of g) → ⊥)) ⊎ Contains come (row_of g) → After (Shown old) deletes adds g
+    from (inl (l, kept)) = inl ((same (row_of g)).0 l, λ m. kept (deleted m))
+    from (inr m) = inr (atom_listed adds g (subst (λ xs. Contains xs (row_of g)) is_come m))
+
+    to : After (Shown old) deletes adds g → Shown (mid.0, new) g
+    to (inl (l, kept)) = (change (row_of g)).1 (inl ((same (row_of g)).1 l, λ m. kept (of_deleted m)))
+    to (inr m) = (change (row_of g)).1 (inr (subst (λ xs. Contains xs (row_of g)) (sym is_come) (row_listed adds g m)))

@@ -1,0 +1,125 @@
+//! A state as a row of bits.
+
+ghost use Rattle.std.specs.Prelude.{ℕ, List, ◌↔◌, IfOk};
+ghost use Rattle.std.specs.List.{Contains};
+ghost use Rattle.hv_state.specs.Rows.{rows_in};
+ghost use Rattle.hv_state.specs.Bits.{Lit, Shown, Knows, AreBits, IsChanged};
+
+use crate::atom::AtomView;
+use crate::bits::has_bit;
+use crate::ground::GroundAtoms;
+use crate::lit::{clear_all, dark, knows_all, lit_rows, set_all};
+use crate::rows::{Row, copy_of, find, push_copies, sort_distinct};
+use crate::state::State;
+use crate::touched::touched;
+use hv_text::Memory;
+use hv_world::{Binding, GroundActions, World};
+use std::alloc::Global;
+use std::marker::Model;
+use std::rc::Rc;
+
+/// A state as a row of bits: one for each atom of a table, which copies share. An atom is found by
+/// halving, and one that the table lacks is false.
+#[derive(Drop)]
+pub struct BitState {
+    table: Rc<Vec<Row>>,
+    words: Vec<u64>,
+}
+
+impl Model for BitState {
+    ghost use Rattle.std.specs.Prelude.{ℕ, List};
+    ghost use Rattle.hv_state.specs.Rows.{rows_in};
+    ghost use Rattle.hv_state.specs.Bits.{Bits, AreBits};
+
+    ghost Value = { Bits };
+
+    ghost view = { λ s. (rows_in s.table.value.items, s.words.items) };
+
+    ghost invariant = { λ s. AreBits (rows_in s.table.value.items) s.words.items };
+}
+
+// Clears the bits of rows, and then sets those of others.
+fn change(table: &[Row], words: &mut Vec<u64>, deletes: &[Row], adds: &[Row])
+    requires bits { AreBits (rows_in table.now) words.old.items }
+    requires known { Knows (rows_in table.now) (rows_in adds.now) }
+    ensures bits { AreBits (rows_in table.now) words.new.items }
+    ensures lit { IsChanged (rows_in table.now) words.old.items
+        (rows_in deletes.now) (rows_in adds.now) words.new.items }
+{
+    clear_all(table, words, deletes);
+    set_all(table, words, adds);
+}
+
+impl BitState {
+    // A state whose table has these rows and others, and in which the atoms of the others are true.
+    fn over(alloc: Global, mut rows: Vec<Row>, lit: &[Row]) -> Result<BitState, Memory>
+        ensures known { IfOk result (λ s. Knows s.0 (rows_in rows.items)) }
+        ensures lit { IfOk result (λ s. (r : List ℕ) → Lit s r ↔ Contains (rows_in lit.now) r) }
+    {
+        push_copies(&mut rows, lit)?;
+        sort_distinct(&mut rows);
+        let mut words = dark(alloc, rows.len())?;
+        set_all(&rows, &mut words, lit);
+        let table = Rc::new(alloc, rows)?;
+        Ok(BitState { table, words })
+    }
+
+    // The same state once more, over a copy of the table that has these rows too.
+    fn with_rows(&self, alloc: Global, more: &[Row]) -> Result<BitState, Memory>
+        ensures known { IfOk result (λ s. Knows s.0 (rows_in more.now)) }
+        ensures lit { IfOk result (λ s. (r : List ℕ) → Lit s r ↔ Lit self.now r) }
+    {
+        let lit = lit_rows(alloc, &self.table, &self.words)?;
+        let mut rows = copy_of(alloc, &self.table)?;
+        push_copies(&mut rows, more)?;
+        BitState::over(alloc, rows, &lit)
+    }
+
+    // Sees to it that the table has these rows. The same atoms are true as before.
+    fn know_all(&mut self, rows: &[Row]) -> Result<(), Memory>
+        ensures known { IfOk result (λ _. Knows self.new.0 (rows_in rows.now)) }
+        ensures same { (r : List ℕ) → Lit self.new r ↔ Lit self.old r }
+    {
+        if !knows_all(&self.table, rows) {
+            *self = self.with_rows(*self.words.allocator(), rows)?;
+        }
+        Ok(())
+    }
+}
+
+impl State for BitState {
+    ghost atoms = { λ s. Shown s };
+
+    fn initial(alloc: Global, world: &World<'_>) -> Result<BitState, Memory> {
+        let begun = GroundAtoms::of(alloc, world.init(), &Binding::Given(&[]))?;
+        BitState::over(alloc, Vec::new(alloc), begun.rows())
+    }
+
+    fn initial_for(
+        alloc: Global,
+        world: &World<'_>,
+        actions: &GroundActions,
+    ) -> Result<BitState, Memory> {
+        let begun = GroundAtoms::of(alloc, world.init(), &Binding::Given(&[]))?;
+        BitState::over(alloc, touched(alloc, world, actions)?, begun.rows())
+    }
+
+    fn copy(&self, alloc: Global) -> Result<BitState, Memory> {
+        let table = self.table.clone()?;
+        let words = Vec::from_slice(alloc, &self.words)?;
+        Ok(BitState { table, words })
+    }
+
+    fn holds(&self, atom: &AtomView<'_>) -> bool {
+        match find(&self.table, atom) {
+            Ok(number) => has_bit(&self.words, number),
+            Err(_) => false,
+        }
+    }
+
+    fn apply(&mut self, deletes: &GroundAtoms, adds: &GroundAtoms) -> Result<(), Memory> {
+        self.know_all(adds.rows())?;
+        change(&self.table, &mut self.words, deletes.rows(), adds.rows());
+        Ok(())
+    }
+}

@@ -1,0 +1,76 @@
+//! Atoms without variables, as actions delete and add them.
+
+ghost use Rattle.std.specs.Prelude.{◌≡◌, ◌++◌, ◌∷◌, [], map, IfOk, OnOk, OnErr};
+ghost use Rattle.hv_world.specs.Views.{atom_view};
+ghost use Rattle.hv_world.specs.Bindings.{objects_in};
+ghost use Rattle.hv_state.specs.Atoms.{atoms_under, atom_read};
+ghost use Rattle.hv_state.specs.Rows.{row_of, rows_in};
+
+use crate::atom::AtomView;
+use crate::rows::{Row, row_of, rows_of};
+use hv_text::Memory;
+use hv_world::{Atom, Binding};
+use std::alloc::Global;
+use std::marker::Model;
+
+/// Atoms without variables, in a list.
+#[derive(Drop)]
+pub struct GroundAtoms {
+    rows: Vec<Row>,
+}
+
+impl Model for GroundAtoms {
+    ghost use Rattle.std.specs.Prelude.{◌≡◌, List, map};
+    ghost use Rattle.hv_state.specs.Atoms.{GroundAtom};
+    ghost use Rattle.hv_state.specs.Rows.{row_of, atom_of, rows_in};
+
+    ghost Value = { List GroundAtom };
+
+    ghost view = { λ a. map atom_of (rows_in a.rows.items) };
+
+    ghost invariant = { λ a. rows_in a.rows.items ≡ map row_of (map atom_of (rows_in a.rows.items)) };
+}
+
+impl GroundAtoms {
+    /// No atoms.
+    pub fn new(alloc: Global) -> GroundAtoms
+        ensures { result ≡ [] }
+    {
+        GroundAtoms {
+            rows: Vec::new(alloc),
+        }
+    }
+
+    /// Atoms with the objects of a binding.
+    ///
+    /// # Errors
+    ///
+    /// `Memory` where a growth was refused.
+    pub fn of(alloc: Global, atoms: &[Atom], binding: &Binding<'_>) -> Result<GroundAtoms, Memory>
+        ensures { IfOk result (λ a. a ≡ atoms_under (objects_in binding.now) (map atom_view atoms.now)) }
+    {
+        let rows = rows_of(alloc, atoms, binding)?;
+        Ok(GroundAtoms { rows })
+    }
+
+    /// Puts an atom behind the others.
+    ///
+    /// # Errors
+    ///
+    /// `Memory` where a growth was refused; the atoms are the same then as before.
+    pub fn push(&mut self, atom: &AtomView<'_>) -> Result<(), Memory>
+        ensures ok { OnOk result (self.new ≡ self.old ++ atom_read atom.now ∷ []) }
+        ensures err { OnErr result (self.new ≡ self.old) }
+    {
+        let row = row_of(*self.rows.allocator(), atom)?;
+        self.rows.push(row)?;
+        Ok(())
+    }
+
+    /// The rows of the atoms.
+    pub(crate) fn rows(&self) -> &[Row]
+        ensures { rows_in result.now ≡ map row_of self.now }
+    {
+        &self.rows
+    }
+}
