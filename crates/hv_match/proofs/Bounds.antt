@@ -3,10 +3,10 @@ use Rattle.std.proofs.Common.{◌≡◌, ℕ, zero, suc, ◌+◌, ◌*◌, ◌<�
 use Rattle.std.proofs.lemmas.List.{append-nil}
 use Rattle.std.proofs.Math.Nat.{mul-le-mul_right}
 use Rattle.std.specs.List.{flat_map}
-use Rattle.hv_match.specs.Lists.{Mem, Once}
-use Rattle.hv_match.specs.Search.{IsPath, below, IsWanted}
+use Rattle.hv_match.specs.inside.Lists.{Mem, Once}
+use Rattle.hv_match.specs.inside.Search.{IsPath, below, IsWanted}
 use Rattle.hv_world.specs.Alike.{Key, same_key, how_many}
-use Rattle.hv_match.specs.Counting.{first_alike, IsMatching, tower}
+use Rattle.hv_match.specs.inside.Counting.{first_alike, IsMatching, tower}
 use Rattle.hv_match.proofs.Members.{mem_append, mem_right, at_most, all_there}
 use Rattle.hv_match.proofs.Listing.{found}
 use Rattle.hv_match.proofs.Factors.{key_same}

@@ -7,15 +7,15 @@ use Rattle.hv_world.specs.Values.{Term, object, variable, Subtask, subtask, Cons
 use Rattle.hv_world.specs.Alike.{instance, subtask_instance}
 use Rattle.hv_world.specs.Types.{Typing, Of}
 use Rattle.hv_world.specs.Worlds.{World, Method}
-use Rattle.hv_match.specs.Lists.{Mem}
-use Rattle.hv_match.specs.Lists as lists
+use Rattle.hv_match.specs.inside.Lists.{Mem}
+use Rattle.hv_match.specs.inside.Lists as lists
 use Rattle.hv_world.specs.Views.{type_number}
 use Rattle.hv_world.specs.declared.id.TypeId.{TypeId}
-use Rattle.hv_match.specs.Search.{below}
-use Rattle.hv_match.specs.CandidateViews.{parts}
+use Rattle.hv_match.specs.inside.Search.{below}
+use Rattle.hv_match.specs.inside.Parts.{parts}
 use Rattle.hv_match.specs.Candidates.{Does, Holds, IsCandidate}
-use Rattle.hv_match.specs.Puzzles.{Work, work, Puzzle, object_of, child_at, same_bool, holds, all_hold, options, levels, is_good, Done, IsMatch}
-use Rattle.hv_match.specs.Ranges.{IsRange, AreRanges, as_subtask, IsPuzzleOf}
+use Rattle.hv_match.specs.inside.Puzzles.{Work, work, Puzzle, object_of, child_at, same_bool, holds, all_hold, options, levels, is_good, Done, IsMatch}
+use Rattle.hv_match.specs.inside.Ranges.{IsRange, AreRanges, as_subtask, IsPuzzleOf}
 use Rattle.hv_match.proofs.Factors.{contains_mem, mem_contains}
 use Rattle.hv_match.proofs.CountLemmas.{once_of, take_one, map_end, zip_end}
 use Rattle.hv_match.proofs.Keys.{instances_are}
@@ -29,7 +29,7 @@ one_object : (B : List ℕ) (t : Term) → instance (slice_index B) t ≡ object
 one_object B (object o) = refl
 one_object B (variable v) = refl
 
-same_objects : (xs ys : List ℕ) → map object xs ≡ map object ys → xs ≡ ys
+pub same_objects : (xs ys : List ℕ) → map object xs ≡ map object ys → xs ≡ ys
 same_objects [] [] e = refl
 same_objects [] (y ∷ ys) e = cc
 same_objects (x ∷ xs) [] e = cc
@@ -119,11 +119,11 @@ held_from B c h = go (nat_eq (object_of B c.left) (object_of B c.right)) refl c.
         let s = eq-eqb (object_of B c.left) (object_of B c.right) n in cc
     go false t false f = refl
 
-holds_to : (B : List ℕ) (cs : List Constraint) → all_hold B cs ≡ true → All (Holds B) cs
+pub holds_to : (B : List ℕ) (cs : List Constraint) → all_hold B cs ≡ true → All (Holds B) cs
 holds_to B [] e = All-nil _
 holds_to B (c ∷ cs) e = let b = both (holds B c) (all_hold B cs) e in All-cons (Holds B) c cs (held_to B c b.0) (holds_to B cs b.1)
 
-holds_from : (B : List ℕ) (cs : List Constraint) → All (Holds B) cs → all_hold B cs ≡ true
+pub holds_from : (B : List ℕ) (cs : List Constraint) → All (Holds B) cs → all_hold B cs ≡ true
 holds_from B [] a = refl
 holds_from B (c ∷ cs) a = also (holds B c) (all_hold B cs) (held_from B c (All-head (Holds B) c cs a)) (holds_from B cs (All-tail (Holds B) c cs a))
 
@@ -137,7 +137,7 @@ pairs_of {X} (x ∷ xs) o = AllPairs-cons ◌≢◌ x xs (λ i d h e. o.0 (conta
     other (y ∷ ys) zero d h e = sym e
     other (y ∷ ys) (suc i) d h e = other ys i d (omega arith) e
 
-within_to : (n : ℕ) (M : List ℕ) → ((x : ℕ) → Mem M x → x < n) → All (λ x. x < n) M
+pub within_to : (n : ℕ) (M : List ℕ) → ((x : ℕ) → Mem M x → x < n) → All (λ x. x < n) M
 within_to n [] h = All-nil _
 within_to n (x ∷ M) h = All-cons (λ x. x < n) x M (h x (inl refl)) (within_to n M (λ y m. h y (inr m)))
 

@@ -5,11 +5,11 @@ use Rattle.std.proofs.lemmas.Bool.Decides.{nat_tests}
 use Rattle.std.specs.List.{AllZip, range_with_len}
 use Rattle.hv_world.specs.Alike.{class_sizes}
 use Rattle.hv_world.specs.Worlds.{World, Method}
-use Rattle.hv_match.specs.Lists.{Once}
+use Rattle.hv_match.specs.inside.Lists.{Once}
 use Rattle.hv_match.specs.Counts.{factorial, product, AreSoMany, AreChoices, free, IsCount}
 use Rattle.hv_match.proofs.Members.{at_most}
 use Rattle.hv_match.proofs.Factors.{contains_mem, mem_contains}
-use Rattle.hv_match.specs.Numbers.{in_64_bits}
+use Rattle.hv_match.specs.inside.Numbers.{in_64_bits}
 
 pub fits : (n : ℕ) → n < 2 ^ 64 → in_64_bits n ≡ Some n
 fits n h = let t : nat_lt n (2 ^ 64) ≡ true = grind (arith, nat_tests) in ap (λ b. if b then Some n else None) t

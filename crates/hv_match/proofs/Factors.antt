@@ -4,9 +4,9 @@ use Rattle.std.specs.Str.{bytes_eq}
 use Rattle.std.proofs.lemmas.Slice.Eq.{bytes_eq-Decides}
 use Rattle.hv_world.specs.Values.{TaskName, compound, primitive}
 use Rattle.hv_world.specs.Alike.{Key, key_with, same_name, same_key, how_many, classes}
-use Rattle.hv_match.specs.Lists.{Mem, Once}
+use Rattle.hv_match.specs.inside.Lists.{Mem, Once}
 use Rattle.hv_match.specs.Counts.{factorial, product}
-use Rattle.hv_match.specs.Counting.{rising}
+use Rattle.hv_match.specs.inside.Counting.{rising}
 
 both : (a b : Bool) → (a && b) ≡ true → (a ≡ true) × (b ≡ true)
 both true b e = (refl, e)

@@ -3,8 +3,8 @@ use Rattle.std.proofs.Common.{◌≡◌, ℕ, zero, suc, ◌<◌, Bool, true, fa
 use Rattle.std.specs.List.{AllZip}
 use Rattle.hv_world.specs.Values.{Term, Subtask}
 use Rattle.hv_world.specs.Alike.{same_name}
-use Rattle.hv_match.specs.Lists.{Mem, Once}
-use Rattle.hv_match.specs.Puzzles.{Work, work, Puzzle, object_of, child_at, has, is_once, are_in, same_values, does, all_do, all_hold, fits, places, values, is_good, Done, IsMatch}
+use Rattle.hv_match.specs.inside.Lists.{Mem, Once}
+use Rattle.hv_match.specs.inside.Puzzles.{Work, work, Puzzle, object_of, child_at, has, is_once, are_in, same_values, does, all_do, all_hold, fits, places, values, is_good, Done, IsMatch}
 use Rattle.hv_match.proofs.Factors.{name_is, name_itself}
 
 pub both : (a b : Bool) → (a && b) ≡ true → (a ≡ true) × (b ≡ true)
@@ -79,13 +79,13 @@ values_to B (t ∷ ts) (o ∷ os) e =
     let f : object_of B t ≡ o = cc in let g : map (object_of B) ts ≡ os = cc in
     also (nat_eq (object_of B t) o) (same_values B ts os) (eq-eqb (object_of B t) o f) (values_to B ts os g)
 
-does_from : (c : Option Work) (B : List ℕ) (s : Subtask) → does c B s ≡ true → c ≡ Some (work s.name (map (object_of B) s.terms))
+pub does_from : (c : Option Work) (B : List ℕ) (s : Subtask) → does c B s ≡ true → c ≡ Some (work s.name (map (object_of B) s.terms))
 does_from None B s e = cc
 does_from (Some c) B s e =
     let b = both (same_name c.name s.name) (same_values B s.terms c.objects) e in
     ap (λ n. Some (work n c.objects)) (name_is c.name s.name b.0) ∙ ap (λ os. Some (work s.name os)) (sym (values_from B s.terms c.objects b.1))
 
-does_to : (c : Option Work) (B : List ℕ) (s : Subtask) → c ≡ Some (work s.name (map (object_of B) s.terms)) → does c B s ≡ true
+pub does_to : (c : Option Work) (B : List ℕ) (s : Subtask) → c ≡ Some (work s.name (map (object_of B) s.terms)) → does c B s ≡ true
 does_to c B s e = ap (λ d. does d B s) e ∙ also (same_name s.name s.name) (same_values B s.terms (map (object_of B) s.terms)) (name_itself s.name) (values_to B s.terms (map (object_of B) s.terms) refl)
 
 do_from : (cs : List (Option Work)) (B M : List ℕ) (ss : List Subtask) → all_do cs B M ss ≡ true → AllZip (Done cs B) M ss

@@ -5,10 +5,10 @@ use Rattle.std.specs.List.{AllZip}
 use Rattle.hv_world.specs.Views.{subtask_view, constraint_view}
 use Rattle.hv_world.specs.declared.formula.Subtask as code_subtask
 use Rattle.hv_world.specs.declared.formula.Constraint as code_constraint
-use Rattle.hv_match.specs.Lists.{Mem}
-use Rattle.hv_match.specs.Search.{below}
-use Rattle.hv_match.specs.Places.{rest}
-use Rattle.hv_match.specs.Puzzles.{Work, Puzzle, options, places, values, is_good, Done, Agrees, holds, all_hold}
+use Rattle.hv_match.specs.inside.Lists.{Mem}
+use Rattle.hv_match.specs.inside.Search.{below}
+use Rattle.hv_match.specs.inside.States.{rest}
+use Rattle.hv_match.specs.inside.Puzzles.{Work, Puzzle, options, places, values, is_good, Done, Agrees, holds, all_hold}
 use Rattle.hv_match.proofs.Listing.{none_begins}
 use Rattle.hv_match.proofs.FirstPlaces.{agrees}
 use Rattle.hv_match.proofs.Fitting.{good_match}

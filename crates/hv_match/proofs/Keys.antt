@@ -4,9 +4,9 @@ use Rattle.std.specs.List.{AllZip}
 use Rattle.hv_world.specs.Values.{Term, object, variable, Subtask, subtask}
 use Rattle.hv_world.specs.Alike.{Key, key_with, key, keys, instance, subtask_instance}
 use Rattle.hv_world.specs.Values.{compound}
-use Rattle.hv_match.specs.Lists.{Mem}
-use Rattle.hv_match.specs.Counting.{IsMatching}
-use Rattle.hv_match.specs.Puzzles.{Work, Puzzle, object_of, child_at, Done, IsMatch}
+use Rattle.hv_match.specs.inside.Lists.{Mem}
+use Rattle.hv_match.specs.inside.Counting.{IsMatching}
+use Rattle.hv_match.specs.inside.Puzzles.{Work, Puzzle, object_of, child_at, Done, IsMatch}
 use Rattle.hv_match.proofs.Factors.{mem_contains}
 
 work_key : List Subtask → Option Work → Key

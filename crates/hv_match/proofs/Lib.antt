@@ -17,3 +17,5 @@ pub mod Hope
 pub mod Bridge
 pub mod Ways
 pub mod NodeLemmas
+pub mod Checking
+pub mod Found

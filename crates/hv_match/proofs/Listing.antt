@@ -1,8 +1,8 @@
 -- What a search finds: exactly what is wanted, each once, and how much at most.
 use Rattle.std.proofs.Common.{◌≡◌, ℕ, zero, suc, Bool, true, false, List, [], ◌∷◌, ◌++◌, length, refl, sym, ap, ◌∙◌, arith, append_assoc, subst, inl, inr, if◌then◌else◌}
 use Rattle.std.proofs.lemmas.List.{append-nil}
-use Rattle.hv_match.specs.Lists.{Mem, Once}
-use Rattle.hv_match.specs.Search.{IsPath, below, IsWanted}
+use Rattle.hv_match.specs.inside.Lists.{Mem, Once}
+use Rattle.hv_match.specs.inside.Search.{IsPath, below, IsWanted}
 use Rattle.hv_match.proofs.Members.{mem_flat, flat_mem, once_flat}
 
 same_next : (p xs ys : List ℕ) (x y : ℕ) → (p ++ x ∷ []) ++ xs ≡ (p ++ y ∷ []) ++ ys → x ≡ y

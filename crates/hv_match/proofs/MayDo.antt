@@ -2,8 +2,8 @@
 use Rattle.std.proofs.Common.{◌≡◌, ℕ, zero, suc, ◌+◌, ◌<◌, ◌≤◌, Bool, true, false, List, [], ◌∷◌, ◌++◌, length, map, nat_eq, eq-eqb, refl, ap, arith, inl, inr, if◌then◌else◌, drop, Option, Some, None, MatchOption, IfSome}
 use Rattle.hv_world.specs.Alike.{same_name}
 use Rattle.hv_world.specs.Values.{Term, object, variable, Subtask}
-use Rattle.hv_match.specs.Lists.{Mem, Once}
-use Rattle.hv_match.specs.Puzzles.{Work, work, object_of, child_at, is_ground, same_values, may_do, places_where}
+use Rattle.hv_match.specs.inside.Lists.{Mem, Once}
+use Rattle.hv_match.specs.inside.Puzzles.{Work, work, object_of, child_at, is_ground, same_values, may_do, places_where}
 use Rattle.hv_match.proofs.Factors.{name_itself}
 use Rattle.hv_match.proofs.Fitting.{also}
 use Rattle.hv_match.proofs.Turns.{mem_drop}

@@ -1,7 +1,7 @@
 -- Members of lists, lists with each element once, and their lengths.
 use Rattle.std.proofs.Common.{◌≡◌, ℕ, zero, suc, ◌+◌, ◌<◌, ◌≤◌, ◌≢◌, List, [], ◌∷◌, ◌++◌, length, refl, sym, ap, ◌∙◌, arith, subst, ◌⊎◌, inl, inr}
 use Rattle.std.specs.List.{flat_map}
-use Rattle.hv_match.specs.Lists.{Mem, Once}
+use Rattle.hv_match.specs.inside.Lists.{Mem, Once}
 
 pub mem_left : {X : Type 0} (xs ys : List X) (x : X) → Mem xs x → Mem (xs ++ ys) x
 mem_left [] ys x m = absurd m

@@ -3,9 +3,9 @@ use Rattle.std.proofs.Common.{◌≡◌, ℕ, zero, suc, ◌+◌, ◌-◌, ◌�
 use Rattle.std.proofs.lemmas.List.{append-nil}
 use Rattle.std.specs.List.{AllZip}
 use Rattle.hv_world.specs.Values.{Subtask}
-use Rattle.hv_match.specs.Lists.{Mem}
-use Rattle.hv_match.specs.Search.{IsPath}
-use Rattle.hv_match.specs.Puzzles.{Work, Puzzle, child_at, bound, pick, may_do, places_where, options, Done, IsMatch}
+use Rattle.hv_match.specs.inside.Lists.{Mem}
+use Rattle.hv_match.specs.inside.Search.{IsPath}
+use Rattle.hv_match.specs.inside.Puzzles.{Work, Puzzle, child_at, bound, pick, may_do, places_where, options, Done, IsMatch}
 use Rattle.hv_match.proofs.MayDo.{places_there, done_may}
 use Rattle.hv_match.proofs.FirstPlaces.{forced_bound}
 

@@ -1,19 +1,19 @@
 -- The rows of places.
-use Rattle.std.proofs.Common.{◌≡◌, ◌≢◌, ℕ, zero, suc, ◌+◌, ◌<◌, ◌≤◌, Bool, true, false, not, List, [], ◌∷◌, ◌++◌, length, map, take, drop, set, get_or, slice_get, refl, sym, ap, ◌∙◌, arith, if◌then◌else◌, cond, ◌&&◌, ◌||◌, nat_lt, Option, Some, None, option_map, get_or-set_same, get_or-set_other}
+use Rattle.std.proofs.Common.{◌≡◌, ◌≢◌, ℕ, zero, suc, ◌+◌, ◌<◌, ◌≤◌, Bool, true, false, not, List, [], ◌∷◌, ◌++◌, length, map, take, drop, set, get_or, slice_get, refl, sym, ap, ◌∙◌, arith, if◌then◌else◌, cond, ◌&&◌, ◌||◌, nat_lt, Option, Some, None, option_map, get_or-set_same, get_or-set_other, inl, inr, vec_len}
 use Rattle.std.proofs.lemmas.Bool.Decides.{nat_tests}
 use Rattle.std.proofs.lemmas.Bool.{ltb-true}
 use Rattle.std.proofs.lemmas.List.{append-nil, length-map, map-set, take_all, drop_all}
 use Rattle.std.proofs.lemmas.Slice.Eq.{bytes_eq-Decides}
 use Rattle.std.specs.Global.{Vec}
 use Rattle.std.specs.Str.{bytes_eq}
-use Rattle.std.specs.List.{position, position_or_len, list_any}
+use Rattle.std.specs.List.{AllClonesOf, AllZip, position, position_or_len, list_any}
 use Rattle.indexmap.specs.IndexSet.{insert_key}
 use Rattle.hv_world.specs.Alike.{same_name}
 use Rattle.hv_world.specs.Values.{Term, TaskName, compound, primitive, Subtask}
-use Rattle.hv_match.specs.Lists.{Mem}
-use Rattle.hv_match.specs.Puzzles.{Work, object_of, is_ground, same_values, may_do, places_where}
-use Rattle.hv_match.specs.Tables.{key_head, work_key, subtask_key, has_key, number_of, row_at, AreRows, row_for, ArePlaces}
-use Rattle.hv_match.specs.declared.places.Places.{Places}
+use Rattle.hv_match.specs.inside.Lists.{Mem}
+use Rattle.hv_match.specs.inside.Puzzles.{Work, object_of, is_ground, same_values, may_do, places_where}
+use Rattle.hv_match.specs.inside.Tables.{key_head, work_key, subtask_key, has_key, number_of, row_at, AreRows, row_for, AreChildRows}
+use Rattle.hv_match.specs.declared.child_rows.ChildRows.{ChildRows}
 use Rattle.hv_match.proofs.Factors.{name_is, name_itself}
 use Rattle.hv_match.proofs.Fitting.{both, also, values_from, values_to}
 use Rattle.hv_match.proofs.MayDo.{places_end, places_within, places_same}
@@ -189,7 +189,7 @@ past_all [] j e = omega arith
 past_all (s ∷ ss) zero e = cc
 past_all (s ∷ ss) (suc j) e = omega (arith, past_all ss j e)
 
-pub row_is : (ss : List Subtask) (cs : List (Option Work)) (p : Places) (j : ℕ) → ArePlaces ss cs p → j < length ss → row_for p j ≡ elim (slice_get ss j) [ None ↦ [] | Some s ↦ places_where (may_do s) 0 cs ]
+pub row_is : (ss : List Subtask) (cs : List (Option Work)) (p : ChildRows) (j : ℕ) → AreChildRows ss cs p → j < length ss → row_for p j ≡ elim (slice_get ss j) [ None ↦ [] | Some s ↦ places_where (may_do s) 0 cs ]
 row_is ss cs p j are h = go (slice_get ss j) refl
   where
     go : (o : Option Subtask) → slice_get ss j ≡ o → row_for p j ≡ elim o [ None ↦ [] | Some s ↦ places_where (may_do s) 0 cs ]
@@ -203,7 +203,7 @@ row_within ss cs j x m = go (slice_get ss j) m
     go None m = absurd m
     go (Some s) m = omega (arith, (places_within (may_do s) 0 cs x m).1)
 
-pub placed : (keys : List (Vec ℕ)) (ss : List Subtask) (cs : List (Option Work)) (p : Places) → map (λ s. number_of (subtask_key s) keys) ss ≡ map Some p.row_of.items → AreRows keys cs p.rows.items → ArePlaces ss cs p
+pub placed : (keys : List (Vec ℕ)) (ss : List Subtask) (cs : List (Option Work)) (p : ChildRows) → map (λ s. number_of (subtask_key s) keys) ss ≡ map Some p.row_of.items → AreRows keys cs p.rows.items → AreChildRows ss cs p
 placed keys ss cs p e rows j s h =
     let r = number_at keys ss p.row_of.items e j s h in
     ap (λ (o : Option ℕ). elim o [ None ↦ [] | Some i ↦ row_at p.rows.items i ]) r.1 ∙ rows (subtask_key s) r.0 r.2 ∙ places_same (has_key (subtask_key s)) (may_do s) (key_says s) 0 cs
@@ -267,3 +267,18 @@ child_put keys old mid new c name key place cs en ek size f g are k i e =
 
 pub none_put : (keys rows : List (Vec ℕ)) (cs : List (Option Work)) → AreRows keys cs rows → AreRows keys (cs ++ None ∷ []) rows
 none_put keys rows cs are k i e = are k i e ∙ sym (places_end (has_key k) 0 cs None ∙ append-nil (places_where (has_key k) 0 cs))
+
+-- clones of an empty row are empty
+none_paired : (R : ℕ → ℕ → Type 0) (xs ys : List ℕ) → xs ≡ [] → AllZip R xs ys → ys ≡ []
+none_paired R [] [] e a = refl
+none_paired R [] (y ∷ ys) e a = absurd a
+none_paired R (x ∷ xs) ys e a = cc
+
+abbrev pub IsClone : Vec ℕ → Vec ℕ → Type 0
+IsClone v u = AllZip (λ x y. y ≡ x) v.items u.items × (vec_len u ≡ vec_len v)
+
+pub all_empty : (v : Vec ℕ) (rows : List (Vec ℕ)) → AllClonesOf IsClone v rows → v.items ≡ [] → (i : ℕ) → row_at rows i ≡ []
+all_empty v [] a e i = refl
+all_empty v (r ∷ rows) (inl f, a) e zero = ap (λ (u : Vec ℕ). u.items) f ∙ e
+all_empty v (r ∷ rows) (inr k, a) e zero = none_paired (λ x y. y ≡ x) v.items r.items e k.0
+all_empty v (r ∷ rows) (k, a) e (suc i) = all_empty v rows a e i

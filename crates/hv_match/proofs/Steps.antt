@@ -1,6 +1,7 @@
 -- Tests of lists, one place after another.
-use Rattle.std.proofs.Common.{◌≡◌, ℕ, zero, suc, ◌+◌, ◌<◌, ◌≤◌, Bool, true, false, ◌&&◌, List, [], ◌∷◌, length, map, drop, nat_eq, get_or, refl, sym, ap, ◌∙◌, arith, ◌⊎◌, inl, inr, if◌then◌else◌, Option, eqb-true, eq-eqb, slice_index, subst, ◌-◌}
-use Rattle.std.specs.List.Sorted.{IsStrictlyIncreasing}
+use Rattle.std.proofs.Common.{◌≡◌, ℕ, zero, suc, ◌+◌, ◌<◌, ◌≤◌, Bool, true, false, ◌&&◌, List, [], ◌∷◌, length, map, drop, nat_eq, get_or, refl, sym, ap, ◌∙◌, arith, ◌⊎◌, inl, inr, if◌then◌else◌, Option, eqb-true, eq-eqb, slice_index, Contains}
+use Rattle.std.specs.Prelude.{◌↔◌}
+use Rattle.std.proofs.lemmas.List.{get_or_default}
 use Rattle.hv_world.specs.Values.{Term, Subtask}
 use Rattle.hv_world.specs.Bindings.{object_number}
 use Rattle.hv_world.specs.Views.{term_view, subtask_view, constraint_view}
@@ -8,7 +9,7 @@ use Rattle.hv_world.specs.declared.id.ObjectId.{ObjectId}
 use Rattle.hv_world.specs.declared.formula.Term as code_term
 use Rattle.hv_world.specs.declared.formula.Subtask as code_subtask
 use Rattle.hv_world.specs.declared.formula.Constraint as code_constraint
-use Rattle.hv_match.specs.Puzzles.{Work, object_of, child_at, has, are_in, same_values, does, all_do, holds, all_hold}
+use Rattle.hv_match.specs.inside.Puzzles.{Work, object_of, child_at, has, are_in, same_values, does, all_do, holds, all_hold}
 
 -- the list from a place on, seen through f
 pub from_place : {X Y : Type 0} (f : X → Y) (xs : List X) (i : ℕ) (d : X) → i < length xs → drop i (map f xs) ≡ f (get_or xs i d) ∷ drop (i + 1) (map f xs)
@@ -100,46 +101,7 @@ module _ (B : List ℕ) (cs : List code_constraint.Constraint) (i : ℕ) where
   pub held_yes : (d : code_constraint.Constraint) → i < length cs → (b : Bool) → b ≡ holds B (constraint_view (get_or cs i d)) → b ≡ true → held i ≡ held (i + 1)
   held_yes d h b f t = rw (from_place constraint_view cs i d h) (true_first (holds B (constraint_view (get_or cs i d))) (held (i + 1)) (sym f ∙ t))
 
--- among others, in ascending order
-
-rising : (xs : List ℕ) → IsStrictlyIncreasing xs → (i d : ℕ) → i + suc d < length xs → slice_index xs i < slice_index xs (i + suc d)
-rising xs up i zero h = let z : i + 1 ≡ i + suc zero = omega arith in subst (λ k. slice_index xs i < slice_index xs k) z (up i (omega arith))
-rising xs up i (suc d) h =
-    let z : i + suc d + 1 ≡ i + suc (suc d) = omega arith in
-    let a = rising xs up i d (omega arith) in
-    let b = up (i + suc d) (omega arith) in
-    subst (λ k. slice_index xs i < slice_index xs k) z (omega (arith, a, b))
-
-pub before : (xs : List ℕ) → IsStrictlyIncreasing xs → (i j : ℕ) → i < j → j < length xs → slice_index xs i < slice_index xs j
-before xs up i j h lt = let z : i + suc (j - suc i) ≡ j = omega arith in subst (λ k. slice_index xs i < slice_index xs k) z (rising xs up i (j - suc i) (omega arith))
-
-sides : (k m : ℕ) → (k < m) ⊎ ((k ≡ m) ⊎ (m < k))
-sides k m = grind arith
-
-pub above : (xs : List ℕ) → IsStrictlyIncreasing xs → (m k x : ℕ) → m < length xs → slice_index xs k ≡ x → slice_index xs m < x → m + 1 ≤ k
-above xs up m k x lt e less = go (sides k m)
-  where
-    go : (k < m) ⊎ ((k ≡ m) ⊎ (m < k)) → m + 1 ≤ k
-    go (inl h) = absurd (omega (arith, before xs up k m h lt, e, less))
-    go (inr (inl h)) = absurd (omega (arith, ap (slice_index xs) h, e, less))
-    go (inr (inr h)) = omega arith
-
-pub under : (xs : List ℕ) → IsStrictlyIncreasing xs → (m k x : ℕ) → k < length xs → slice_index xs k ≡ x → x < slice_index xs m → k < m
-under xs up m k x lt e more = go (sides k m)
-  where
-    go : (k < m) ⊎ ((k ≡ m) ⊎ (m < k)) → k < m
-    go (inl h) = h
-    go (inr (inl h)) = absurd (omega (arith, ap (slice_index xs) h, e, more))
-    go (inr (inr h)) = absurd (omega (arith, before xs up m k h lt, e, more))
-
-pub number_at : (os : List ObjectId) (i : ℕ) (d : ObjectId) → i < length os → slice_index (map object_number os) i ≡ (get_or os i d).0
-number_at [] i d h = absurd (omega arith)
-number_at (o ∷ os) zero d h = refl
-number_at (o ∷ os) (suc i) d h = number_at os i d (omega arith)
-
-pub numbers_size : (os : List ObjectId) → length (map object_number os) ≡ length os
-numbers_size [] = refl
-numbers_size (o ∷ os) = ap suc (numbers_size os)
+-- among others
 
 pub has_at : (x : ℕ) (xs : List ℕ) (i : ℕ) → i < length xs → slice_index xs i ≡ x → has x xs ≡ true
 has_at x [] i h e = absurd (omega arith)
@@ -161,6 +123,10 @@ has_not x (y ∷ xs) h = go (nat_eq y x) refl (has_not x xs (λ i lt e. h (suc i
     go : (b : Bool) → nat_eq y x ≡ b → has x xs ≡ false → (if b then true else has x xs) ≡ false
     go true e r = absurd (h 0 (omega arith) (eqb-true y x e))
     go false e r = r
+
+pub has_is : (x : ℕ) (xs : List ℕ) (b : Bool) → (b ≡ true) ↔ Contains xs x → b ≡ has x xs
+has_is x xs true d = let (i, lt, e) = d.0 refl in sym (has_at x xs i lt (get_or_default xs i 0 x lt ∙ e))
+has_is x xs false d = sym (has_not x xs (λ i lt e. absurd (let f : false ≡ true = d.1 (i, lt, get_or_default xs i x 0 lt ∙ e) in cc)))
 
 module _ {R : Type 0} (f : R → List ℕ) (vs : List ℕ) (rs : List R) (i : ℕ) where
   abbrev allowed : ℕ → Bool

@@ -1,9 +1,9 @@
 -- A table that has for each choice the level at which it was made tells whether a choice stands.
 use Rattle.std.proofs.Common.{◌≡◌, ◌≢◌, ℕ, zero, suc, ◌+◌, ◌<◌, ◌≤◌, Bool, true, List, [], ◌∷◌, ◌++◌, length, take, set, get_or, refl, sym, ap, ◌∙◌, arith, subst, length-append, get_or-set_same, get_or-set_other, ◌⊎◌, inl, inr, Some, slice_get}
 use Rattle.std.proofs.lemmas.List.{get_or_append_left, get_or_push, take_all}
-use Rattle.hv_match.specs.Lists.{Mem, Once}
-use Rattle.hv_match.specs.Search.{below}
-use Rattle.hv_match.specs.Places.{AreTold}
+use Rattle.hv_match.specs.inside.Lists.{Mem, Once}
+use Rattle.hv_match.specs.inside.Search.{below}
+use Rattle.hv_match.specs.inside.States.{AreTold}
 use Rattle.hv_match.proofs.Listing.{none_begins}
 
 pub take_short : (n : ℕ) (q : List ℕ) (x : ℕ) → length q < n → take n (q ++ x ∷ []) ≡ q ++ x ∷ []

@@ -3,10 +3,10 @@ use Rattle.std.proofs.lemmas.List.Elements.{All-push}
 use Rattle.std.proofs.Common.{◌^◌, ◌≡◌, ℕ, zero, suc, ◌+◌, ◌-◌, ◌<◌, ◌≤◌, Bool, false, List, [], ◌∷◌, ◌++◌, length, take, drop, refl, sym, ap, ◌∙◌, arith, append_assoc, length-append, inl, inr}
 use Rattle.std.proofs.lemmas.List.{append-nil}
 use Rattle.std.proofs.lemmas.List.Sums.{sum_by-cons}
-use Rattle.hv_match.specs.Lists.{Mem}
-use Rattle.hv_match.specs.Search.{IsPath, below}
-use Rattle.hv_match.specs.Places.{rest, effort, left, to_come, steps_left, IsPlace, AreTold}
-use Rattle.hv_match.specs.declared.place.Place.{Place}
+use Rattle.hv_match.specs.inside.Lists.{Mem}
+use Rattle.hv_match.specs.inside.Search.{IsPath, below}
+use Rattle.hv_match.specs.inside.States.{rest, effort, left, to_come, steps_left, IsState, AreTold}
+use Rattle.hv_match.specs.declared.state.State.{State}
 
 drop_all : {X : Type 0} (c : ℕ) (l : List X) → length l ≤ c → drop c l ≡ []
 drop_all zero [] h = refl
@@ -116,10 +116,10 @@ none_numbers options levels (x ∷ xs) [] c e n = absurd (omega arith)
 none_numbers options levels (x ∷ xs) (m ∷ ns) c e n = absurd (omega arith)
 
 -- a place that goes one choice deeper
-module _ (options : List ℕ → List ℕ) (levels distinct width : ℕ) (a b : Place) (x : ℕ) (place : IsPlace options levels distinct width a) where
+module _ (options : List ℕ → List ℕ) (levels distinct width : ℕ) (a b : State) (x : ℕ) (place : IsState options levels distinct width a) where
   pub descended : length a.chosen.items < levels → drop a.next (options a.chosen.items) ≡ x ∷ drop (a.next + 1) (options a.chosen.items) → a.next + 1 < 2 ^ 64 →
       b.chosen.items ≡ a.chosen.items ++ x ∷ [] → b.numbers.items ≡ a.numbers.items ++ a.next ∷ [] → AreTold b.made_at.items (take distinct (a.chosen.items ++ x ∷ [])) → length b.made_at.items ≡ width
-      → IsPlace options levels distinct width b
+      → IsState options levels distinct width b
   descended short d small e f told wide = record {
     short = omega (arith, ap length e, length-append a.chosen.items (x ∷ []), short);
     even = omega (arith, ap length e, ap length f, length-append a.chosen.items (x ∷ []), length-append a.numbers.items (a.next ∷ []), place.even);
@@ -138,7 +138,7 @@ module _ (options : List ℕ → List ℕ) (levels distinct width : ℕ) (a b : 
   descended_steps running short d e f n o = rw (o, running, e, f, n) (left_taken options levels [] a.chosen.items a.numbers.items x a.next place.even short d)
 
 -- a choice that leads to nothing is passed over
-module _ (options : List ℕ → List ℕ) (levels distinct width : ℕ) (a : Place) (x : ℕ) (place : IsPlace options levels distinct width a) (short : length a.chosen.items < levels) where
+module _ (options : List ℕ → List ℕ) (levels distinct width : ℕ) (a : State) (x : ℕ) (place : IsState options levels distinct width a) (short : length a.chosen.items < levels) where
   pub passed_coming : (good : List ℕ → Bool) → drop a.next (options a.chosen.items) ≡ x ∷ drop (a.next + 1) (options a.chosen.items) →
       ((k : ℕ) → below options good k (a.chosen.items ++ x ∷ []) 0 ≡ []) →
       rest options good levels [] a.chosen.items a.numbers.items (a.next + 1) ≡ rest options good levels [] a.chosen.items a.numbers.items a.next
@@ -158,8 +158,8 @@ module _ (options : List ℕ → List ℕ) (levels distinct width : ℕ) (a : Pl
       omega (arith, down, back)
 
 -- a place at which nothing but the table changed
-pub stayed : (options : List ℕ → List ℕ) (levels distinct width : ℕ) (a b : Place) → IsPlace options levels distinct width a → b.chosen.items ≡ a.chosen.items → b.numbers.items ≡ a.numbers.items →
-    AreTold b.made_at.items (take distinct a.chosen.items) → length b.made_at.items ≡ width → IsPlace options levels distinct width b
+pub stayed : (options : List ℕ → List ℕ) (levels distinct width : ℕ) (a b : State) → IsState options levels distinct width a → b.chosen.items ≡ a.chosen.items → b.numbers.items ≡ a.numbers.items →
+    AreTold b.made_at.items (take distinct a.chosen.items) → length b.made_at.items ≡ width → IsState options levels distinct width b
 stayed options levels distinct width a b place e f told wide = record {
   short = omega (arith, ap length e, place.short);
   even = omega (arith, ap length e, ap length f, place.even);

@@ -5,9 +5,9 @@ use Rattle.hv_world.specs.Values.{Subtask}
 use Rattle.hv_world.specs.Alike.{is_free, keys, class_sizes}
 use Rattle.hv_world.specs.Worlds.{World, Method}
 use Rattle.hv_match.specs.Counts.{factorial, product, AreSoMany, free, IsCount}
-use Rattle.hv_match.specs.Counting.{rising}
-use Rattle.hv_match.specs.Puzzles.{Puzzle, widths, ways}
-use Rattle.hv_match.specs.Ranges.{IsRange, AreRanges, IsPuzzleOf}
+use Rattle.hv_match.specs.inside.Counting.{rising}
+use Rattle.hv_match.specs.inside.Puzzles.{Puzzle, widths, ways}
+use Rattle.hv_match.specs.inside.Ranges.{IsRange, AreRanges, IsPuzzleOf}
 use Rattle.hv_match.proofs.Factors.{contains_mem, mem_contains}
 use Rattle.hv_match.proofs.CountLemmas.{one_number}
 use Rattle.hv_match.proofs.Bridge.{pairs_of}

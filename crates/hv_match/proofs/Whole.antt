@@ -4,13 +4,13 @@ use Rattle.std.proofs.lemmas.Bool.Decides.{nat_tests}
 use Rattle.std.proofs.lemmas.Bool.{ltb-true, ltb-false}
 use Rattle.hv_world.specs.Values.{Subtask}
 use Rattle.hv_world.specs.Alike.{is_free, Key, key, keys, subtask_instance}
-use Rattle.hv_match.specs.Lists.{Mem, Once}
-use Rattle.hv_match.specs.Search.{IsWanted, below}
-use Rattle.hv_match.specs.Puzzles.{Puzzle, bound, pick, may_do, places_where, options, IsMatch, widths, ways}
+use Rattle.hv_match.specs.inside.Lists.{Mem, Once}
+use Rattle.hv_match.specs.inside.Search.{IsWanted, below}
+use Rattle.hv_match.specs.inside.Puzzles.{Puzzle, bound, pick, may_do, places_where, options, IsMatch, widths, ways}
 use Rattle.hv_match.proofs.MayDo.{places_once}
 use Rattle.hv_match.proofs.FirstPlaces.{free_unbound, bound_some}
 use Rattle.hv_match.specs.Counts.{product}
-use Rattle.hv_match.specs.Counting.{first_alike, rising, tower, IsMatching}
+use Rattle.hv_match.specs.inside.Counting.{first_alike, rising, tower, IsMatching}
 use Rattle.hv_match.proofs.Members.{at_most}
 use Rattle.hv_match.proofs.Bounds.{bounded, few_matches}
 use Rattle.hv_match.proofs.Keys.{child_key, matching}

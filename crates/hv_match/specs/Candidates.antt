@@ -4,7 +4,7 @@ use Rattle.std.specs.List.{AllZip}
 use Rattle.hv_world.specs.Values.{object, Subtask, subtask, Constraint, compound, primitive}
 use Rattle.hv_world.specs.Alike.{instance, subtask_instance}
 use Rattle.hv_world.specs.Bindings.{GroundAction}
-use Rattle.hv_world.specs.Lists.{Once}
+use Rattle.hv_text.specs.Lists.{Once}
 use Rattle.hv_world.specs.Worlds.{World, Method, terms_of}
 use Rattle.hv_plan.specs.Fits.{AreOf}
 use Rattle.hv_plan.specs.Trees.{Item, Act, Task, Pre}
@@ -63,3 +63,10 @@ IsNode w t v = IsSome (method_at w t v)
 abbrev pub IsCandidateAt : World → PlanTree → ℕ → List ℕ → List ℕ → Type 0
 IsCandidateAt w t v M B =
     MatchOption (slice_get t.nodes v) ⊥ (λ n. MatchOption (node_method w n) ⊥ (λ m. IsCandidate w m n.objects (child_tasks t n) M B))
+
+-- A list of candidates, one of which is lent: the places of its children and its objects, and the candidates that are
+-- still to come
+pub record Listing : Type 0 where
+  pub children : List ℕ
+  pub objects : List ℕ
+  pub coming : List (List ℕ × List ℕ)

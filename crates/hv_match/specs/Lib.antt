@@ -1,12 +1,3 @@
 pub mod Candidates
 pub mod Counts
-pub mod Numbers
-pub mod Lists
-pub mod Counting
-pub mod Search
-pub mod Places
-pub mod Puzzles
-pub mod Tables
-pub mod PuzzleViews
-pub mod Ranges
-pub mod CandidateViews
+pub mod inside

@@ -1,97 +1,96 @@
 //! The candidates of a node, one at a time.
 
-ghost use Rattle.std.specs.Prelude.{◌≡◌, ◌≢◌, ◌↔◌, ◌≤◌, ◌∷◌, [], ℕ, List, AllPairs, Contains, length, map, IfOk, OnErr, MatchOption};
+ghost use Rattle.std.specs.Prelude.{◌≡◌, ◌≢◌, ◌↔◌, ◌<◌, ◌≤◌, ◌^◌, ◌∷◌, [], ℕ, List, All, AllPairs, Contains, length, map, IfOk, OnErr, MatchBool};
 ghost use Rattle.hv_world.specs.MethodViews.{method_view};
 ghost use Rattle.hv_world.specs.WorldViews.{world_view};
 ghost use Rattle.hv_plan.specs.BuiltTrees.{tree_view};
+ghost use Rattle.hv_plan.specs.PlanTrees.{IsTreeIn};
 ghost use Rattle.hv_plan.specs.TreeViews.{node_view};
-ghost use Rattle.hv_match.specs.Candidates.{IsNode, IsCandidate, IsCandidateAt, child_tasks};
+ghost use Rattle.hv_match.specs.Candidates.{IsCandidate, IsCandidateAt, child_tasks};
 ghost use Rattle.hv_world.specs.Bindings.{object_number};
 ghost use Rattle.hv_match.specs.Counts.{IsCount, IsCountAt};
-ghost use Rattle.hv_match.specs.Search.{below};
-ghost use Rattle.hv_match.specs.Puzzles as puzzles;
-ghost use Rattle.hv_match.specs.PuzzleViews.{puzzle_view};
-ghost use Rattle.hv_match.specs.CandidateViews.{candidate_view, parts};
+ghost use Rattle.hv_match.specs.inside.PuzzleViews.{puzzle_view};
+ghost use Rattle.hv_match.specs.inside.Parts.{listed};
 
-use crate::make::problem;
-use crate::parts::node_method;
-use crate::place::{Place, back, find};
-use crate::problem::Problem;
+use crate::make::puzzle;
+use crate::parts::node_and_method;
+use crate::puzzle::Puzzle;
 use crate::puzzle_laws::{ways_are_counts, ways_are_enough};
+use crate::state::{State, back, find};
 use hv_plan::{Node, Tree};
 use hv_text::Memory;
 use hv_world::{Method, ObjectId, World};
 use std::alloc::Global;
 use std::marker::Model;
 
-/// A way in which the children of a node can stand for the subtasks of its method.
-#[derive(Drop)]
-pub struct Candidate {
-    /// For each subtask in written order the place of its child among the node's children.
-    pub children: Vec<usize>,
-    /// For each parameter of the method its object.
-    pub objects: Vec<ObjectId>,
-}
-
-/// The candidates of a node that are still to come.
+/// The candidates of a node: the ways in which its children can stand for the subtasks of its
+/// method. One is lent at a time, and the others are still to come.
 #[derive(Drop)]
 pub struct Candidates<'a> {
-    problem: Problem<'a>,
-    at: Place,
+    puzzle: Puzzle<'a>,
+    at: State,
+    // The candidate that is lent.
+    children: Vec<u32>,
+    objects: Vec<ObjectId>,
 }
 
 impl<'a> Model for Candidates<'a> {
-    ghost use Rattle.std.specs.Prelude.{ℕ, List, map, length};
-    ghost use Rattle.hv_match.specs.Places.{to_come, IsPlace};
-    ghost use Rattle.hv_match.specs.Puzzles as puzzles;
-    ghost use Rattle.hv_match.specs.PuzzleViews.{puzzle_view};
-    ghost use Rattle.hv_match.specs.CandidateViews.{parts};
+    ghost use Rattle.std.specs.Prelude.{◌≡◌, map, length};
+    ghost use Rattle.hv_world.specs.Bindings.{object_number};
+    ghost use Rattle.hv_match.specs.Candidates.{Listing};
+    ghost use Rattle.hv_match.specs.inside.PuzzleViews.{puzzle_view};
+    ghost use Rattle.hv_match.specs.inside.Parts.{coming, IsStateOf};
 
-    ghost Value = { List (List ℕ × List ℕ) };
+    ghost Value = { Listing };
 
-    ghost view = { λ s. map (parts (length s.problem.subtasks.now)) (to_come (puzzles.options (puzzle_view s.problem)) (puzzles.is_good (puzzle_view s.problem)) (puzzles.levels (puzzle_view s.problem)) s.at) };
+    ghost view = { λ s. record { children = s.children.items; objects = map object_number s.objects.items; coming = coming (puzzle_view s.puzzle) s.at } };
 
-    ghost invariant = { λ s. IsPlace (puzzles.options (puzzle_view s.problem)) (puzzles.levels (puzzle_view s.problem)) (length s.problem.subtasks.now) (length s.problem.children.items) s.at };
+    ghost invariant = { λ s. IsStateOf s.puzzle s.at × (length s.children.items ≡ length s.puzzle.subtasks.now) × (length s.objects.items ≡ length s.puzzle.ranges.items) };
 }
 
-// The objects of these numbers.
-fn objects(alloc: Global, numbers: &[usize]) -> Result<Vec<ObjectId>, Memory>
-    ensures { IfOk result (λ v. map object_number v.items ≡ numbers.now) }
+// Writes places down in 32 bits.
+fn write_places(into: &mut [u32], places: &[usize])
+    requires size { length into.old ≡ length places.now }
+    requires small { All (λ x. x < 2 ^ 32) places.now }
+    ensures { into.new ≡ places.now }
 {
-    let mut objects = Vec::new(alloc);
-    for number in numbers {
-        objects.push(ObjectId(*number))?;
+    for number in 0..into.len() {
+        into[number] = places[number] as u32;
     }
-    Ok(objects)
 }
 
-// A whole choice, its first part the children of so many subtasks.
-fn candidate_from(alloc: Global, subtasks: usize, chosen: &[usize]) -> Result<Candidate, Memory>
-    requires { subtasks ≤ length chosen.now }
-    ensures { IfOk result (λ c. candidate_view c ≡ parts subtasks chosen.now) }
+// Writes down the objects of these numbers.
+fn write_objects(into: &mut [ObjectId], numbers: &[usize])
+    requires { length into.old ≡ length numbers.now }
+    ensures { map object_number into.new ≡ numbers.now }
 {
-    let objects = objects(alloc, &chosen[subtasks..])?;
-    Ok(Candidate {
-        children: Vec::from_slice(alloc, &chosen[..subtasks])?,
-        objects,
-    })
+    for number in 0..into.len() {
+        into[number] = ObjectId(numbers[number]);
+    }
 }
 
 impl<'a> Candidates<'a> {
-    /// All that fit the problem.
-    pub(crate) fn of(alloc: Global, problem: Problem<'a>) -> Result<Candidates<'a>, Memory>
-        ensures { IfOk result (λ c. c ≡ map (parts (length problem.entry.subtasks.now)) (below (puzzles.options (puzzle_view problem.entry)) (puzzles.is_good (puzzle_view problem.entry)) (puzzles.levels (puzzle_view problem.entry)) [] 0)) }
+    /// All that fit the puzzle.
+    pub(crate) fn of(alloc: Global, puzzle: Puzzle<'a>) -> Result<Candidates<'a>, Memory>
+        ensures { IfOk result (λ c. c.coming ≡ listed (puzzle_view puzzle.entry)) }
     {
-        let is_over = problem.is_hopeless();
-        let made_at = vec![in alloc; 0usize; problem.children.len()]?;
-        let at = Place {
+        let is_over = puzzle.is_hopeless();
+        let made_at = vec![in alloc; 0usize; puzzle.children.len()]?;
+        let children = vec![in alloc; 0u32; puzzle.subtasks.len()]?;
+        let objects = vec![in alloc; ObjectId(0); puzzle.ranges.len()]?;
+        let at = State {
             chosen: Vec::new(alloc),
             numbers: Vec::new(alloc),
             made_at,
             next: 0,
             is_over,
         };
-        Ok(Candidates { problem, at })
+        Ok(Candidates {
+            puzzle,
+            at,
+            children,
+            objects,
+        })
     }
 
     // All candidates of a node by its method.
@@ -102,14 +101,14 @@ impl<'a> Candidates<'a> {
         node: &Node<'a>,
         method: &'a Method<'_>,
     ) -> Result<Candidates<'a>, Memory>
-        ensures exact { IfOk result (λ c. (M B : List ℕ) → Contains c (M, B) ↔ IsCandidate (world_view world.now) (method_view method.now) (node_view node.now).objects (child_tasks (tree_view tree.now) (node_view node.now)) M B) }
-        ensures once { IfOk result (λ c. AllPairs ◌≢◌ c) }
-        ensures few { IfOk result (λ c. (k : ℕ) → IsCount (world_view world.now) (method_view method.now) k → length c ≤ k) }
+        ensures exact { IfOk result (λ c. (M B : List ℕ) → Contains c.coming (M, B) ↔ IsCandidate (world_view world.now) (method_view method.now) (node_view node.now).objects (child_tasks (tree_view tree.now) (node_view node.now)) M B) }
+        ensures once { IfOk result (λ c. AllPairs ◌≢◌ c.coming) }
+        ensures few { IfOk result (λ c. (k : ℕ) → IsCount (world_view world.now) (method_view method.now) k → length c.coming ≤ k) }
     {
-        let problem = problem(alloc, world, tree, node, method)?;
+        let puzzle = puzzle(alloc, world, tree, node, method)?;
         ways_are_enough();
         ways_are_counts();
-        let candidates = Candidates::of(alloc, problem)?;
+        let candidates = Candidates::of(alloc, puzzle)?;
         Ok(candidates)
     }
 
@@ -119,33 +118,55 @@ impl<'a> Candidates<'a> {
         alloc: Global,
         world: &'a World<'_>,
         tree: &'a Tree<'_, '_>,
-        node: usize,
+        node: u32,
     ) -> Result<Candidates<'a>, Memory>
-        requires { IsNode (world_view world.now) (tree_view tree.now) node }
-        ensures exact { IfOk result (λ c. (M B : List ℕ) → Contains c (M, B) ↔ IsCandidateAt (world_view world.now) (tree_view tree.now) node M B) }
-        ensures once { IfOk result (λ c. AllPairs ◌≢◌ c) }
-        ensures few { IfOk result (λ c. (k : ℕ) → IsCountAt (world_view world.now) (tree_view tree.now) node k → length c ≤ k) }
+        requires tree { IsTreeIn (world_view world.now) (tree_view tree.now) }
+        requires node { node < length (tree_view tree.now).nodes }
+        ensures exact { IfOk result (λ c. (M B : List ℕ) → Contains c.coming (M, B) ↔ IsCandidateAt (world_view world.now) (tree_view tree.now) node M B) }
+        ensures once { IfOk result (λ c. AllPairs ◌≢◌ c.coming) }
+        ensures few { IfOk result (λ c. (k : ℕ) → IsCountAt (world_view world.now) (tree_view tree.now) node k → length c.coming ≤ k) }
     {
-        match tree.node(node) {
-            Some(node) => match node_method(world, &node) {
-                Some(method) => Candidates::of_method(alloc, world, tree, &node, method),
-                None => unreachable!(),
-            },
-            None => unreachable!(),
-        }
+        let (node, method) = node_and_method(world, tree, node);
+        Candidates::of_method(alloc, world, tree, &node, method)
     }
 
-    /// The next candidate; None where there is no more, and then for good. After want of memory
-    /// all that was to come is still to come.
-    pub fn next(&mut self, alloc: Global) -> Result<Option<Candidate>, Memory>
-        ensures ok { IfOk result (λ item. MatchOption item ((self.old ≡ []) × (self.new ≡ [])) (λ c. self.old ≡ candidate_view c ∷ self.new)) }
+    /// Lends the next candidate, and says whether there was one; if not, there is none for good. After
+    /// want of memory all is as it was.
+    pub fn advance(&mut self) -> Result<bool, Memory>
+        ensures ok { IfOk result (λ b. MatchBool b (self.old.coming ≡ (self.new.children, self.new.objects) ∷ self.new.coming) ((self.old.coming ≡ []) × (self.new.coming ≡ []))) }
         ensures err { OnErr result (self.new ≡ self.old) }
     {
-        if find(&self.problem, &mut self.at)? {
-            let item = candidate_from(alloc, self.problem.subtasks.len(), &self.at.chosen)?;
-            back(&self.problem, &mut self.at);
-            return Ok(Some(item));
+        let is_found = find(&self.puzzle, &mut self.at)?;
+        if is_found {
+            let subtasks = self.puzzle.subtasks.len();
+            write_places(&mut self.children, &self.at.chosen[..subtasks]);
+            write_objects(&mut self.objects, &self.at.chosen[subtasks..]);
+            back(&self.puzzle, &mut self.at);
         }
-        Ok(None)
+        Ok(is_found)
+    }
+
+    /// Whether a candidate is still to come. What is looked for here is not looked for again.
+    pub fn has_next(&mut self) -> Result<bool, Memory>
+        ensures ok { IfOk result (λ b. MatchBool b (self.new.coming ≢ []) (self.new.coming ≡ [])) }
+        ensures same { self.new ≡ self.old }
+    {
+        let is_left = find(&self.puzzle, &mut self.at)?;
+        Ok(is_left)
+    }
+
+    /// For each subtask in written order the place of its child among the node's children, in the
+    /// candidate that is lent.
+    pub fn children(&self) -> &[u32]
+        ensures { result.now ≡ self.now.children }
+    {
+        &self.children
+    }
+
+    /// For each parameter of the method its object, in the candidate that is lent.
+    pub fn objects(&self) -> &[ObjectId]
+        ensures { map object_number result.now ≡ self.now.objects }
+    {
+        &self.objects
     }
 }

@@ -4,11 +4,11 @@ ghost use Rattle.std.specs.Prelude.{◌≡◌, ◌↔◌, ◌*◌, ◌-◌, ◌<
 ghost use Rattle.hv_world.specs.MethodViews.{method_view};
 ghost use Rattle.hv_world.specs.WorldViews.{world_view};
 ghost use Rattle.hv_plan.specs.BuiltTrees.{tree_view};
-ghost use Rattle.hv_match.specs.Candidates.{IsNode};
+ghost use Rattle.hv_plan.specs.PlanTrees.{IsTreeIn};
 ghost use Rattle.hv_match.specs.Counts.{factorial, product, free, AreChoices, AreSoMany, IsCount, IsCountAt};
-ghost use Rattle.hv_match.specs.Numbers.{in_64_bits};
+ghost use Rattle.hv_match.specs.inside.Numbers.{in_64_bits};
 
-use crate::parts::method_at;
+use crate::parts::node_and_method;
 use hv_plan::Tree;
 use hv_world::{Method, TypeId, World};
 
@@ -108,23 +108,21 @@ pub(crate) fn is_greater(world: &World<'_>, method: &Method<'_>, limit: u64) -> 
 /// How many candidates a node may have at most, by its method alone: for each class of alike
 /// subtasks the factorial of its size, times for each free parameter the number of objects of its
 /// type. A greater number than a `u64` holds counts as the greatest that it does.
-pub fn count(world: &World<'_>, tree: &Tree<'_, '_>, node: usize) -> u64
-    requires { IsNode (world_view world.now) (tree_view tree.now) node }
+pub fn count(world: &World<'_>, tree: &Tree<'_, '_>, node: u32) -> u64
+    requires tree { IsTreeIn (world_view world.now) (tree_view tree.now) }
+    requires node { node < length (tree_view tree.now).nodes }
     ensures { (k : ℕ) × IsCountAt (world_view world.now) (tree_view tree.now) node k × (result ≡ min k (2 ^ 64 - 1)) }
 {
-    match method_at(world, tree, node) {
-        Some(method) => count_of(world, method),
-        None => unreachable!(),
-    }
+    let (_, method) = node_and_method(world, tree, node);
+    count_of(world, method)
 }
 
 /// Whether the count of a node, however great it is, is greater than a limit.
-pub fn exceeds(world: &World<'_>, tree: &Tree<'_, '_>, node: usize, limit: u64) -> bool
-    requires { IsNode (world_view world.now) (tree_view tree.now) node }
+pub fn exceeds(world: &World<'_>, tree: &Tree<'_, '_>, node: u32, limit: u64) -> bool
+    requires tree { IsTreeIn (world_view world.now) (tree_view tree.now) }
+    requires node { node < length (tree_view tree.now).nodes }
     ensures { (k : ℕ) × IsCountAt (world_view world.now) (tree_view tree.now) node k × (IsTrue result ↔ (limit < k)) }
 {
-    match method_at(world, tree, node) {
-        Some(method) => is_greater(world, method, limit),
-        None => unreachable!(),
-    }
+    let (_, method) = node_and_method(world, tree, node);
+    is_greater(world, method, limit)
 }

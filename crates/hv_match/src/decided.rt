@@ -1,8 +1,5 @@
 //! Which constraints are decided when a parameter has its object.
 
-ghost use Rattle.std.specs.Prelude.{◌≡◌, ℕ, [], length, IfOk};
-ghost use Rattle.hv_match.specs.Tables.{row_at};
-
 use hv_text::Memory;
 use hv_world::{Constraint, Term};
 use std::alloc::Global;
@@ -26,18 +23,6 @@ fn last_parameter(constraint: Constraint) -> Option<usize> {
     }
 }
 
-/// So many empty lists.
-pub(crate) fn no_lists(alloc: Global, count: usize) -> Result<Vec<Vec<usize>>, Memory>
-    ensures size { IfOk result (λ v. length v.items ≡ count) }
-    ensures empty { IfOk result (λ v. (i : ℕ) → row_at v.items i ≡ []) }
-{
-    let mut lists = Vec::new(alloc);
-    for _ in 0..count {
-        lists.push(Vec::new(alloc))?;
-    }
-    Ok(lists)
-}
-
 /// For each parameter the numbers of the constraints whose last parameter it is. Every whole choice
 /// is tested for all constraints, so only the time of the search hangs on this table.
 pub(crate) fn decided(
@@ -45,7 +30,7 @@ pub(crate) fn decided(
     parameters: usize,
     constraints: &[Constraint],
 ) -> Result<Vec<Vec<usize>>, Memory> {
-    let mut decided = no_lists(alloc, parameters)?;
+    let mut decided = vec![in alloc; Vec::new(alloc); parameters]?;
     for (number, constraint) in constraints.iter().enumerate() {
         if let Some(parameter) = last_parameter(*constraint)
             && parameter < decided.len()

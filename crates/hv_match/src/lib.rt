@@ -3,18 +3,20 @@
 #![tactic(auto)]
 
 mod candidates;
+mod check;
+mod child_rows;
 mod counts;
 mod decided;
 mod laws;
 mod make;
 mod parts;
-mod place;
-mod places;
-mod problem;
+mod puzzle;
 mod puzzle_laws;
 mod rule;
 mod sources;
+mod state;
 
-pub use candidates::{Candidate, Candidates};
+pub use candidates::Candidates;
+pub use check::is_candidate;
 pub use counts::{count, exceeds};
 pub use laws::{counts_are_one, nodes_have_methods};

@@ -1,4 +1,4 @@
-//! The problem of the search, made from a world and a node of a tree.
+//! The puzzle of the search, made from a world and a node of a tree.
 
 ghost use Rattle.std.specs.Prelude.{◌≡◌, All, map, option_map, IfOk};
 ghost use Rattle.std.specs.List.Sorted.{IsStrictlyIncreasing};
@@ -10,13 +10,13 @@ ghost use Rattle.hv_world.specs.WorldViews.{world_view};
 ghost use Rattle.hv_plan.specs.BuiltTrees.{tree_view};
 ghost use Rattle.hv_plan.specs.TreeViews.{child_view, node_view};
 ghost use Rattle.hv_match.specs.Candidates as candidates;
-ghost use Rattle.hv_match.specs.PuzzleViews.{puzzle_view};
-ghost use Rattle.hv_match.specs.Tables.{job_view};
-ghost use Rattle.hv_match.specs.Ranges.{IsRange, AreRanges, as_subtask, IsPuzzleOf};
+ghost use Rattle.hv_match.specs.inside.PuzzleViews.{puzzle_view};
+ghost use Rattle.hv_match.specs.inside.Tables.{work_view};
+ghost use Rattle.hv_match.specs.inside.Ranges.{IsRange, AreRanges, as_subtask, IsPuzzleOf};
 
+use crate::child_rows::child_rows_for;
 use crate::decided::decided;
-use crate::places::places_for;
-use crate::problem::{Job, Problem};
+use crate::puzzle::{Puzzle, Work};
 use crate::sources::sources;
 use hv_plan::{Child, Node, Tree};
 use hv_text::Memory;
@@ -48,57 +48,57 @@ pub(crate) fn ranges<'a>(
 }
 
 // What an action does.
-fn action_job(action: &GroundAction) -> Job<'_>
-    ensures { as_subtask (job_view result) ≡ candidates.action_task (ground_action_view action.now) }
+fn action_work<'a>(action: &GroundAction<'a>) -> Work<'a>
+    ensures { as_subtask (work_view result) ≡ candidates.action_task (ground_action_view action.now) }
 {
-    Job {
-        name: TaskName::Primitive(action.action),
-        objects: &action.objects,
+    Work {
+        name: TaskName::Primitive(action.action()),
+        objects: action.objects(),
     }
 }
 
 // What a node does; the root line's does nothing.
-fn node_job<'a>(node: &Node<'a>) -> Option<Job<'a>>
-    ensures { option_map as_subtask (option_map job_view result) ≡ candidates.node_task (node_view node.now) }
+fn node_work<'a>(node: &Node<'a>) -> Option<Work<'a>>
+    ensures { option_map as_subtask (option_map work_view result) ≡ candidates.node_task (node_view node.now) }
 {
     match node.task() {
         None => None,
-        Some(task) => Some(Job {
+        Some(task) => Some(Work {
             name: TaskName::Compound(task),
             objects: node.objects(),
         }),
     }
 }
 
-// What a child does, where the tree has it.
-fn job<'a>(tree: &'a Tree<'_, '_>, child: Child) -> Option<Job<'a>>
-    ensures { option_map as_subtask (option_map job_view result) ≡ candidates.child_task (tree_view tree.now) (child_view child) }
+/// What a child does, where the tree has it.
+pub(crate) fn work<'a>(tree: &'a Tree<'_, '_>, child: Child) -> Option<Work<'a>>
+    ensures { option_map as_subtask (option_map work_view result) ≡ candidates.child_task (tree_view tree.now) (child_view child) }
 {
     match child {
         Child::Action(action) => match tree.actions().get(action as usize) {
             None => None,
-            Some(action) => Some(action_job(action)),
+            Some(action) => Some(action_work(&action)),
         },
-        Child::Node(node) => match tree.node(node as usize) {
+        Child::Node(node) => match tree.node(node) {
             None => None,
-            Some(node) => node_job(&node),
+            Some(node) => node_work(&node),
         },
     }
 }
 
 // What these children do.
-fn jobs<'a>(
+fn works<'a>(
     alloc: Global,
     tree: &'a Tree<'_, '_>,
     children: &[Child],
-) -> Result<Vec<Option<Job<'a>>>, Memory>
-    ensures { IfOk result (λ v. map (option_map as_subtask) (map (option_map job_view) v.items) ≡ map (candidates.child_task (tree_view tree.now)) (map child_view children.now)) }
+) -> Result<Vec<Option<Work<'a>>>, Memory>
+    ensures { IfOk result (λ v. map (option_map as_subtask) (map (option_map work_view) v.items) ≡ map (candidates.child_task (tree_view tree.now)) (map child_view children.now)) }
 {
-    let mut jobs = Vec::new(alloc);
+    let mut works = Vec::new(alloc);
     for child in children {
-        jobs.push(job(tree, *child))?;
+        works.push(work(tree, *child))?;
     }
-    Ok(jobs)
+    Ok(works)
 }
 
 /// The terms of a method's task; none where it has none.
@@ -111,25 +111,29 @@ pub(crate) fn terms<'a>(method: &'a Method<'_>) -> &'a [Term]
     }
 }
 
-/// The problem of a node and its method.
-pub(crate) fn problem<'a>(
+/// The puzzle of a node and its method.
+pub(crate) fn puzzle<'a>(
     alloc: Global,
     world: &'a World<'_>,
     tree: &'a Tree<'_, '_>,
     node: &Node<'a>,
     method: &'a Method<'_>,
-) -> Result<Problem<'a>, Memory>
+) -> Result<Puzzle<'a>, Memory>
     ensures { IfOk result (λ p. IsPuzzleOf (world_view world.now) (method_view method.now) (node_view node.now).objects (candidates.child_tasks (tree_view tree.now) (node_view node.now)) (puzzle_view p)) }
 {
     let ranges = ranges(alloc, world, method.parameters())?;
-    let children = jobs(alloc, tree, node.children())?;
+    let children = works(alloc, tree, node.children())?;
+    // 32 bits are enough for the children in every text
+    if u32::try_from(children.len()).is_err() {
+        return Err(Memory);
+    }
     let constraints = method.network().constraints();
     let decided = decided(alloc, ranges.len(), constraints)?;
     let task = terms(method);
     let subtasks = method.network().subtasks();
-    let places = places_for(alloc, subtasks, &children)?;
+    let places = child_rows_for(alloc, subtasks, &children)?;
     let sources = sources(alloc, ranges.len(), task, subtasks)?;
-    Ok(Problem {
+    Ok(Puzzle {
         ranges,
         task,
         objects: node.objects(),

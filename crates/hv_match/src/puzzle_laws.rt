@@ -4,12 +4,12 @@ ghost use Rattle.std.specs.Prelude.{◌≡◌, ◌≤◌, ℕ, Option, Bool, tru
 ghost use Rattle.hv_world.specs.Alike.{class_sizes, keys};
 ghost use Rattle.hv_world.specs.Values as value;
 ghost use Rattle.hv_world.specs.Worlds.{World, Method};
-ghost use Rattle.hv_match.specs.Ranges.{IsPuzzleOf};
-ghost use Rattle.hv_match.specs.Lists.{Once};
-ghost use Rattle.hv_match.specs.Search.{below};
+ghost use Rattle.hv_match.specs.inside.Ranges.{IsPuzzleOf};
+ghost use Rattle.hv_match.specs.inside.Lists.{Once};
+ghost use Rattle.hv_match.specs.inside.Search.{below};
 ghost use Rattle.hv_match.specs.Counts.{factorial, product, IsCount};
-ghost use Rattle.hv_match.specs.Counting.{rising};
-ghost use Rattle.hv_match.specs.Puzzles.{Puzzle, options, levels, places, values, is_good, IsMatch, ways};
+ghost use Rattle.hv_match.specs.inside.Counting.{rising};
+ghost use Rattle.hv_match.specs.inside.Puzzles.{Puzzle, options, levels, places, values, is_good, IsMatch, ways};
 
 use hv_world::{classes_are_counted, instances_keep_their_key};
 

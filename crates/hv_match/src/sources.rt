@@ -3,8 +3,8 @@
 ghost use Rattle.std.specs.Prelude.{◌≡◌, ◌<◌, ℕ, Some, length, map, IfOk, if◌then◌else◌};
 ghost use Rattle.hv_world.specs.Alike.{is_variable};
 ghost use Rattle.hv_world.specs.Views.{term_view, subtask_view};
-ghost use Rattle.hv_match.specs.Puzzles.{first_in, first_of};
-ghost use Rattle.hv_match.specs.Tables.{source_at, source_view, AreSources};
+ghost use Rattle.hv_match.specs.inside.Puzzles.{first_in, first_of};
+ghost use Rattle.hv_match.specs.inside.Tables.{source_at, source_view, AreSources};
 
 use hv_text::Memory;
 use hv_world::{Subtask, Term};

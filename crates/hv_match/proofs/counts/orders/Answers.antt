@@ -1,6 +1,6 @@
 use Rattle.std.proofs.Common.{ap, ◌∙◌, map, take}
 use Rattle.hv_match.specs.Counts.{factorial, product}
-use Rattle.hv_match.specs.Numbers.{in_64_bits}
+use Rattle.hv_match.specs.inside.Numbers.{in_64_bits}
 use Rattle.hv_match.proofs.CountLemmas.{orders_more}
 use Rattle.hv_match.proofs.counts.orders.Goals as goal
 

@@ -4,7 +4,7 @@ use Rattle.hv_world.specs.Worlds.{terms_of}
 use Rattle.hv_world.specs.MethodViews.{method_view}
 use Rattle.hv_world.specs.WorldViews.{world_view}
 use Rattle.hv_match.specs.Counts.{product}
-use Rattle.hv_match.specs.Numbers.{in_64_bits}
+use Rattle.hv_match.specs.inside.Numbers.{in_64_bits}
 use Rattle.hv_match.proofs.CountLemmas.{kept_in, one_factor, more_choices}
 use Rattle.hv_match.proofs.counts.times_choices.Goals as goal
 

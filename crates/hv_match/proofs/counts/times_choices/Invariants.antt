@@ -2,7 +2,7 @@ use Rattle.std.proofs.Common.{◌≡◌, ◌*◌, ℕ, List, take}
 use Rattle.hv_world.specs.MethodViews.{method_view}
 use Rattle.hv_world.specs.WorldViews.{world_view}
 use Rattle.hv_match.specs.Counts.{product, AreChoices}
-use Rattle.hv_match.specs.Numbers.{in_64_bits}
+use Rattle.hv_match.specs.inside.Numbers.{in_64_bits}
 use Rattle.hv_match.proofs.counts.times_choices.Given as goal
 
 abbrev pub invariant-loop-parameter : goal.invariant-loop-parameter

@@ -1,6 +1,6 @@
 use Rattle.std.proofs.Common.{◌*◌, ap, ◌∙◌, arith}
 use Rattle.hv_match.specs.Counts.{factorial}
-use Rattle.hv_match.specs.Numbers.{in_64_bits}
+use Rattle.hv_match.specs.inside.Numbers.{in_64_bits}
 use Rattle.hv_match.proofs.CountLemmas.{more_orders}
 use Rattle.hv_match.proofs.counts.times_factorial.Goals as goal
 

@@ -1,6 +1,6 @@
 use Rattle.std.proofs.Common.{◌≡◌, ◌*◌, ℕ}
 use Rattle.hv_match.specs.Counts.{factorial}
-use Rattle.hv_match.specs.Numbers.{in_64_bits}
+use Rattle.hv_match.specs.inside.Numbers.{in_64_bits}
 use Rattle.hv_match.proofs.counts.times_factorial.Given as goal
 
 abbrev pub invariant-loop-below : goal.invariant-loop-below

@@ -3,7 +3,7 @@ use Rattle.std.specs.List.Sorted.{IsStrictlyIncreasing}
 use Rattle.hv_world.specs.Bindings.{object_number}
 use Rattle.hv_world.specs.Views.{type_number}
 use Rattle.hv_world.specs.WorldViews.{world_view}
-use Rattle.hv_match.specs.Ranges.{AreRanges}
+use Rattle.hv_match.specs.inside.Ranges.{AreRanges}
 use Rattle.hv_match.proofs.make.ranges.Given as goal
 
 abbrev pub invariant-loop-of : goal.invariant-loop-of

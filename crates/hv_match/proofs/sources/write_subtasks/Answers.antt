@@ -1,7 +1,7 @@
 use Rattle.std.proofs.Common.{◌≡◌, ◌+◌, ◌-◌, ◌<◌, map, length, ap, ◌∙◌, arith, Some}
 use Rattle.hv_world.specs.Views.{term_view, subtask_view}
-use Rattle.hv_match.specs.Puzzles.{first_in}
-use Rattle.hv_match.specs.Tables.{source_at}
+use Rattle.hv_match.specs.inside.Puzzles.{first_in}
+use Rattle.hv_match.specs.inside.Tables.{source_at}
 use Rattle.hv_match.proofs.Steps.{from_place}
 use Rattle.hv_match.proofs.FirstPlaces.{subtask_more}
 use Rattle.hv_match.proofs.sources.write_subtasks.Goals as goal

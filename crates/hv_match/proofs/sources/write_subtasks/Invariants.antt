@@ -1,7 +1,7 @@
 use Rattle.std.proofs.Common.{◌≡◌, ◌≤◌, ◌<◌, ℕ, length, map, drop}
 use Rattle.hv_world.specs.Views.{subtask_view}
-use Rattle.hv_match.specs.Puzzles.{first_of}
-use Rattle.hv_match.specs.Tables.{source_at}
+use Rattle.hv_match.specs.inside.Puzzles.{first_of}
+use Rattle.hv_match.specs.inside.Tables.{source_at}
 use Rattle.hv_match.proofs.sources.write_subtasks.Given as goal
 
 abbrev pub invariant-loop-number : goal.invariant-loop-number

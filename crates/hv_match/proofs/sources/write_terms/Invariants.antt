@@ -1,7 +1,7 @@
 use Rattle.std.proofs.Common.{◌≡◌, ◌≤◌, ◌<◌, ℕ, length, map, drop}
 use Rattle.hv_world.specs.Views.{term_view}
-use Rattle.hv_match.specs.Puzzles.{first_in}
-use Rattle.hv_match.specs.Tables.{source_at}
+use Rattle.hv_match.specs.inside.Puzzles.{first_in}
+use Rattle.hv_match.specs.inside.Tables.{source_at}
 use Rattle.hv_match.proofs.sources.write_terms.Given as goal
 
 abbrev pub invariant-loop-position : goal.invariant-loop-position

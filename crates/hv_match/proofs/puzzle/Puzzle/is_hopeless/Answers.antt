@@ -1,0 +1,20 @@
+use Rattle.std.proofs.Common.{◌≡◌, ◌<◌, ◌∙◌, List, [], ◌∷◌, Bor, length, map, get_or, ap, sym, refl, arith, eqb-true}
+use Rattle.hv_world.specs.Bindings.{object_number}
+use Rattle.hv_world.specs.declared.id.ObjectId.{ObjectId}
+use Rattle.hv_match.specs.inside.PuzzleViews.{puzzle_view}
+use Rattle.hv_match.proofs.Hope.{none_wanted}
+use Rattle.hv_match.proofs.puzzle.Puzzle.is_hopeless.Goals as goal
+
+empty : (os : List ObjectId) → length os ≡ 0 → map object_number os ≡ []
+empty [] e = refl
+empty (o ∷ os) e = absurd (omega arith)
+
+pub returns-then-is_empty : goal.returns-then-is_empty
+returns-then-is_empty c =
+    let rs = c.args.self.now.ranges.items in
+    let i = c.loop-at.at in
+    let os = c.index-range.result.now.now in
+    let lt : i < length rs = omega (arith, c.loop-at-test.true, c.len.ensures, c.args.self.now.ranges.ok.0) in
+    let none : map object_number os ≡ [] = empty os (eqb-true (length os) 0 (sym c.is_empty.ensures ∙ c.if-is_empty.true)) in
+    let there : map object_number (get_or rs i c.index-range.result.now).now ≡ [] = ap (λ (r : Bor (List ObjectId)). map object_number r.now) (sym c.index-range.ensures) ∙ none in
+    (λ e k. none_wanted (puzzle_view c.args.self.now) (λ (r : Bor (List ObjectId)). map object_number r.now) rs i c.index-range.result.now refl lt there k)

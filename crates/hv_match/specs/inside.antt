@@ -1,0 +1,12 @@
+-- What the code works on and keeps, as its proofs speak of it; no public clause stands on it.
+pub mod Numbers
+pub mod Lists
+pub mod Counting
+pub mod Search
+pub mod States
+pub mod Puzzles
+pub mod Tables
+pub mod PuzzleViews
+pub mod Ranges
+pub mod Parts
+pub mod Checks

@@ -1,0 +1,28 @@
+-- What the puzzle of the search says.
+use Rattle.std.specs.Prelude.{map, length, option_map}
+use Rattle.hv_world.specs.Bindings.{object_number}
+use Rattle.hv_world.specs.Views.{term_view, subtask_view, constraint_view}
+use Rattle.hv_match.specs.inside.Puzzles.{Puzzle, options, is_good, levels}
+use Rattle.hv_match.specs.inside.Search.{Search}
+use Rattle.hv_match.specs.inside.Tables.{work_view}
+use Rattle.hv_match.specs.declared.puzzle.Puzzle as code
+
+abbrev pub puzzle_view : code.Puzzle → Puzzle
+puzzle_view p = record {
+  ranges = map (λ r. map object_number r.now) p.ranges.items;
+  task = map term_view p.task.now;
+  objects = map object_number p.objects.now;
+  subtasks = map subtask_view p.subtasks.now;
+  constraints = map constraint_view p.constraints.now;
+  children = map (option_map work_view) p.children.items;
+}
+
+-- the search for its matches
+abbrev pub search_of : code.Puzzle → Search
+search_of p = record {
+  options = options (puzzle_view p);
+  good = is_good (puzzle_view p);
+  levels = levels (puzzle_view p);
+  distinct = length p.subtasks.now;
+  width = length p.children.items;
+}

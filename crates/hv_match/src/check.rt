@@ -1,0 +1,164 @@
+//! Whether children and objects that are given are a candidate of a node.
+
+ghost use Rattle.std.specs.Prelude.{◌≡◌, ◌↔◌, ◌<◌, true, false, map, length, IfOk, IsTrue};
+ghost use Rattle.std.specs.List.{AllZip};
+ghost use Rattle.hv_world.specs.Bindings.{object_number};
+ghost use Rattle.hv_world.specs.MethodViews.{method_view};
+ghost use Rattle.hv_world.specs.Views.{subtask_view};
+ghost use Rattle.hv_world.specs.WorldViews.{world_view};
+ghost use Rattle.hv_plan.specs.BuiltTrees.{tree_view};
+ghost use Rattle.hv_plan.specs.PlanTrees.{IsTreeIn};
+ghost use Rattle.hv_plan.specs.TreeViews.{node_view};
+ghost use Rattle.hv_match.specs.Candidates.{Does, IsCandidateAt};
+ghost use Rattle.hv_match.specs.inside.Checks.{AreAllPlaces, AreObjectsOf, IsCandidateBy, IsMarkedAnew, WasMarked, tasks_of};
+
+use crate::make::{terms, work};
+use crate::parts::node_and_method;
+use crate::puzzle::{all_hold, are_values, work_does};
+use hv_plan::{Child, Node, Tree};
+use hv_text::Memory;
+use hv_world::{Method, ObjectId, Subtask, TypeId, World};
+use std::alloc::Global;
+
+// Marks a place, and says whether there is one that was not marked.
+fn mark(marks: &mut [bool], place: usize) -> bool
+    ensures new { result ≡ true → IsMarkedAnew marks.old place marks.new }
+    ensures old { result ≡ false → WasMarked marks.old place }
+{
+    if place < marks.len() && !marks[place] {
+        marks[place] = true;
+        return true;
+    }
+    false
+}
+
+// Whether these are the places of so many children, each once.
+fn are_all_places(alloc: Global, places: &[u32], count: usize) -> Result<bool, Memory>
+    ensures { IfOk result (λ b. IsTrue b ↔ AreAllPlaces count places.now) }
+{
+    if places.len() != count {
+        return Ok(false);
+    }
+    let mut marks = vec![in alloc; false; count]?;
+    for place in places {
+        if !mark(&mut marks, *place as usize) {
+            return Ok(false);
+        }
+    }
+    Ok(true)
+}
+
+// Whether objects are of types, one by one.
+fn are_of(world: &World<'_>, objects: &[ObjectId], types: &[TypeId]) -> bool
+    ensures { IsTrue result ↔ AreObjectsOf (world_view world.now) objects.now types.now }
+{
+    if objects.len() != types.len() {
+        return false;
+    }
+    for place in 0..objects.len() {
+        if !world.is_of(objects[place], types[place]) {
+            return false;
+        }
+    }
+    true
+}
+
+// Whether the child at a place does what a subtask says.
+fn does(
+    tree: &Tree<'_, '_>,
+    children: &[Child],
+    place: usize,
+    values: &[usize],
+    subtask: &Subtask,
+) -> bool
+    ensures { IsTrue result ↔ Does (tasks_of (tree_view tree.now) children.now) values.now place (subtask_view subtask.now) }
+{
+    if place >= children.len() {
+        return false;
+    }
+    match work(tree, children[place]) {
+        None => false,
+        Some(work) => work_does(work, values, subtask),
+    }
+}
+
+// Whether the children at these places do what the subtasks say.
+fn all_do(
+    tree: &Tree<'_, '_>,
+    children: &[Child],
+    places: &[u32],
+    values: &[usize],
+    subtasks: &[Subtask],
+) -> bool
+    ensures { IsTrue result ↔ AllZip (Does (tasks_of (tree_view tree.now) children.now) values.now) places.now (map subtask_view subtasks.now) }
+{
+    if places.len() != subtasks.len() {
+        return false;
+    }
+    for number in 0..places.len() {
+        if !does(
+            tree,
+            children,
+            places[number] as usize,
+            values,
+            &subtasks[number],
+        ) {
+            return false;
+        }
+    }
+    true
+}
+
+// The numbers of objects.
+fn numbers(alloc: Global, objects: &[ObjectId]) -> Result<Vec<usize>, Memory>
+    ensures { IfOk result (λ v. v.items ≡ map object_number objects.now) }
+{
+    let mut numbers = Vec::with_capacity(alloc, objects.len())?;
+    for object in objects {
+        numbers.push(object.0)?;
+    }
+    Ok(numbers)
+}
+
+// Whether these are a candidate of a node by its method.
+fn is_candidate_by(
+    alloc: Global,
+    world: &World<'_>,
+    tree: &Tree<'_, '_>,
+    node: &Node<'_>,
+    method: &Method<'_>,
+    children: &[u32],
+    objects: &[ObjectId],
+) -> Result<bool, Memory>
+    ensures { IfOk result (λ b. IsTrue b ↔ IsCandidateBy (world_view world.now) (method_view method.now) (tree_view tree.now) (node_view node.now) children.now objects.now) }
+{
+    let values = numbers(alloc, objects)?;
+    let network = method.network();
+    let is_once = are_all_places(alloc, children, node.children().len())?;
+    Ok(
+        is_once
+            && are_of(world, objects, method.parameters())
+            && are_values(&values, terms(method), node.objects())
+            && all_do(tree, node.children(), children, &values, network.subtasks())
+            && all_hold(&values, network.constraints()),
+    )
+}
+
+/// Whether these are a candidate of a node: for each subtask in written order the place of its child
+/// among the node's children, and for each parameter of the method its object. Nothing is searched.
+/// Err only for want of memory.
+pub fn is_candidate(
+    alloc: Global,
+    world: &World<'_>,
+    tree: &Tree<'_, '_>,
+    node: u32,
+    children: &[u32],
+    objects: &[ObjectId],
+) -> Result<bool, Memory>
+    requires tree { IsTreeIn (world_view world.now) (tree_view tree.now) }
+    requires node { node < length (tree_view tree.now).nodes }
+    ensures { IfOk result (λ b. IsTrue b ↔ IsCandidateAt (world_view world.now) (tree_view tree.now) node children.now (map object_number objects.now)) }
+{
+    let (node, method) = node_and_method(world, tree, node);
+    is_candidate_by(alloc, world, tree, &node, method, children, objects)
+}

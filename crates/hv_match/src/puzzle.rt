@@ -1,0 +1,414 @@
+//! The candidates of a node as a search has them: what it chooses from, and what it wants.
+
+ghost use Rattle.std.specs.Prelude.{◌≡◌, ◌<◌, ◌≤◌, ◌+◌, ◌^◌, length, map, option_map, [], true, false, IfSome, IsSome, Some, None, slice_get, All};
+ghost use Rattle.std.specs.List.Sorted.{IsStrictlyIncreasing};
+ghost use Rattle.hv_world.specs.Bindings.{object_number};
+ghost use Rattle.hv_world.specs.Alike as alike;
+ghost use Rattle.hv_world.specs.Views.{name_view, term_view, subtask_view, constraint_view};
+ghost use Rattle.hv_match.specs.inside.Search.{IsChoice, NothingBegins};
+ghost use Rattle.hv_match.specs.inside.Puzzles as puzzles;
+ghost use Rattle.hv_match.specs.inside.Tables.{work_view, source_view, AreChildRows, AreSources};
+
+use crate::child_rows::ChildRows;
+use crate::rule::Rule;
+use crate::sources::Source;
+use hv_world::{Constraint, ObjectId, Subtask, TaskName, Term};
+
+/// What a child does.
+#[derive(Clone, Copy)]
+pub(crate) struct Work<'a> {
+    pub(crate) name: TaskName,
+    pub(crate) objects: &'a [ObjectId],
+}
+
+/// A node and its method, made ready for the search. Each parameter has the objects of its type.
+#[derive(Drop)]
+pub(crate) struct Puzzle<'a> {
+    pub(crate) ranges: Vec<&'a [ObjectId]>,
+    pub(crate) task: &'a [Term],
+    pub(crate) objects: &'a [ObjectId],
+    pub(crate) subtasks: &'a [Subtask],
+    pub(crate) constraints: &'a [Constraint],
+    pub(crate) children: Vec<Option<Work<'a>>>,
+    /// For each subtask the places of the children that may do it.
+    pub(crate) places: ChildRows,
+    /// For each parameter the numbers of the constraints that are decided when it has its object.
+    pub(crate) decided: Vec<Vec<usize>>,
+    /// For each parameter the place from which it has its object.
+    pub(crate) sources: Vec<Option<Source>>,
+    pub(crate) ghost short: { length children.items < 2 ^ 32 },
+    pub(crate) ghost ascending: { All (λ r. IsStrictlyIncreasing (map object_number r.now)) ranges.items },
+    pub(crate) ghost placed: { AreChildRows (map subtask_view subtasks.now) (map (option_map work_view) children.items) places },
+    pub(crate) ghost sourced: { AreSources (length ranges.items) (map term_view task.now) (map subtask_view subtasks.now) sources.items },
+}
+
+// The object at a position.
+fn object_at(objects: &[ObjectId], position: usize) -> Option<usize>
+    ensures { result ≡ slice_get (map object_number objects.now) position }
+{
+    match objects.get(position) {
+        Some(object) => Some(object.0),
+        None => None,
+    }
+}
+
+/// The object of a term under the objects of the parameters.
+pub(crate) fn value(values: &[usize], term: Term) -> usize
+    ensures { result ≡ puzzles.object_of values.now (term_view term) }
+{
+    match term {
+        Term::Object(object) => object.0,
+        Term::Variable(variable) => values.get(variable).copied().unwrap_or(0),
+    }
+}
+
+/// Whether the objects are those of the terms.
+pub(crate) fn are_values(values: &[usize], terms: &[Term], objects: &[ObjectId]) -> bool
+    ensures { result ≡ puzzles.same_values values.now (map term_view terms.now) (map object_number objects.now) }
+{
+    let mut at = 0;
+    while at < terms.len() && at < objects.len() {
+        if value(values, terms[at]) != objects[at].0 {
+            return false;
+        }
+        at += 1;
+    }
+    terms.len() == objects.len()
+}
+
+// Whether a constraint holds.
+fn holds(values: &[usize], constraint: Constraint) -> bool
+    ensures { result ≡ puzzles.holds values.now (constraint_view constraint) }
+{
+    (value(values, constraint.left) == value(values, constraint.right)) == constraint.is_equal
+}
+
+// Whether the first parameters, which have these objects, say what a term is.
+fn is_known(values: &[usize], term: Term) -> bool
+    ensures { result ≡ true → puzzles.IsKnown values.now (term_view term) }
+{
+    match term {
+        Term::Object(_) => true,
+        Term::Variable(variable) => variable < values.len(),
+    }
+}
+
+// Whether the first parameters, which have these objects, break a constraint, whatever the others have.
+fn breaks(values: &[usize], constraint: Constraint) -> bool
+    ensures { result ≡ true → puzzles.IsBroken values.now (constraint_view constraint) }
+{
+    is_known(values, constraint.left)
+        && is_known(values, constraint.right)
+        && !holds(values, constraint)
+}
+
+/// Whether all constraints hold.
+pub(crate) fn all_hold(values: &[usize], constraints: &[Constraint]) -> bool
+    ensures { result ≡ puzzles.all_hold values.now (map constraint_view constraints.now) }
+{
+    for constraint in constraints {
+        if !holds(values, *constraint) {
+            return false;
+        }
+    }
+    true
+}
+
+// Whether two names are one.
+fn same_name(name: TaskName, other: TaskName) -> bool
+    ensures { result ≡ alike.same_name (name_view name) (name_view other) }
+{
+    match (name, other) {
+        (TaskName::Compound(task), TaskName::Compound(other)) => task.0 == other.0,
+        (TaskName::Primitive(action), TaskName::Primitive(other)) => action.0 == other.0,
+        _ => false,
+    }
+}
+
+// Whether an object is in an ascending list.
+fn is_in(object: usize, range: &[ObjectId]) -> bool
+    requires { IsStrictlyIncreasing (map object_number range.now) }
+    ensures { result ≡ puzzles.has object (map object_number range.now) }
+{
+    range.binary_search_by_key(&object, |other| other.0).is_ok()
+}
+
+/// Whether a child that does this does what a subtask says.
+pub(crate) fn work_does(work: Work<'_>, values: &[usize], subtask: &Subtask) -> bool
+    ensures { result ≡ puzzles.does (Some (work_view work.entry)) values.now (subtask_view subtask.now) }
+{
+    same_name(work.name, subtask.name) && are_values(values, &subtask.terms, work.objects)
+}
+
+impl<'a> Puzzle<'a> {
+    ghost use Rattle.hv_match.specs.inside.PuzzleViews.{puzzle_view};
+
+    // What the child at a place does.
+    fn child(&self, place: usize) -> Option<Work<'a>>
+        ensures { option_map work_view result ≡ puzzles.child_at (puzzle_view self.now).children place }
+    {
+        if place < self.children.len() {
+            self.children[place]
+        } else {
+            None
+        }
+    }
+
+    // Whether the child at a place does what a subtask says.
+    fn does(&self, place: usize, values: &[usize], subtask: &Subtask) -> bool
+        ensures { result ≡ puzzles.does (puzzles.child_at (puzzle_view self.now).children place) values.now (subtask_view subtask.now) }
+    {
+        match self.child(place) {
+            None => false,
+            Some(work) => work_does(work, values, subtask),
+        }
+    }
+
+    // Whether the children at these places do what the subtasks say.
+    fn all_do(&self, values: &[usize], places: &[usize]) -> bool
+        ensures { result ≡ puzzles.all_do (puzzle_view self.now).children values.now places.now (puzzle_view self.now).subtasks }
+    {
+        let mut at = 0;
+        while at < places.len() && at < self.subtasks.len() {
+            if !self.does(places[at], values, &self.subtasks[at]) {
+                return false;
+            }
+            at += 1;
+        }
+        places.len() == self.subtasks.len()
+    }
+
+    // Whether each parameter has an object that it may have.
+    fn are_in(&self, values: &[usize]) -> bool
+        ensures { result ≡ puzzles.are_in values.now (puzzle_view self.now).ranges }
+    {
+        let mut at = 0;
+        while at < values.len() && at < self.ranges.len() {
+            let range = self.ranges[at];
+            if !is_in(values[at], range) {
+                return false;
+            }
+            at += 1;
+        }
+        values.len() == self.ranges.len()
+    }
+
+    // Whether the children at these places, which may be one, do the subtasks with these objects, and all else holds.
+    fn suits(&self, places: &[usize], values: &[usize]) -> bool
+        ensures { result ≡ puzzles.suits (puzzle_view self.now) places.now values.now }
+    {
+        self.are_in(values)
+            && are_values(values, self.task, self.objects)
+            && self.all_do(values, places)
+            && all_hold(values, self.constraints)
+    }
+
+    // The object at a place in a subtask's child, if it has one.
+    fn child_object(&self, chosen: &[usize], subtask: usize, position: usize) -> Option<usize>
+        ensures { result ≡ puzzles.look (puzzle_view self.now) chosen.now (Some (Some subtask, position)) }
+    {
+        match chosen.get(subtask) {
+            None => None,
+            Some(place) => match self.child(*place) {
+                None => None,
+                Some(work) => object_at(work.objects, position),
+            },
+        }
+    }
+
+    // The object at the place from which a parameter has it.
+    fn look(&self, chosen: &[usize], source: Source) -> Option<usize>
+        ensures { result ≡ puzzles.look (puzzle_view self.now) chosen.now (Some (source_view source)) }
+    {
+        match source.subtask {
+            None => object_at(self.objects, source.position),
+            Some(subtask) => self.child_object(chosen, subtask, source.position),
+        }
+    }
+
+    // What the task and the children chosen say of a parameter.
+    fn bound(&self, chosen: &[usize], parameter: usize) -> Option<usize>
+        ensures bound { parameter < length self.now.ranges.items → result ≡ puzzles.bound (puzzle_view self.now) chosen.now parameter }
+        ensures other { length self.now.ranges.items ≤ parameter → result ≡ None }
+    {
+        match self.sources.get(parameter) {
+            Some(Some(source)) => self.look(chosen, *source),
+            _ => None,
+        }
+    }
+
+    // Whether an object may be that of a term, by what is bound.
+    fn may_be(&self, chosen: &[usize], term: Term, object: ObjectId) -> bool
+        ensures { result ≡ false → puzzles.CannotBe (puzzle_view self.now) chosen.now (term_view term) object.0 }
+    {
+        match term {
+            Term::Object(other) => other.0 == object.0,
+            Term::Variable(variable) => match self.bound(chosen, variable) {
+                Some(other) => other == object.0,
+                None => true,
+            },
+        }
+    }
+
+    // Whether objects may be those of terms, by what is bound.
+    fn may_all_be(&self, chosen: &[usize], terms: &[Term], objects: &[ObjectId]) -> bool
+        ensures { result ≡ false → puzzles.CannotAllBe (puzzle_view self.now) chosen.now (map term_view terms.now) (map object_number objects.now) }
+    {
+        let mut at = 0;
+        while at < terms.len() && at < objects.len() {
+            if !self.may_be(chosen, terms[at], objects[at]) {
+                return false;
+            }
+            at += 1;
+        }
+        terms.len() == objects.len()
+    }
+
+    // Whether the child at a place may do what a subtask says, by what is bound.
+    fn may_do(&self, chosen: &[usize], place: usize, subtask: &Subtask) -> bool
+        ensures { result ≡ false → puzzles.CannotDo (puzzle_view self.now) chosen.now place (subtask_view subtask.now) }
+    {
+        match self.child(place) {
+            None => false,
+            Some(work) => {
+                same_name(work.name, subtask.name)
+                    && self.may_all_be(chosen, &subtask.terms, work.objects)
+            }
+        }
+    }
+}
+
+// The choice of a number for a parameter.
+fn choice(bound: Option<usize>, range: &[ObjectId], number: usize) -> Option<usize>
+    ensures choice { IsChoice (puzzles.pick bound (map object_number range.now)) number result }
+    ensures small { IsSome result → number + 1 < 2 ^ 64 }
+{
+    match bound {
+        Some(object) => { if number == 0 { Some(object) } else { None } }
+        None => {
+            if number < range.len() {
+                Some(range[number].0)
+            } else {
+                None
+            }
+        }
+    }
+}
+
+// The number of a number in a row.
+fn row_choice(row: &[usize], number: usize) -> Option<usize>
+    ensures choice { IsChoice row.now number result }
+    ensures small { IsSome result → number + 1 < 2 ^ 64 }
+{
+    if number < row.len() {
+        Some(row[number])
+    } else {
+        None
+    }
+}
+
+impl Puzzle<'_> {
+    ghost use Rattle.hv_match.specs.inside.PuzzleViews.{puzzle_view, search_of};
+
+    // The place of a number among those of the children that may do a subtask.
+    fn child_choice(&self, subtask: usize, number: usize) -> Option<usize>
+        requires { subtask < length self.now.subtasks.now }
+        ensures choice { IsChoice (puzzles.children_for (puzzle_view self.now) subtask) number result }
+        ensures small { IsSome result → number + 1 < 2 ^ 64 }
+        ensures within { IfSome result (λ x. x < length self.now.children.items) }
+    {
+        row_choice(self.places.row(subtask), number)
+    }
+
+    /// Whether some parameter has no object that it may have; then nothing is wanted.
+    pub(crate) fn is_hopeless(&self) -> bool
+        ensures { result ≡ true → NothingBegins (search_of self.now) [] }
+    {
+        let mut at = 0;
+        while at < self.ranges.len() {
+            let range = self.ranges[at];
+            if range.is_empty() {
+                return true;
+            }
+            at += 1;
+        }
+        false
+    }
+
+    // Whether the first parameters, which have these objects, break one of the constraints of these numbers.
+    fn is_broken(&self, values: &[usize], numbers: &[usize]) -> bool
+        ensures { result ≡ true → puzzles.AreBroken values.now (puzzle_view self.now).constraints }
+    {
+        for number in numbers {
+            if *number < self.constraints.len() && breaks(values, self.constraints[*number]) {
+                return true;
+            }
+        }
+        false
+    }
+
+    // Says no only where nothing that is wanted begins with these children and objects, the last that of a parameter.
+    fn is_object_hopeful(&self, chosen: &[usize], parameter: usize) -> bool
+        requires { length self.now.subtasks.now ≤ length chosen.now }
+        ensures { result ≡ false → NothingBegins (search_of self.now) chosen.now }
+    {
+        match self.decided.get(parameter) {
+            Some(numbers) => !self.is_broken(&chosen[self.subtasks.len()..], numbers),
+            None => true,
+        }
+    }
+
+    // Says no only where nothing that is wanted begins with these children.
+    fn is_child_hopeful(&self, chosen: &[usize], last: usize) -> bool
+        requires size { length chosen.now ≡ last + 1 }
+        requires low { last < length self.now.subtasks.now }
+        ensures { result ≡ false → NothingBegins (search_of self.now) chosen.now }
+    {
+        self.may_do(chosen, chosen[last], &self.subtasks[last])
+    }
+}
+
+impl Rule for Puzzle<'_> {
+    ghost use Rattle.hv_match.specs.inside.PuzzleViews.{search_of};
+
+    ghost search = { search_of };
+
+    fn is_whole(&self, count: usize) -> bool {
+        match count.checked_sub(self.subtasks.len()) {
+            None => false,
+            Some(objects) => objects == self.ranges.len(),
+        }
+    }
+
+    fn is_distinct(&self, level: usize) -> bool {
+        level < self.subtasks.len()
+    }
+
+    fn option(&self, chosen: &[usize], number: usize) -> Option<usize> {
+        match chosen.len().checked_sub(self.subtasks.len()) {
+            None => self.child_choice(chosen.len(), number),
+            Some(parameter) => {
+                let range = self.ranges[parameter];
+                choice(self.bound(chosen, parameter), range, number)
+            }
+        }
+    }
+
+    fn is_hopeful(&self, chosen: &[usize]) -> bool {
+        match chosen.len().checked_sub(1) {
+            None => true,
+            Some(last) => {
+                if last < self.subtasks.len() {
+                    self.is_child_hopeful(chosen, last)
+                } else {
+                    self.is_object_hopeful(chosen, last - self.subtasks.len())
+                }
+            }
+        }
+    }
+
+    fn is_good(&self, chosen: &[usize]) -> bool {
+        let subtasks = self.subtasks.len();
+        subtasks == self.children.len() && self.suits(&chosen[..subtasks], &chosen[subtasks..])
+    }
+}
