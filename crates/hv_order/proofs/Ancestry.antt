@@ -1,7 +1,7 @@
 -- What stands above and below what in a tree, and what that says of precedence.
 use Rattle.std.proofs.Common.{◌≡◌, ℕ, ◌<◌, ◌≤◌, true, refl, sym, ap, ◌∙◌, subst, inl, inr, arith, ◌⊎◌}
 use Rattle.hv_plan.specs.Trees.{Item, Act, Task, Pre, Mem, Tree, AtOrBelow, itself, its_pre, its_child, Reached, IsSubtask, IsTree}
-use Rattle.hv_order.specs.Candidates.{Choice, AreOrders}
+use Rattle.hv_order.specs.Meanings.{Choice, AreOrders}
 use Rattle.hv_order.specs.Precedence.{Precedes, of_pre, of_line, of_root}
 use Rattle.hv_order.proofs.Members.{act_not_task, pre_not_task, task_same, pre_same}
 

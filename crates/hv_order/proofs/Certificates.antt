@@ -1,19 +1,31 @@
--- The check of a certificate: a choice with pinned preconditions has an executable sequence exactly
--- where each node keeps the rules.
-use Rattle.std.proofs.Common.{◌≡◌, ℕ, zero, suc, ◌<◌, ◌≤◌, true, refl, subst, arith}
-use Rattle.std.specs.Prelude.{◌==◌}
+-- The check of a certificate: a choice has an executable sequence with the given indices exactly where
+-- each node keeps the rules.
+use Rattle.std.proofs.Common.{◌≡◌, ℕ, zero, suc, ◌+◌, ◌<◌, ◌≤◌, true, List, [], ◌∷◌, refl, subst, arith}
+use Rattle.std.specs.Prelude.{◌&&◌, ◌==◌}
 use Rattle.hv_plan.specs.Trees.{Item, Act, Task, Pre, Mem, Tree, AtOrBelow, itself, its_pre, its_child, Reached, IsPrimitive, IsSubtask, IsTree}
-use Rattle.hv_order.specs.Candidates.{Choice, AreOrders}
+use Rattle.hv_order.specs.Meanings.{Choice, AreOrders}
 use Rattle.hv_order.specs.Precedence.{Precedes, of_pre, of_line, of_root}
+use Rattle.hv_order.specs.Networks.{Network, Leads, initial_network, decomposition}
+use Rattle.hv_order.specs.Sequences.{Executes, HasSequence, HasSequenceAt, index_in}
 use Rattle.hv_order.specs.Schedules.{begins, ends, IsSchedule}
-use Rattle.hv_order.specs.Certificates.{pinned_choice, subtask_start, AreFinishes, KeepsRules}
+use Rattle.hv_order.specs.Certificates.{subtask_start, AreFinishes, KeepsRules}
 use Rattle.hv_order.specs.Laws.{CheckLaw}
 use Rattle.hv_order.proofs.Members.{and_left, and_right, and_both, number_from, number_test}
 use Rattle.hv_order.proofs.Ancestry.{under, reached_initial, reached_below, reached_child, reached_pre}
 use Rattle.hv_order.proofs.SubtaskStarts.{FirstStep, first_step}
 use Rattle.hv_order.proofs.Derivations.{derivation}
-use Rattle.hv_order.proofs.SchedulesSequences.{line_of_pre, placed_from, schedule_from}
-use Rattle.hv_order.proofs.Solutions.{sequence_of, placed_of}
+use Rattle.hv_order.proofs.SchedulesSequences.{line_of_pre, placed_from}
+use Rattle.hv_order.proofs.Solutions.{sequence_of}
+use Rattle.hv_order.proofs.Indices.{index_law}
+
+-- the same choice with each precondition pinned to one index: it is true there, if it was, and
+-- nowhere else
+abbrev pinned_choice : Choice → (ℕ → ℕ) → Choice
+pinned_choice o at =
+    record {
+      root = o.root;
+      line = λ v. record { before = (o.line v).before; true_at = λ k. (o.line v).true_at k && (k == at v) };
+    }
 
 -- a schedule of the pinned choice is one of the choice itself, at the pinned indices
 module _ (t : Tree) (o : Choice) (at : ℕ → ℕ) where
@@ -38,27 +50,59 @@ module _ (t : Tree) (o : Choice) (at : ℕ → ℕ) where
     order = λ x y i j r k h. w.order x y i j r k (from_pinned x y h);
   }
 
-  module _ (at' : ℕ → ℕ) (s f : ℕ) (w : IsSchedule t (pinned_choice o at) at' s f) where
-    same_at : (v : ℕ) → Reached t (Task v) → at' v ≡ at v
-    same_at v r = number_from (at' v) (at v) (and_right ((o.line v).true_at (at' v)) (at' v == at v) (w.holds v r))
+  leads : (lines : List ℕ) (from to : Network) → Leads t (pinned_choice o at) from lines to → Leads t o from lines to
+  leads [] from to e = e
+  leads (v ∷ vs) from to l = let (is, rest) = l in (is, leads vs (decomposition t o v from) to rest)
 
-    same_begins : IsTree t → (x : Item) → Reached t x → begins at' x ≡ begins at x
-    same_begins tree (Act k) r = refl
-    same_begins tree (Task k) r = refl
-    same_begins tree (Pre k) r = same_at k (line_of_pre t tree k r)
+  executes : (q : List Item) (k n : ℕ) → Executes (pinned_choice o at) k q n → Executes o k q n
+  executes [] k n e = e
+  executes (Act j ∷ q) k n e = let (same, rest) = e in (same, executes q (k + 1) n rest)
+  executes (Task v ∷ q) k n e = absurd e
+  executes (Pre v ∷ q) k n e =
+      let (holds, rest) = e in
+      (and_left ((o.line v).true_at k) (k == at v) holds, executes q k n rest)
 
-    same_ends : IsTree t → (x : Item) → Reached t x → ends at' x ≡ ends at x
-    same_ends tree (Act k) r = refl
-    same_ends tree (Task k) r = refl
-    same_ends tree (Pre k) r = same_at k (line_of_pre t tree k r)
+  -- a sequence of the pinned choice is one of the choice itself, with the pinned indices
+  sequence_at : (n : ℕ) → IsTree t → AreOrders t o → HasSequence t (pinned_choice o at) n → HasSequenceAt t o at n
+  sequence_at n tree orders h = record {
+    found = record {
+      lines = h.lines;
+      end = h.end;
+      sequence = h.sequence;
+      derives = record {
+        leads = leads h.lines (initial_network t o) h.end h.derives.leads;
+        once = h.derives.once;
+        all = h.derives.all;
+        done = h.derives.done;
+      };
+      linearizes = h.linearizes;
+      executes = executes h.sequence 0 n h.executes;
+    };
+    indices = λ v r.
+        let k = index_in h.sequence v in
+        let schedule = index_law t (pinned_choice o at) n h tree (pinned_orders orders) in
+        number_from k (at v) (and_right ((o.line v).true_at k) (k == at v) (schedule.holds v r));
+  }
 
-    unpin : IsTree t → IsSchedule t o at s f
-    unpin tree = record {
-      holds = λ v r. let e = and_left ((o.line v).true_at (at' v)) (at' v == at v) (w.holds v r) in subst (λ k. (o.line v).true_at k ≡ true) (same_at v r) e;
-      from = λ x i r. let e = w.from x i r in rw (← same_begins tree x r) e;
-      until = λ x i r. let e = w.until x i r in rw (← same_ends tree x r) e;
-      order = λ x y i j r k h. let e = w.order x y i j r k (to_pinned x y h) in rw (← same_ends tree x r, ← same_begins tree y k) e;
-    }
+-- a schedule says no more than the indices of the lines of the tree
+module _ (t : Tree) (tree : IsTree t) (o : Choice) (at at' : ℕ → ℕ) (same : (v : ℕ) → Reached t (Task v) → at' v ≡ at v) where
+  same_begins : (x : Item) → Reached t x → begins at' x ≡ begins at x
+  same_begins (Act k) r = refl
+  same_begins (Task k) r = refl
+  same_begins (Pre k) r = same k (line_of_pre t tree k r)
+
+  same_ends : (x : Item) → Reached t x → ends at' x ≡ ends at x
+  same_ends (Act k) r = refl
+  same_ends (Task k) r = refl
+  same_ends (Pre k) r = same k (line_of_pre t tree k r)
+
+  same_schedule : (s f : ℕ) → IsSchedule t o at' s f → IsSchedule t o at s f
+  same_schedule s f w = record {
+    holds = λ v r. subst (λ k. (o.line v).true_at k ≡ true) (same v r) (w.holds v r);
+    from = λ x i r. let e = w.from x i r in rw (← same_begins x r) e;
+    until = λ x i r. let e = w.until x i r in rw (← same_ends x r) e;
+    order = λ x y i j r k h. let e = w.order x y i j r k h in rw (← same_ends x r, ← same_begins y k) e;
+  }
 
 module _ (t : Tree) (tree : IsTree t) (o : Choice) (at : ℕ → ℕ) (finish : Item → ℕ) (fin : AreFinishes t at finish) (n : ℕ) where
   -- the finish is the least bound of the ends below
@@ -220,11 +264,12 @@ module _ (t : Tree) (tree : IsTree t) (o : Choice) (at : ℕ → ℕ) (finish : 
 pub check_law : CheckLaw
 check_law t o at finish depth n tree orders fin within all = (
   (λ h.
-      let found = schedule_from t tree (pinned_choice o at) (pinned_orders t o at orders) 0 n (placed_of t (pinned_choice o at) n h) in
-      kept t tree o at finish fin n (unpin t o at found.at 0 n found.schedule tree)),
+      let schedule = index_law t o n h.found tree orders in
+      kept t tree o at finish fin n (same_schedule t tree o at (index_in h.found.sequence) h.indices 0 n schedule)),
   (λ rules.
       let schedule = pin t o at 0 n (kept_schedule t tree o at finish fin n rules) in
       let d = derivation t tree (pinned_choice o at) (pinned_orders t o at orders) depth within in
-      sequence_of t (pinned_choice o at) n tree (pinned_orders t o at orders) all
-      (placed_from t tree (pinned_choice o at) (pinned_orders t o at orders) d 0 n (record { at = at; schedule = schedule; ordered = omega arith }))),
+      sequence_at t o at n tree orders
+      (sequence_of t (pinned_choice o at) n tree (pinned_orders t o at orders) all
+      (placed_from t tree (pinned_choice o at) (pinned_orders t o at orders) d 0 n (record { at = at; schedule = schedule; ordered = omega arith })))),
 )

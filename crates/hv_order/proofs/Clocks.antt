@@ -1,9 +1,9 @@
--- A sequence that runs gives each precondition step an index.
+-- A sequence that can be run gives each precondition step an index.
 use Rattle.std.proofs.Common.{◌≡◌, ℕ, ◌+◌, ◌≤◌, true, List, [], ◌∷◌, refl, sym, ap, subst, inl, inr, arith}
 use Rattle.std.specs.Prelude.{if◌then◌else◌, ◌==◌}
 use Rattle.hv_plan.specs.Trees.{Item, Act, Task, Pre, Mem, Distinct}
-use Rattle.hv_order.specs.Candidates.{Choice}
-use Rattle.hv_order.specs.Sequences.{Earlier, Runs}
+use Rattle.hv_order.specs.Meanings.{Choice}
+use Rattle.hv_order.specs.Sequences.{Earlier, Passes}
 use Rattle.hv_order.specs.Schedules.{begins, ends}
 use Rattle.hv_order.proofs.Members.{act_not_pre, pre_same, SameNumber, equal_numbers, other_numbers, number_cases, number_test}
 
@@ -23,11 +23,11 @@ at_line_else v u x f n = tell (number_cases u v)
     tell (equal_numbers same e) = absurd (n same)
     tell (other_numbers other e) = rw e
 
-pub runs_bound : (o : Choice) (q : List Item) (s f : ℕ) → Runs o s q f → s ≤ f
-runs_bound o [] s f runs = runs
-runs_bound o (Act j ∷ q) s f runs = let (late, rest) = runs in let bound = runs_bound o q (j + 1) f rest in omega arith
-runs_bound o (Task v ∷ q) s f runs = absurd runs
-runs_bound o (Pre v ∷ q) s f runs = let (at, late, holds, rest) = runs in let bound = runs_bound o q at f rest in omega arith
+pub passes_bound : (o : Choice) (q : List Item) (s f : ℕ) → Passes o s q f → s ≤ f
+passes_bound o [] s f passes = passes
+passes_bound o (Act j ∷ q) s f passes = let (late, rest) = passes in let bound = passes_bound o q (j + 1) f rest in omega arith
+passes_bound o (Task v ∷ q) s f passes = absurd passes
+passes_bound o (Pre v ∷ q) s f passes = let (at, late, holds, rest) = passes in let bound = passes_bound o q at f rest in omega arith
 
 -- indices that fit a sequence
 pub record Clock (o : Choice) (q : List Item) (s f : ℕ) : Type 0 where
@@ -114,15 +114,15 @@ clock_pre o v k q s f a b t n c = record { at = at_line v k c.at; holds = holds;
     order x y (inr e) =
         rw (ends_else c.at v k x (member_not x (Pre v) q n (earlier_left x y q e)), begins_else c.at v k y (member_not y (Pre v) q n (earlier_right x y q e))) (c.order x y e)
 
--- a sequence that runs has indices
-pub clock : (o : Choice) (q : List Item) (s f : ℕ) → Distinct q → Runs o s q f → Clock o q s f
+-- a sequence that can be run has indices
+pub clock : (o : Choice) (q : List Item) (s f : ℕ) → Distinct q → Passes o s q f → Clock o q s f
 clock o [] s f d r = record { at = λ v. 0; holds = λ v m. absurd m; from = λ x m. absurd m; until = λ x m. absurd m; order = λ x y e. absurd e }
-clock o (Act j ∷ q) s f distinct runs =
+clock o (Act j ∷ q) s f distinct passes =
     let (absent, others) = distinct in
-    let (late, rest) = runs in
-    clock_act o j q s f late (runs_bound o q (j + 1) f rest) (clock o q (j + 1) f others rest)
-clock o (Task v ∷ q) s f distinct runs = absurd runs
-clock o (Pre v ∷ q) s f distinct runs =
+    let (late, rest) = passes in
+    clock_act o j q s f late (passes_bound o q (j + 1) f rest) (clock o q (j + 1) f others rest)
+clock o (Task v ∷ q) s f distinct passes = absurd passes
+clock o (Pre v ∷ q) s f distinct passes =
     let (absent, others) = distinct in
-    let (at, late, holds, rest) = runs in
-    clock_pre o v at q s f late (runs_bound o q at f rest) holds absent (clock o q at f others rest)
+    let (at, late, holds, rest) = passes in
+    clock_pre o v at q s f late (passes_bound o q at f rest) holds absent (clock o q at f others rest)

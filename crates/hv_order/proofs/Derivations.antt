@@ -1,7 +1,7 @@
 -- Every choice has a derivation: the lines from the greatest number down.
 use Rattle.std.proofs.Common.{◌≡◌, ℕ, zero, suc, ◌<◌, List, [], ◌∷◌, refl, sym, subst, inl, inr, arith, ◌⊎◌}
 use Rattle.hv_plan.specs.Trees.{Item, Act, Task, Pre, Mem, Distinct, Tree, IsPrimitive, IsTree, IsWithin}
-use Rattle.hv_order.specs.Candidates.{Choice, AreOrders}
+use Rattle.hv_order.specs.Meanings.{Choice, AreOrders}
 use Rattle.hv_order.specs.Networks.{Network, initial_network, decomposition, Leads, HasDerivation}
 use Rattle.hv_order.specs.Laws.{DerivationLaw}
 use Rattle.hv_order.proofs.Members.{pre_same, is_member}

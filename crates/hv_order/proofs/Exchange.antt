@@ -2,10 +2,10 @@
 -- window of the line.
 use Rattle.std.proofs.Common.{◌≡◌, ℕ, ◌≤◌, true, refl, sym, subst, inl, inr, arith, ◌⊎◌}
 use Rattle.hv_plan.specs.Trees.{Item, Act, Task, Pre, Mem, Tree, AtOrBelow, itself, its_pre, Reached, IsPrimitive, IsTree, line_tree}
-use Rattle.hv_order.specs.Candidates.{Candidate, AreOrders}
+use Rattle.hv_order.specs.Meanings.{Meaning, AreOrders}
 use Rattle.hv_order.specs.Precedence.{Precedes, of_pre, of_line}
-use Rattle.hv_order.specs.Schedules.{begins, ends, IsSchedule, Schedule, IsWindow, IsExchange}
-use Rattle.hv_order.specs.Laws.{ExchangeLaw}
+use Rattle.hv_order.specs.Schedules.{begins, ends, IsSchedule, Schedule, IsWindow, HasWindow, IsExchange, for_lines}
+use Rattle.hv_order.specs.Laws.{ExchangeLaw, LeastExchangeLaw}
 use Rattle.hv_order.proofs.Ancestry
 use Rattle.hv_order.proofs.Ancestry.{under}
 use Rattle.hv_order.proofs.Precedence
@@ -42,7 +42,7 @@ module _ (t : Tree) (tree : IsTree t) (v : ℕ) (rv : Reached t (Task v)) where
     -- pairs of nodes that are not at or below v are a's
     old_pair : (n : Node) (x y d e : Item) → InTree t n → (IsAbove t (Task v) n → ⊥) → Mem d (kids t n) → Mem e (kids t n) → (of_node c.choice n).before d e ≡ true → AtOrBelow t d x → AtOrBelow t e y → Order t a.choice x y
     old_pair n x y d e r out m k h p q =
-        let P : Candidate → Type 0 = λ u. u.before d e ≡ true in
+        let P : Meaning → Type 0 = λ u. u.before d e ≡ true in
         by_node n r m k (subst P (same_node n out) h) p q
 
     node_out : (n : Node) (d x : Item) → Mem d (kids t n) → AtOrBelow t d x → (AtOrBelow t (Task v) x → ⊥) → IsAbove t (Task v) n → ⊥
@@ -68,7 +68,7 @@ module _ (t : Tree) (tree : IsTree t) (v : ℕ) (rv : Reached t (Task v)) where
         by_case : (n : Node) → InTree t n → Mem d (kids t n) → Mem e (kids t n) → (of_node c.choice n).before d e ≡ true → IsAbove t (Task v) n ⊎ (IsAbove t (Task v) n → ⊥) → Precedes (line_tree t v) b.choice x y
         by_case Root r m k h (inl l) = absurd l
         by_case (Line w) r m k h (inl l) =
-            let P : Candidate → Type 0 = λ u. u.before d e ≡ true in
+            let P : Meaning → Type 0 = λ u. u.before d e ≡ true in
             of_line (in_line (Task w) l) m k (subst P (ex.below_line w l) h) (above_same t v d i) (above_same t v e j)
         by_case n r m k h (inr out) =
             let f : d ≡ e = two_above n d e r m k (above_line n d x r out m i p) (above_line n e y r out k j q) in
@@ -136,3 +136,15 @@ module _ (t : Tree) (tree : IsTree t) (v : ℕ) (rv : Reached t (Task v)) where
 pub exchange_law : ExchangeLaw
 exchange_law t v a b c low high s f tree rv orders orders_c whole part window late early ex =
     exchanged t tree v rv a b c orders orders_c ex low high s f whole part window late early
+
+-- a window that ends earlier
+sooner : (t : Tree) (v : ℕ) (a : Schedule) (s f g : ℕ) → g ≤ f → IsWindow t v a s f → IsWindow t v a s g
+sooner t v a s f g le w = record { before = w.before; behind = λ y i r p. let h = w.behind y i r p in omega arith }
+
+pub least_exchange_law : LeastExchangeLaw
+least_exchange_law t v a b c low high f w tree rv orders orders_c whole part least ex =
+    let own = least (record { choice = for_lines a.choice; at = a.at }) w.finish w.within in
+    let late = w.late in
+    let early = w.early in
+    let bound : f ≤ high = omega arith in
+    exchange_law t v a b c low high w.start f tree rv orders orders_c whole part (sooner t v a w.start w.finish f own w.window) late bound ex

@@ -1,20 +1,20 @@
--- A sequence of all actions of the plan executes exactly where it runs: no state is left out.
+-- A sequence of all actions of the plan executes exactly where it can be run: no state is left out.
 use Rattle.std.proofs.Common.{◌≡◌, ℕ, ◌+◌, ◌<◌, ◌≤◌, true, List, [], ◌∷◌, sym, ap, subst, inl, inr, arith, ◌⊎◌}
 use Rattle.std.proofs.lemmas.Bool.{cases_lt}
 use Rattle.hv_plan.specs.Trees.{Item, Act, Task, Pre, Mem}
-use Rattle.hv_order.specs.Candidates.{Choice}
-use Rattle.hv_order.specs.Sequences.{Executes, Runs}
+use Rattle.hv_order.specs.Meanings.{Choice}
+use Rattle.hv_order.specs.Sequences.{Executes, Passes}
 use Rattle.hv_order.proofs.Members.{act_same, act_not_pre}
-use Rattle.hv_order.proofs.Clocks.{runs_bound}
+use Rattle.hv_order.proofs.Clocks.{passes_bound}
 
--- a sequence that runs from s on has no action before s
-runs_from : (o : Choice) (q : List Item) (s f k : ℕ) → Runs o s q f → Mem (Act k) q → s ≤ k
-runs_from o [] s f k runs m = absurd m
-runs_from o (Act j ∷ q) s f k runs (inl e) = let (late, rest) = runs in let same : k ≡ j = act_same k j e in omega arith
-runs_from o (Act j ∷ q) s f k runs (inr m) = let (late, rest) = runs in let later = runs_from o q (j + 1) f k rest m in omega arith
-runs_from o (Task v ∷ q) s f k runs m = absurd runs
-runs_from o (Pre v ∷ q) s f k runs (inl e) = absurd (act_not_pre k v e)
-runs_from o (Pre v ∷ q) s f k runs (inr m) = let (at, late, holds, rest) = runs in let later = runs_from o q at f k rest m in omega arith
+-- a sequence that can be run from s on has no action before s
+passes_from : (o : Choice) (q : List Item) (s f k : ℕ) → Passes o s q f → Mem (Act k) q → s ≤ k
+passes_from o [] s f k passes m = absurd m
+passes_from o (Act j ∷ q) s f k passes (inl e) = let (late, rest) = passes in let same : k ≡ j = act_same k j e in omega arith
+passes_from o (Act j ∷ q) s f k passes (inr m) = let (late, rest) = passes in let later = passes_from o q (j + 1) f k rest m in omega arith
+passes_from o (Task v ∷ q) s f k passes m = absurd passes
+passes_from o (Pre v ∷ q) s f k passes (inl e) = absurd (act_not_pre k v e)
+passes_from o (Pre v ∷ q) s f k passes (inr m) = let (at, late, holds, rest) = passes in let later = passes_from o q at f k rest m in omega arith
 
 mem_behind_act : (k j : ℕ) (q : List Item) → (k ≡ j → ⊥) → Mem (Act k) (Act j ∷ q) → Mem (Act k) q
 mem_behind_act k j q other (inl e) = absurd (other (act_same k j e))
@@ -25,38 +25,38 @@ mem_behind_pre k v q (inl e) = absurd (act_not_pre k v e)
 mem_behind_pre k v q (inr m) = m
 
 -- the first item begins where the sequence does, or action s would be left out
-first_at : (o : Choice) (q : List Item) (s at next f : ℕ) → s ≤ at → at ≤ next → next ≤ f → Runs o next q f → ((k : ℕ) → s ≤ k → k < at → Mem (Act k) q) → at ≡ s
+first_at : (o : Choice) (q : List Item) (s at next f : ℕ) → s ≤ at → at ≤ next → next ≤ f → Passes o next q f → ((k : ℕ) → s ≤ k → k < at → Mem (Act k) q) → at ≡ s
 first_at o q s at next f late after bound rest all = by_order (cases_lt s at)
   where
     by_order : (s < at) ⊎ (at ≤ s) → at ≡ s
     by_order (inl h) =
-        let left_out = runs_from o q next f s rest (all s (omega arith) h) in
+        let left_out = passes_from o q next f s rest (all s (omega arith) h) in
         absurd (omega arith)
     by_order (inr h) = omega arith
 
-pub executes_from : (o : Choice) (q : List Item) (s f : ℕ) → Runs o s q f → ((k : ℕ) → s ≤ k → k < f → Mem (Act k) q) → Executes o s q f
-executes_from o [] s f runs all = by_order (cases_lt s f)
+pub executes_from : (o : Choice) (q : List Item) (s f : ℕ) → Passes o s q f → ((k : ℕ) → s ≤ k → k < f → Mem (Act k) q) → Executes o s q f
+executes_from o [] s f passes all = by_order (cases_lt s f)
   where
     by_order : (s < f) ⊎ (f ≤ s) → s ≡ f
     by_order (inl h) = absurd (all s (omega arith) h)
     by_order (inr h) = omega arith
-executes_from o (Act j ∷ q) s f runs all =
-    let (late, rest) = runs in
-    let bound = runs_bound o q (j + 1) f rest in
+executes_from o (Act j ∷ q) s f passes all =
+    let (late, rest) = passes in
+    let bound = passes_bound o q (j + 1) f rest in
     let here : j ≡ s = first_at o q s j (j + 1) f late (omega arith) bound rest (λ k a b. mem_behind_act k j q (λ h. omega arith) (all k a (omega arith))) in
     (here, subst (λ n. Executes o n q f) (ap (λ n. n + 1) here) (executes_from o q (j + 1) f rest (λ k a b. mem_behind_act k j q (λ h. omega arith) (all k (omega arith) b))))
-executes_from o (Task v ∷ q) s f runs all = absurd runs
-executes_from o (Pre v ∷ q) s f runs all =
-    let (at, late, holds, rest) = runs in
-    let bound = runs_bound o q at f rest in
+executes_from o (Task v ∷ q) s f passes all = absurd passes
+executes_from o (Pre v ∷ q) s f passes all =
+    let (at, late, holds, rest) = passes in
+    let bound = passes_bound o q at f rest in
     let here : at ≡ s = first_at o q s at at f late (omega arith) bound rest (λ k a b. mem_behind_pre k v q (all k a (omega arith))) in
     (subst (λ n. (o.line v).true_at n ≡ true) here holds, subst (λ n. Executes o n q f) here (executes_from o q at f rest (λ k a b. mem_behind_pre k v q (all k (omega arith) b))))
 
-pub runs_of : (o : Choice) (q : List Item) (s f : ℕ) → Executes o s q f → Runs o s q f
-runs_of o [] s f same = omega arith
-runs_of o (Act j ∷ q) s f executes =
+pub passes_of : (o : Choice) (q : List Item) (s f : ℕ) → Executes o s q f → Passes o s q f
+passes_of o [] s f same = omega arith
+passes_of o (Act j ∷ q) s f executes =
     let (here, rest) = executes in
     let at : j ≡ s = here in
-    (omega arith, runs_of o q (j + 1) f (subst (λ n. Executes o n q f) (ap (λ n. n + 1) (sym at)) rest))
-runs_of o (Task v ∷ q) s f executes = absurd executes
-runs_of o (Pre v ∷ q) s f executes = let (holds, rest) = executes in (s, omega arith, holds, runs_of o q s f rest)
+    (omega arith, passes_of o q (j + 1) f (subst (λ n. Executes o n q f) (ap (λ n. n + 1) (sym at)) rest))
+passes_of o (Task v ∷ q) s f executes = absurd executes
+passes_of o (Pre v ∷ q) s f executes = let (holds, rest) = executes in (s, omega arith, holds, passes_of o q s f rest)

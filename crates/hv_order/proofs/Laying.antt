@@ -2,7 +2,7 @@
 use Rattle.std.proofs.Common.{◌≡◌, ℕ, ◌≤◌, Bool, true, false, List, [], ◌∷◌, refl, sym, ap, ◌∙◌, subst, inl, inr, arith, ◌⊎◌, Option, Some, None}
 use Rattle.std.specs.Prelude.{if◌then◌else◌, max}
 use Rattle.hv_plan.specs.Trees.{Item, Mem, Distinct}
-use Rattle.hv_order.specs.Candidates.{IsOrder}
+use Rattle.hv_order.specs.Meanings.{IsOrder}
 use Rattle.hv_order.specs.Finishes.{FitTogether}
 use Rattle.hv_order.specs.Tables.{IsLeastAt, IsLeast, and_then, earliest_start, last_finish, layout_finish, Respects, IsSort}
 use Rattle.hv_order.proofs.Members.{same_item, first_same, second_same, pair_same}

@@ -4,7 +4,7 @@ use Rattle.hv_order.proofs.Ancestry
 use Rattle.hv_order.proofs.Members.{pre_not_task, pre_same}
 use Rattle.hv_order.proofs.Ancestry.{reached_initial, reached_child, reached_below, Above, above, same, above_pre, above_child, under}
 use Rattle.hv_plan.specs.Trees.{Item, Task, Pre, Mem, Tree, AtOrBelow, its_pre, its_child, Reached, IsSubtask, IsTree}
-use Rattle.hv_order.specs.Candidates.{Candidate, Choice, IsOrder, AreOrders}
+use Rattle.hv_order.specs.Meanings.{Meaning, Choice, IsOrder, AreOrders}
 use Rattle.hv_order.specs.Precedence.{Precedes, of_pre, of_line, of_root}
 
 -- the initial network and the lines alike
@@ -24,7 +24,7 @@ abbrev pub IsAbove : Tree → Item → Node → Type 0
 IsAbove t c Root = ⊥
 IsAbove t c (Line v) = AtOrBelow t c (Task v)
 
-abbrev pub of_node : Choice → Node → Candidate
+abbrev pub of_node : Choice → Node → Meaning
 of_node o Root = o.root
 of_node o (Line v) = o.line v
 

@@ -3,7 +3,7 @@ use Rattle.std.proofs.Common.{◌≡◌, ℕ, zero, suc, ◌+◌, ◌≤◌, ◌
 use Rattle.std.proofs.lemmas.Bool.{cases_lt}
 use Rattle.std.specs.Prelude.{slice_get}
 use Rattle.hv_order.specs.Tables.{IsLeastAt, IsLeast}
-use Rattle.hv_order.specs.Runs.{IsRow, IsRunOf, AreRows, IsEarlier}
+use Rattle.hv_order.specs.inside.Runs.{IsRow, IsRunOf, IsEarlier, AreRising, AreBefore}
 use Rattle.hv_order.specs.declared.runs.Run.{Run}
 use Rattle.hv_order.specs.declared.runs.Row.{Row}
 use Rattle.hv_order.proofs.Capped.{none_later}
@@ -28,8 +28,12 @@ to_the_end Fit n s r r' earlier is e e' l = record {
   least = λ x a b. rw e' (none_later Fit n s x earlier a (rw e at (is.least s (omega arith) is.begun)));
 }
 
+-- each row is that of the node of its number
+abbrev AreRowsOf : (ℕ → ℕ → ℕ → Type 0) → ℕ → List Row → Type 0
+AreRowsOf Fit n rows = (v : ℕ) (r : Row) → slice_get rows v ≡ Some r → IsRow (Fit v) n 0 r.runs.items
+
 -- one row more
-pub rows_more : (Fit : ℕ → ℕ → ℕ → Type 0) (n : ℕ) (rows : List Row) (r : Row) → AreRows Fit n rows → IsRow (Fit (length rows)) n 0 r.runs.items → AreRows Fit n (rows ++ r ∷ [])
+pub rows_more : (Fit : ℕ → ℕ → ℕ → Type 0) (n : ℕ) (rows : List Row) (r : Row) → AreRowsOf Fit n rows → IsRow (Fit (length rows)) n 0 r.runs.items → AreRowsOf Fit n (rows ++ r ∷ [])
 rows_more Fit n [] r are is zero q e = let k : r ≡ q = (let i : Some r ≡ Some q = e in cc) in rw (sym k) is
 rows_more Fit n [] r are is (suc v) q e = absurd (let i : None ≡ Some q = e in cc)
 rows_more Fit n (x ∷ xs) r are is zero q e = are zero q e
@@ -66,7 +70,7 @@ some_run Fit n s [] is le = let a : s ≡ n + 1 = is in absurd (omega arith)
 some_run Fit n s (r ∷ rs) is le = omega arith
 
 -- those up to the middle end too early where the middle does
-pub behind_middle : (runs : List Run) (x m : ℕ) → ((i j : ℕ) (d : Run) → i < j → j < length runs → (get_or runs i d).last < (get_or runs j d).last) → m < length runs → ((d : Run) → (get_or runs m d).last < x) → (j : ℕ) (d : Run) → j < m + 1 → (get_or runs j d).last < x
+pub behind_middle : (runs : List Run) (x m : ℕ) → AreRising runs → m < length runs → ((d : Run) → (get_or runs m d).last < x) → AreBefore runs (m + 1) x
 behind_middle runs x m rise lt here j d le = by_order (cases_lt j m)
   where
     by_order : (j < m) ⊎ (m ≤ j) → (get_or runs j d).last < x

@@ -3,10 +3,10 @@
 use Rattle.std.proofs.Common.{◌≡◌, ℕ, ◌+◌, ◌*◌, ◌<◌, ◌≤◌, true, List, [], ◌∷◌, refl, ap, inl, inr, arith, ◌⊎◌}
 use Rattle.std.proofs.lemmas.Bool.{cases_lt}
 use Rattle.hv_plan.specs.Trees.{Item, Act, Task, Pre, Mem, Tree, Reached, IsPrimitive, IsTree}
-use Rattle.hv_order.specs.Candidates.{Choice, AreOrders}
+use Rattle.hv_order.specs.Meanings.{Choice, AreOrders}
 use Rattle.hv_order.specs.Networks.{Network, HasDerivation}
 use Rattle.hv_order.specs.Precedence.{IsEnd}
-use Rattle.hv_order.specs.Sequences.{IsLinearization, Runs, Placed}
+use Rattle.hv_order.specs.Sequences.{IsLinearization, Passes, Placed}
 use Rattle.hv_order.specs.Schedules.{begins, ends, IsSchedule, HasSchedule}
 use Rattle.hv_order.specs.Laws.{ScheduleLaw}
 use Rattle.hv_order.proofs.Members.{code}
@@ -15,7 +15,7 @@ use Rattle.hv_order.proofs.Ancestry.{reached_pre}
 use Rattle.hv_order.proofs.End.{end_law}
 use Rattle.hv_order.proofs.Derivations.{derivation}
 use Rattle.hv_order.proofs.Precedence.{to_order, from_order, transitive, above_pre_step}
-use Rattle.hv_order.proofs.Clocks.{clock, runs_bound}
+use Rattle.hv_order.proofs.Clocks.{clock, passes_bound}
 use Rattle.hv_order.proofs.Ranks.{rank, rank_less}
 use Rattle.hv_order.proofs.Sorting.{Less, by_place, by_rank, by_code, less_place, sorted, IsSorted, sorted_sorted, sorted_has, sorted_from, sorted_distinct, sorted_earlier}
 
@@ -47,27 +47,27 @@ record Between (at : ℕ → ℕ) (s f : ℕ) (x : Item) : Type 0 where
   from : s ≤ begins at x
   until : ends at x ≤ f
 
--- a sorted list of steps runs
-sorted_runs :
+-- a sorted list of steps can be run
+sorted_passes :
     (o : Choice) (at : ℕ → ℕ) (order : Item → ℕ) (s f : ℕ) (q : List Item) → s ≤ f
     → IsSorted (place_of at) order q → ((x : Item) → Mem x q → Between at s f x)
-    → ((v : ℕ) → Mem (Pre v) q → (o.line v).true_at (at v) ≡ true) → Runs o s q f
-sorted_runs o at order s f [] le sort between holds = le
-sorted_runs o at order s f (Act j ∷ q) le sort between holds =
+    → ((v : ℕ) → Mem (Pre v) q → (o.line v).true_at (at v) ≡ true) → Passes o s q f
+sorted_passes o at order s f [] le sort between holds = le
+sorted_passes o at order s f (Act j ∷ q) le sort between holds =
     let (before_rest, rest) = sort in
     let here = between (Act j) (inl refl) in
-    (here.from, sorted_runs o at order (j + 1) f q here.until rest (λ x m. later x m) (λ v m. holds v (inr m)))
+    (here.from, sorted_passes o at order (j + 1) f q here.until rest (λ x m. later x m) (λ v m. holds v (inr m)))
   where
     later : (x : Item) → Mem x q → Between at (j + 1) f x
     later x m =
         let (before_rest, rest) = sort in
         let r = between x (inr m) in
         record { primitive = r.primitive; from = later_act at order j x r.primitive (before_rest x m); until = r.until }
-sorted_runs o at order s f (Task v ∷ q) le sort between holds = (between (Task v) (inl refl)).primitive
-sorted_runs o at order s f (Pre v ∷ q) le sort between holds =
+sorted_passes o at order s f (Task v ∷ q) le sort between holds = (between (Task v) (inl refl)).primitive
+sorted_passes o at order s f (Pre v ∷ q) le sort between holds =
     let (before_rest, rest) = sort in
     let here = between (Pre v) (inl refl) in
-    (at v, here.from, holds v (inl refl), sorted_runs o at order (at v) f q here.until rest (λ x m. later x m) (λ u m. holds u (inr m)))
+    (at v, here.from, holds v (inl refl), sorted_passes o at order (at v) f q here.until rest (λ x m. later x m) (λ u m. holds u (inr m)))
   where
     later : (x : Item) → Mem x q → Between at (at v) f x
     later x m =
@@ -101,11 +101,11 @@ line_of_pre t tree v r = record {
 }
 
 module _ (t : Tree) (tree : IsTree t) (o : Choice) (orders : AreOrders t o) where
-  -- a sequence of a network that runs
+  -- a sequence of a network that can be run
   record Sequenced (n : Network) (s f : ℕ) : Type 0 where
     sequence : List Item
     linearizes : IsLinearization n sequence
-    runs : Runs o s sequence f
+    passes : Passes o s sequence f
 
   module _ (n : Network) (at : ℕ → ℕ) (s f : ℕ) (end : IsEnd t o n) (schedule : IsSchedule t o at s f) (le : s ≤ f) where
     order_of : Item → ℕ
@@ -152,8 +152,8 @@ module _ (t : Tree) (tree : IsTree t) (o : Choice) (orders : AreOrders t o) wher
                 (sorted_has (place_of at) order_of y n.items (end.second_in x y m))
                 (in_place x y m);
           };
-          runs =
-              sorted_runs o at order_of s f _ le sort
+          passes =
+              sorted_passes o at order_of s f _ le sort
               (λ x m. between x (sorted_from (place_of at) order_of x n.items m))
               (λ v m. schedule.holds v (line_of_pre t tree v (end.reached (Pre v) (sorted_from (place_of at) order_of (Pre v) n.items m))));
         }
@@ -163,13 +163,13 @@ module _ (t : Tree) (tree : IsTree t) (o : Choice) (orders : AreOrders t o) wher
   placed_from d s f h =
       let end = end_law t o d.lines d.end tree orders d.derives in
       let q = sequenced d.end h.at s f end h.schedule h.ordered in
-      record { lines = d.lines; end = d.end; sequence = q.sequence; derives = d.derives; linearizes = q.linearizes; runs = q.runs }
+      record { lines = d.lines; end = d.end; sequence = q.sequence; derives = d.derives; linearizes = q.linearizes; passes = q.passes }
 
   -- and a sequence gives a schedule
   pub schedule_from : (s f : ℕ) → Placed t o s f → HasSchedule t o s f
   schedule_from s f p =
       let end = end_law t o p.lines p.end tree orders p.derives in
-      let c = clock o p.sequence s f p.linearizes.distinct p.runs in
+      let c = clock o p.sequence s f p.linearizes.distinct p.passes in
       let stands = λ (x : Item) (i : IsPrimitive x) (r : Reached t x). p.linearizes.covers x (end.complete x i r) in
       record {
         at = c.at;
@@ -180,7 +180,7 @@ module _ (t : Tree) (tree : IsTree t) (o : Choice) (orders : AreOrders t o) wher
           order = λ x y i j r k h.
               c.order x y (p.linearizes.keeps x y (end.paired x y (end.complete x i r) (end.complete y j k) h));
         };
-        ordered = runs_bound o p.sequence s f p.runs;
+        ordered = passes_bound o p.sequence s f p.passes;
       }
 
 pub schedule_law : ScheduleLaw

@@ -2,7 +2,7 @@
 -- behind all or none.
 use Rattle.std.proofs.Common.{ℕ, sym, subst}
 use Rattle.hv_plan.specs.Trees.{Item, Task, Tree, AtOrBelow, its_pre, its_child, Reached, IsTree}
-use Rattle.hv_order.specs.Candidates.{Choice}
+use Rattle.hv_order.specs.Meanings.{Choice}
 use Rattle.hv_order.specs.Laws.{SplitLaw}
 use Rattle.hv_order.proofs.Ancestry.{under}
 use Rattle.hv_order.proofs.Precedence.{Line, Meet, meet_same, meet_over, meet_under, Order, by_pre, by_node, to_order, from_order, meet, above_kid, above_pre_step, parent_of}

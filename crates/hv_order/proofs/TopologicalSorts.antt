@@ -2,7 +2,7 @@
 use Rattle.std.proofs.Common.{◌≡◌, ℕ, ◌+◌, ◌<◌, ◌≤◌, Bool, true, false, List, [], ◌∷◌, refl, subst, inl, inr, arith}
 use Rattle.std.specs.Prelude.{if◌then◌else◌}
 use Rattle.hv_plan.specs.Trees.{Item, Mem}
-use Rattle.hv_order.specs.Candidates.{IsOrder}
+use Rattle.hv_order.specs.Meanings.{IsOrder}
 use Rattle.hv_order.specs.Tables.{Respects, HasSort}
 use Rattle.hv_order.specs.Laws.{SortLaw}
 use Rattle.hv_order.proofs.Members.{not_true}

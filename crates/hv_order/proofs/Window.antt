@@ -2,7 +2,7 @@
 use Rattle.std.proofs.Common.{◌≡◌, ℕ, ◌≤◌, List, [], ◌∷◌, refl, ap, subst, inl, inr, arith, ◌⊎◌}
 use Rattle.std.specs.Prelude.{max}
 use Rattle.hv_plan.specs.Trees.{Item, Task, Pre, Mem, Tree, AtOrBelow, itself, its_pre, Reached, IsPrimitive, IsTree, line_tree}
-use Rattle.hv_order.specs.Candidates.{AreOrders}
+use Rattle.hv_order.specs.Meanings.{AreOrders}
 use Rattle.hv_order.specs.Networks.{Network}
 use Rattle.hv_order.specs.Precedence.{Precedes, of_pre, of_line, of_root, IsEnd}
 use Rattle.hv_order.specs.Schedules.{begins, ends, IsSchedule, Schedule, IsWindow, for_lines, HasWindow}

@@ -1,16 +1,7 @@
 -- What the check of a certificate looks at: a choice, and one index for each precondition step.
-use Rattle.std.specs.Prelude.{◌≡◌, ℕ, ◌+◌, ◌≤◌, true, ◌&&◌, ◌==◌}
+use Rattle.std.specs.Prelude.{◌≡◌, ℕ, ◌+◌, ◌≤◌, true}
 use Rattle.hv_plan.specs.Trees.{Item, Act, Task, Pre, Mem, Tree, Reached}
-use Rattle.hv_order.specs.Candidates.{Choice}
-
--- the same choice with each precondition pinned to one index: it is true there, if it was, and
--- nowhere else
-abbrev pub pinned_choice : Choice → (ℕ → ℕ) → Choice
-pinned_choice o at =
-    record {
-      root = o.root;
-      line = λ v. record { before = (o.line v).before; true_at = λ k. (o.line v).true_at k && (k == at v) };
-    }
+use Rattle.hv_order.specs.Meanings.{Choice}
 
 -- where a child starts: an action in the state of its number, a line at its precondition's index
 abbrev pub subtask_start : (ℕ → ℕ) → Item → ℕ

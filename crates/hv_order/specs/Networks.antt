@@ -4,7 +4,7 @@
 -- comes before all subtasks. It stays when the method has no subtask.
 use Rattle.std.specs.Prelude.{◌≡◌, ℕ, Bool, false, if◌then◌else◌, ◌==◌, List, [], ◌∷◌, ◌++◌, map}
 use Rattle.hv_plan.specs.Trees.{Item, Act, Task, Pre, Mem, Distinct, Tree, Reached, IsPrimitive}
-use Rattle.hv_order.specs.Candidates.{Choice}
+use Rattle.hv_order.specs.Meanings.{Choice}
 
 -- Items, and pairs (x, y) of them where x must come before y. A list stands for the set of its members
 pub record Network : Type 0 where

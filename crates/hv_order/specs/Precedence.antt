@@ -1,7 +1,7 @@
 -- Which steps must come before which, said of the tree alone, with no derivation.
 use Rattle.std.specs.Prelude.{◌≡◌, ℕ, true, ◌↔◌}
 use Rattle.hv_plan.specs.Trees.{Item, Task, Pre, Mem, Tree, AtOrBelow, Reached, IsPrimitive}
-use Rattle.hv_order.specs.Candidates.{Choice}
+use Rattle.hv_order.specs.Meanings.{Choice}
 use Rattle.hv_order.specs.Networks.{Network}
 
 -- x must come before y: x is the precondition step of a line, and y is or stands below one of its

@@ -1,7 +1,7 @@
 -- Schedules: a state index for each precondition step, instead of a sequence.
 use Rattle.std.specs.Prelude.{◌≡◌, ℕ, ◌+◌, ◌≤◌, true}
 use Rattle.hv_plan.specs.Trees.{Item, Act, Task, Pre, Tree, Reached, IsPrimitive, AtOrBelow, line_tree}
-use Rattle.hv_order.specs.Candidates.{Choice, free_candidate}
+use Rattle.hv_order.specs.Meanings.{Choice, free_meaning}
 use Rattle.hv_order.specs.Precedence.{Precedes}
 
 -- the state in which a step begins: action k in state k, a precondition step at its index
@@ -45,7 +45,7 @@ pub record IsWindow (t : Tree) (v : ℕ) (a : Schedule) (s f : ℕ) : Type 0 whe
 
 -- the choice for the lines alone: the tree of one line has no root candidate of its own
 abbrev pub for_lines : Choice → Choice
-for_lines o = record { root = free_candidate; line = o.line }
+for_lines o = record { root = free_meaning; line = o.line }
 
 -- The steps of the line v lie between one start and one finish, which no other step meets
 pub record HasWindow (t : Tree) (v : ℕ) (a : Schedule) (low high : ℕ) : Type 0 where

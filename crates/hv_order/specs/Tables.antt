@@ -1,7 +1,7 @@
 -- The table of least finishes, as it is computed: children first, and for each start the least finish.
 use Rattle.std.specs.Prelude.{◌≡◌, ℕ, zero, suc, ◌+◌, ◌-◌, ◌≤◌, Bool, true, if◌then◌else◌, nat_le, nat_lt, max, min, List, [], ◌∷◌, Option, Some, None}
 use Rattle.hv_plan.specs.Trees.{Item, Act, Task, Pre, Mem, Distinct, Tree}
-use Rattle.hv_order.specs.Candidates.{Candidate, IsOrder}
+use Rattle.hv_order.specs.Meanings.{Meaning, IsOrder}
 
 -- f is at most n, and the least number at which P holds
 pub record IsLeastAt (P : ℕ → Type 0) (n f : ℕ) : Type 0 where
@@ -52,8 +52,8 @@ layout_finish row before at laid (x ∷ xs) =
 
 -- the finish of a line with one candidate: the precondition step stands at the first index from s to
 -- n where it is true, and the children are laid out behind it
-abbrev pub candidate_finish : (Item → ℕ → Option ℕ) → ℕ → ℕ → Candidate → List Item → Option ℕ
-candidate_finish row n s c xs =
+abbrev pub meaning_finish : (Item → ℕ → Option ℕ) → ℕ → ℕ → Meaning → List Item → Option ℕ
+meaning_finish row n s c xs =
     and_then (first_index c.true_at (n + 1 - s) s) (λ at. layout_finish row c.before at [] xs)
 
 -- the earlier of two finishes
@@ -63,7 +63,7 @@ earlier_finish (Some f) None = Some f
 earlier_finish (Some f) (Some g) = Some (min f g)
 
 -- the earliest finish that one of the candidates gives
-abbrev pub best_finish : (Candidate → Option ℕ) → List Candidate → Option ℕ
+abbrev pub best_finish : (Meaning → Option ℕ) → List Meaning → Option ℕ
 best_finish finish [] = None
 best_finish finish (c ∷ cs) = earlier_finish (finish c) (best_finish finish cs)
 
@@ -74,20 +74,20 @@ action_finish n k s = if nat_le s k then (if nat_lt k n then Some (k + 1) else N
 -- The least finish of an item for a start, from its children's. `sort v c` has the children of line v
 -- in an order that the candidate c allows; the tree is looked at `depth` levels deep
 abbrev pub least_finish :
-    (ℕ → List Item) → (ℕ → List Candidate) → (ℕ → Candidate → List Item)
+    (ℕ → List Item) → (ℕ → List Meaning) → (ℕ → Meaning → List Item)
     → ℕ → ℕ → Item → ℕ → Option ℕ
 least_finish children lines sort n zero (Act k) s = action_finish n k s
 least_finish children lines sort n zero (Task v) s = None
 least_finish children lines sort n zero (Pre v) s = None
 least_finish children lines sort n (suc depth) (Act k) s = action_finish n k s
 least_finish children lines sort n (suc depth) (Task v) s =
-    best_finish (λ c. candidate_finish (least_finish children lines sort n depth) n s c (sort v c)) (lines v)
+    best_finish (λ c. meaning_finish (least_finish children lines sort n depth) n s c (sort v c)) (lines v)
 least_finish children lines sort n (suc depth) (Pre v) s = None
 
 -- the least finish of the whole tree for a start
 abbrev pub root_finish :
-    Tree → List Candidate → (Candidate → List Item) → (ℕ → List Candidate)
-    → (ℕ → Candidate → List Item) → ℕ → ℕ → ℕ → Option ℕ
+    Tree → List Meaning → (Meaning → List Item) → (ℕ → List Meaning)
+    → (ℕ → Meaning → List Item) → ℕ → ℕ → ℕ → Option ℕ
 root_finish t roots root_sort lines sort n depth s =
     best_finish
     (λ c. layout_finish (least_finish t.children lines sort n depth) c.before s [] (root_sort c))
@@ -112,12 +112,12 @@ pub record HasSort (xs : List Item) (before : Item → Item → Bool) : Type 0 w
 
 -- each candidate of each line orders the line's children, and `sort` sorts them by it
 pub record AreSorts
-    (children : ℕ → List Item) (lines : ℕ → List Candidate) (sort : ℕ → Candidate → List Item)
+    (children : ℕ → List Item) (lines : ℕ → List Meaning) (sort : ℕ → Meaning → List Item)
     : Type 0 where
-  pub orders : (v : ℕ) (c : Candidate) → Mem c (lines v) → IsOrder (children v) c.before
-  pub sorts : (v : ℕ) (c : Candidate) → Mem c (lines v) → IsSort (children v) c.before (sort v c)
+  pub orders : (v : ℕ) (c : Meaning) → Mem c (lines v) → IsOrder (children v) c.before
+  pub sorts : (v : ℕ) (c : Meaning) → Mem c (lines v) → IsSort (children v) c.before (sort v c)
 
 -- each candidate of the root orders the initial tasks, and `sort` sorts them by it
-pub record AreRootSorts (t : Tree) (roots : List Candidate) (sort : Candidate → List Item) : Type 0 where
-  pub orders : (c : Candidate) → Mem c roots → IsOrder t.initial_tasks c.before
-  pub sorts : (c : Candidate) → Mem c roots → IsSort t.initial_tasks c.before (sort c)
+pub record AreRootSorts (t : Tree) (roots : List Meaning) (sort : Meaning → List Item) : Type 0 where
+  pub orders : (c : Meaning) → Mem c roots → IsOrder t.initial_tasks c.before
+  pub sorts : (c : Meaning) → Mem c roots → IsSort t.initial_tasks c.before (sort c)

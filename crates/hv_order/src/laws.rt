@@ -1,7 +1,7 @@
 //! The laws of hierarchical plans. Each function is empty: its contract names what is proved, and a
 //! caller knows it from the call on.
-ghost use Rattle.hv_order.specs.Laws.{ReachLaw, DerivationLaw, EndLaw, SameEndLaw, SplitLaw, WindowLaw, ExchangeLaw, WiderLaw, ScheduleLaw, PlacedLaw, SequenceLaw, TableLaw, LineLaw, RootLaw, JudgeLaw, RiseLaw, DepthLaw, SortLaw, CheckLaw};
-ghost use Rattle.hv_order.specs.Rows.{WorkedRows};
+ghost use Rattle.hv_order.specs.Laws.{ReachLaw, DerivationLaw, EndLaw, SameEndLaw, SplitLaw, SequenceWindowLaw, WindowLaw, ExchangeLaw, LeastExchangeLaw, WiderLaw, IndexLaw, ScheduleLaw, PlacedLaw, SequenceLaw, TableLaw, LineLaw, RootLaw, JudgeLaw, RiseLaw, DepthLaw, SortLaw, CheckLaw};
+ghost use Rattle.hv_order.specs.Examples.{WorkedExamples};
 
 /// Where each line is an initial task or a child of a line, every line belongs to the tree.
 pub fn reach_law()
@@ -19,6 +19,7 @@ pub fn end_law()
 /// Split: the steps below a line meet the rest of the plan only through one start and one finish.
 pub fn split_law()
     ensures order { SplitLaw }
+    ensures sequence { SequenceWindowLaw }
     ensures window { WindowLaw }
 {}
 
@@ -26,11 +27,13 @@ pub fn split_law()
 /// finish.
 pub fn exchange_law()
     ensures schedule { ExchangeLaw }
+    ensures least { LeastExchangeLaw }
     ensures wider { WiderLaw }
 {}
 
 /// Sequences, schedules and the condition on the tree say the same.
 pub fn sequence_law()
+    ensures index { IndexLaw }
     ensures schedule { ScheduleLaw }
     ensures placed { PlacedLaw }
     ensures sequence { SequenceLaw }
@@ -58,7 +61,7 @@ pub fn check_law()
     ensures { CheckLaw }
 {}
 
-/// The definitions, computed on worked rows.
-pub fn worked_rows()
-    ensures { WorkedRows }
+/// The definitions, computed on worked examples.
+pub fn worked_examples()
+    ensures { WorkedExamples }
 {}

@@ -1,9 +1,9 @@
 use Rattle.std.proofs.Common.{◌≡◌, length}
-use Rattle.hv_order.specs.Runs.{AreRows}
+use Rattle.hv_order.specs.inside.Runs.{AreRows}
 use Rattle.hv_order.proofs.runs.build.Given as goal
 
 abbrev pub invariant-loop-node : goal.invariant-loop-node
 invariant-loop-node g l = record {
   count : length l.rows.items ≡ l.node;
-  rows : AreRows (g.T.Settling.fit l.table) (g.T.Settling.last l.table) l.rows.items;
+  rows : AreRows (g.S.Settle.facts l.nodes) l.rows.items;
 }

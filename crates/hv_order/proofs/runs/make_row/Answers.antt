@@ -1,5 +1,5 @@
 use Rattle.std.proofs.Common.{rules, ◌≡◌, ◌<◌, ◌≤◌, ◌+◌, ◌++◌, ℕ, length, IfOk, Some, None, Option, ◌-◌, List, [], ◌∷◌, refl, sym, arith}
-use Rattle.hv_order.specs.Runs.{IsRow, AreRows, IsRunOf, IsEarlier}
+use Rattle.hv_order.specs.inside.Runs.{IsRow, AreRows, IsRunOf, IsEarlier}
 use Rattle.hv_order.specs.Tables.{IsLeast}
 use Rattle.hv_order.proofs.RunLemmas.{row_more, to_the_end, nothing_behind}
 use Rattle.hv_order.proofs.runs.make_row.Goals as goal

@@ -1,5 +1,5 @@
 use Rattle.std.proofs.Common.{◌+◌, ◌-◌, ◌++◌, ◌≡◌, ◌<◌, ◌≤◌, ℕ, length, Some, None, Option, List}
-use Rattle.hv_order.specs.Runs.{IsRow}
+use Rattle.hv_order.specs.inside.Runs.{IsRow}
 use Rattle.hv_order.specs.declared.runs.Run.{Run}
 use Rattle.hv_order.proofs.runs.make_row.Given as goal
 
@@ -7,7 +7,7 @@ use Rattle.hv_order.proofs.runs.make_row.Given as goal
 abbrev pub invariant-loop-start : goal.invariant-loop-start
 invariant-loop-start g l = record {
   within : l.start ≤ l.last + 1;
-  rest : (rest : List Run) → IsRow (g.T.Settling.fit l.table (length l.rows)) l.last l.start rest → IsRow (g.T.Settling.fit l.table (length l.rows)) l.last 0 (l.runs.items ++ rest);
+  rest : (rest : List Run) → IsRow ((g.S.Settle.facts l.nodes).fits (length l.rows)) l.last l.start rest → IsRow ((g.S.Settle.facts l.nodes).fits (length l.rows)) l.last 0 (l.runs.items ++ rest);
 }
 
 abbrev pub decreases-loop-start : goal.decreases-loop-start

@@ -1,9 +1,9 @@
--- The worked rows: their tables by computation, and what the laws make of them.
+-- The worked examples: their tables by computation, and what the laws make of them.
 use Rattle.std.proofs.Common.{◌≡◌, ℕ, zero, suc, Bool, true, List, [], ◌∷◌, refl, sym, ap, ◌∙◌, subst, inl, inr, arith}
 use Rattle.hv_plan.specs.Trees.{Item, Act, Task, Pre, Mem, itself, its_child, IsSubtask, IsTree, IsWithin, HasActions}
-use Rattle.hv_order.specs.Candidates.{Candidate, IsOrder}
+use Rattle.hv_order.specs.Meanings.{Meaning, IsOrder}
 use Rattle.hv_order.specs.Tables.{IsSort, AreSorts, AreRootSorts}
-use Rattle.hv_order.specs.Rows.{is_same, unordered, one_pair, middle, middle_children, middle_lines, middle_sort, middle_roots, reversed_roots, own_lines, WorkedRows}
+use Rattle.hv_order.specs.Examples.{is_same, unordered, one_pair, middle, middle_children, middle_lines, middle_sort, middle_roots, reversed_roots, own_lines, WorkedExamples}
 use Rattle.hv_order.proofs.Members.{and_left, and_right, number_from, not_true}
 use Rattle.hv_order.proofs.Judgement.{judge_law}
 
@@ -60,7 +60,7 @@ no_sort : (before : Item → Item → Bool) → IsSort [] before []
 no_sort before = record { has = λ x m. m; only = λ x m. m; distinct = tt; respects = tt }
 
 -- what holds of one candidate holds of all of a list that has it alone
-only_one : (P : Candidate → Type 0) (d : Candidate) → P d → (c : Candidate) → Mem c (d ∷ []) → P c
+only_one : (P : Meaning → Type 0) (d : Meaning) → P d → (c : Meaning) → Mem c (d ∷ []) → P c
 only_one P d fact c (inl e) = subst P (sym e) fact
 only_one P d fact c (inr m) = absurd m
 
@@ -70,7 +70,7 @@ acts_differ e = let clash : ◌≡◌ {A = ℕ} 0 1 = cc in absurd (omega arith)
 tasks_differ : Task 0 ≡ Task 1 → ⊥
 tasks_differ e = let clash : ◌≡◌ {A = ℕ} 0 1 = cc in absurd (omega arith)
 
--- the tree of the row `middle`
+-- the tree of `middle`
 middle_tree : IsTree middle
 middle_tree = record {
   initial_kind = λ x m. initial x m;
@@ -124,14 +124,14 @@ middle_actions (suc (suc k)) below = absurd (omega arith)
 act_sort : IsSort (Act 0 ∷ Act 1 ∷ []) (one_pair (Act 0) (Act 1)) (Act 0 ∷ Act 1 ∷ [])
 act_sort = pair_sort (Act 0) (Act 1) _ _ acts_differ (λ test. acts_differ (pair_first (Act 0) (Act 1) (Act 1) (Act 0) test)) (λ x m. m) (inl refl) (inr (inl refl))
 
-sorts_of : (lines : ℕ → List Candidate) → ((c : Candidate) → Mem c (lines 0) → IsOrder (Act 0 ∷ Act 1 ∷ []) c.before) → ((c : Candidate) → Mem c (lines 0) → IsSort (Act 0 ∷ Act 1 ∷ []) c.before (Act 0 ∷ Act 1 ∷ [])) → ((v : ℕ) (c : Candidate) → Mem c (lines (suc v)) → IsOrder [] c.before) → AreSorts middle_children lines middle_sort
+sorts_of : (lines : ℕ → List Meaning) → ((c : Meaning) → Mem c (lines 0) → IsOrder (Act 0 ∷ Act 1 ∷ []) c.before) → ((c : Meaning) → Mem c (lines 0) → IsSort (Act 0 ∷ Act 1 ∷ []) c.before (Act 0 ∷ Act 1 ∷ [])) → ((v : ℕ) (c : Meaning) → Mem c (lines (suc v)) → IsOrder [] c.before) → AreSorts middle_children lines middle_sort
 sorts_of lines order sort empty = record { orders = λ v c m. orders v c m; sorts = λ v c m. sorts v c m }
   where
-    orders : (v : ℕ) (c : Candidate) → Mem c (lines v) → IsOrder (middle_children v) c.before
+    orders : (v : ℕ) (c : Meaning) → Mem c (lines v) → IsOrder (middle_children v) c.before
     orders zero c m = order c m
     orders (suc v) c m = empty v c m
 
-    sorts : (v : ℕ) (c : Candidate) → Mem c (lines v) → IsSort (middle_children v) c.before (middle_children v)
+    sorts : (v : ℕ) (c : Meaning) → Mem c (lines v) → IsSort (middle_children v) c.before (middle_children v)
     sorts zero c m = sort c m
     sorts (suc v) c m = no_sort c.before
 
@@ -170,8 +170,8 @@ reversed_sorts = record {
     swapped x (inr (inl e)) = inl e
     swapped x (inr (inr m)) = absurd m
 
-pub worked_rows : WorkedRows
-worked_rows = record {
+pub worked_examples : WorkedExamples
+worked_examples = record {
   middle_finish = refl;
   middle_solved = judge_law middle middle_roots (λ c. Task 0 ∷ Task 1 ∷ []) middle_lines middle_sort 2 2 middle_tree free_sorts middle_sorts middle_within middle_actions;
   reversed_finish = refl;
@@ -182,9 +182,9 @@ worked_rows = record {
   orders_items = refl;
   orders_written_pairs = refl;
   orders_pairs = refl;
-  first_row = refl;
-  second_row = refl;
-  both_row = refl;
+  first_line = refl;
+  second_line = refl;
+  both_line = refl;
   first_finish = refl;
   both_finish = refl;
 }

@@ -1,0 +1,55 @@
+use Rattle.std.proofs.Common.{rules, suc, ◌≡◌, ◌<◌, ◌≤◌, ◌+◌, ℕ, length, Some, None, [], ◌∷◌, List, refl, sym, inl, inr, arith}
+use Rattle.hv_order.specs.declared.trial.Arranged.{Arranged}
+use Rattle.hv_order.specs.Tables.{IsLeast}
+use Rattle.hv_order.specs.inside.Facts.{FitsWith}
+use Rattle.hv_order.proofs.Choosing.{none_of_use, all_tried, one_tried}
+use Rattle.hv_order.proofs.frame.next_turn.Goals as goal
+
+pub returns-then-finish-earliest-clause-next : goal.returns-then-finish-earliest-clause-next
+returns-then-finish-earliest-clause-next g c =
+    let q = g.T.Table.facts c.args.table.now in
+    let e = c.requires.last in
+    λ all tried. rw c.in-Some.is (none_of_use all (FitsWith q c.args.start) q.last (g.C.Candidates.left c.args.left.now) c.in-Some.finish c.args.earliest (rw c.in-Some.is at tried) (λ d f m b. c.requires.earliest d f b) c.if-finish-earliest.true)
+
+pub begin-requires-clause-arranged : goal.begin-requires-clause-arranged
+begin-requires-clause-arranged g c =
+    let left : g.C.Candidates.left c.loop-candidate.left ≡ c.in-Some-2.candidate ∷ g.C.Candidates.left c.next.new.self = rw c.in-Some-2.is at c.in_ok-candidate.ensures in
+    c.loop-candidate.invariant.arranged c.in-Some-2.candidate (rw left (inl refl))
+
+pub returns-in-Some-3-clause-turn : goal.returns-in-Some-3-clause-turn
+returns-in-Some-3-clause-turn g c =
+    let left : g.C.Candidates.left c.loop-candidate.left ≡ c.in-Some-2.candidate ∷ g.C.Candidates.left c.next.new.self = rw c.in-Some-2.is at c.in_ok-candidate.ensures in
+    let inv = c.loop-candidate.invariant in
+    let made = rw c.in-Some-3.is at c.in_ok-trial.ensures in
+    let fewer = inv.fewer in
+    let long : length (g.C.Candidates.left c.loop-candidate.left) ≡ suc (length (g.C.Candidates.left c.next.new.self)) = rw left refl in
+    record {
+      trying = made.0;
+      cap = rw (made.1, sym c.requires.last) inv.cap;
+      within = rw (made.1, sym c.requires.last) inv.within;
+      arranged = inv.arranged c.in-Some-2.candidate (rw left (inl refl));
+      rest = λ d m. inv.arranged d (rw left (inr m));
+      fewer = omega arith;
+    }
+
+pub loop-candidate-preserved : goal.loop-candidate-preserved
+loop-candidate-preserved g c =
+    let q = g.T.Table.facts c.args.table.now in
+    let left : g.C.Candidates.left c.loop-candidate.left ≡ c.in-Some-2.candidate ∷ g.C.Candidates.left c.next.new.self = rw c.in-Some-2.is at c.in_ok-candidate.ensures in
+    let inv = c.loop-candidate.invariant in
+    let none : IsLeast (FitsWith q c.args.start c.in-Some-2.candidate) c.match-best.cap None = rw c.in_default-2.is at c.in_ok-trial.ensures in
+    let fewer = inv.fewer in
+    let long : length (g.C.Candidates.left c.loop-candidate.left) ≡ suc (length (g.C.Candidates.left c.next.new.self)) = rw left refl in
+    record {
+      cap = inv.cap;
+      within = inv.within;
+      arranged = λ d m. inv.arranged d (rw left (inr m));
+      fewer = omega arith;
+      tried = λ all best. one_tried all (FitsWith q c.args.start) q.last c.in-Some-2.candidate (g.C.Candidates.left c.next.new.self) c.args.best c.match-best.cap None (rw (sym c.requires.last) inv.cap) (rw left at (inv.tried all best)) none;
+    }
+
+pub returns-clause-next : goal.returns-clause-next
+returns-clause-next g c =
+    let q = g.T.Table.facts c.args.table.now in
+    let left : g.C.Candidates.left c.loop-candidate.left ≡ [] = rw c.in_default.is at c.in_ok-candidate.ensures in
+    λ all best. all_tried all (FitsWith q c.args.start) q.last c.args.best (rw left at (c.loop-candidate.invariant.tried all best))
