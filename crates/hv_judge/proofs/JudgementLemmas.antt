@@ -9,7 +9,7 @@ use Rattle.hv_judge.specs.declared.answer.FaultKind.{FaultKind}
 use Rattle.hv_judge.specs.declared.answer.Which.TheVariants as which
 use Rattle.hv_judge.specs.declared.judgement.Unread.{Unread}
 use Rattle.hv_judge.specs.declared.judgement.Unread.TheVariants as unread
-use Rattle.hv_judge.specs.declared.syntax.fault.SyntaxKind.{SyntaxKind}
+use Rattle.hv_syntax.specs.declared.fault.SyntaxKind.{SyntaxKind}
 use Rattle.hv_judge.specs.declared.world.fault.StaticKind.{StaticKind}
 use Rattle.hv_judge.specs.declared.world.fault.StaticKind.TheVariants as statics
 use Rattle.hv_judge.specs.declared.world.fault.StaticFault.{StaticFault}

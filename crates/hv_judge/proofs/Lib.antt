@@ -13,10 +13,10 @@ pub mod WorldLemmas
 pub mod CountLemmas
 pub mod TreeLemmas
 pub mod VerdictLemmas
-pub mod TextFaults
 pub mod WordPlaces
 pub mod StaticPlaces
 pub mod UniqueLemmas
+pub mod HeadlineLemmas
 pub mod JudgementLemmas
 pub mod Occurrences
 pub mod CauseLemmas

@@ -5,8 +5,8 @@ use Rattle.std.specs.Option.{is_some}
 use Rattle.hv_plan.specs.Trees.{Mem, Distinct}
 use Rattle.hv_text.specs.Trees.{Tree, word, list, Trees, none, more, place_of}
 use Rattle.hv_text.specs.declared.span.Span.{Span}
-use Rattle.hv_judge.specs.declared.syntax.fault.SyntaxKind.{SyntaxKind}
-use Rattle.hv_judge.specs.declared.syntax.fault.SyntaxKind.TheVariants as kinds
+use Rattle.hv_syntax.specs.declared.fault.SyntaxKind.{SyntaxKind}
+use Rattle.hv_syntax.specs.declared.fault.SyntaxKind.TheVariants as kinds
 use Rattle.hv_judge.specs.declared.syntax.word.Head.{Head}
 use Rattle.hv_judge.specs.declared.syntax.word.Head.TheVariants as heads
 use Rattle.hv_judge.specs.declared.syntax.word.Sort.{Sort}

@@ -1,14 +1,14 @@
 -- A plan without decomposition lines is a solution exactly where its lines have the names of the subtasks, in their order.
 use Rattle.std.proofs.Common.{◌≡◌, ◌+◌, ◌<◌, ◌≤◌, ℕ, suc, true, List, [], ◌∷◌, length, map, Some, refl, sym, ap, ◌∙◌, subst, inl, inr, arith}
 use Rattle.hv_plan.specs.Trees.{Item, Act, Task, Pre, Mem, Distinct, itself, IsSubtask, IsTree, IsWithin, HasActions}
-use Rattle.hv_order.specs.Candidates.{Candidate, IsOrder, AreCandidates, listed, listed_for}
+use Rattle.hv_order.specs.Meanings.{Meaning, IsOrder, AreMeanings, listed, listed_for}
 use Rattle.hv_order.specs.Finishes.{FitTogether, RootFitsBy, Fits, FitsAll}
 use Rattle.hv_order.specs.Laws.{SequenceLaw}
 use Rattle.hv_judge.proofs.Members.{MappedFrom, mem_map, mem_map_from, not_true, act_same}
 use Rattle.hv_plan.specs.Values.{Plan}
 use Rattle.hv_judge.specs.Trees.{ids_of, name_of}
 use Rattle.hv_judge.specs.Causes.{FormTree}
-use Rattle.hv_judge.specs.Solutions.{place_of, item_of, tree_of, stands_before, orders, candidate_of, IsMatching, IsOrderedBy}
+use Rattle.hv_judge.specs.Solutions.{place_of, item_of, tree_of, stands_before, orders, meaning_of, IsMatching, IsOrderedBy}
 use Rattle.hv_judge.proofs.Occurrences.{map_apart, distinct_map}
 use Rattle.hv_judge.proofs.Rising.{numbers, before_strict, before_passed, rising_from, rising_keeps, numbers_member, numbers_rise, are_numbers}
 use Rattle.hv_judge.proofs.Places.{place_below, places_apart, places_in_order, line_names, names_in_order}
@@ -86,12 +86,12 @@ module _ (p : Plan) (root : IsRooted p) where
     passed (Task v) y z e f = not_true e
     passed (Pre v) y z e f = not_true e
 
-    flat_candidates : AreCandidates (tree_of p) (listed (candidate_of p children ∷ [])) (listed_for (λ v. []))
-    flat_candidates = record { of_root = λ c m. of_root c m; of_lines = λ v c m. absurd m }
+    flat_meanings : AreMeanings (tree_of p) (listed (meaning_of p children ∷ [])) (listed_for (λ v. []))
+    flat_meanings = record { of_root = λ c m. of_root c m; of_lines = λ v c m. absurd m }
       where
-        of_root : (c : Candidate) → Mem c (candidate_of p children ∷ []) → IsOrder (map (item_of p) p.root.ids) c.before
+        of_root : (c : Meaning) → Mem c (meaning_of p children ∷ []) → IsOrder (map (item_of p) p.root.ids) c.before
         of_root c (inl same) =
-            subst (λ (d : Candidate). IsOrder (map (item_of p) p.root.ids) d.before) (sym same)
+            subst (λ (d : Meaning). IsOrder (map (item_of p) p.root.ids) d.before) (sym same)
             (record { strict = λ x m e. strict x e; passed = λ x y z m k j e f. passed x y z e f })
         of_root c (inr m) = absurd m
 
@@ -133,9 +133,9 @@ module _ (p : Plan) (root : IsRooted p) where
   in_plan_order (Task v) y e = not_true e
   in_plan_order (Pre v) y e = not_true e
 
-  lines_fit : FitsAll (tree_of p) (listed (candidate_of p (ids_of p.actions) ∷ [])) (listed_for (λ v. [])) 0 0 (length p.actions)
+  lines_fit : FitsAll (tree_of p) (listed (meaning_of p (ids_of p.actions) ∷ [])) (listed_for (λ v. [])) 0 0 (length p.actions)
   lines_fit = record {
-    candidate = candidate_of p (ids_of p.actions);
+    meaning = meaning_of p (ids_of p.actions);
     listed = inl refl;
     fact = record {
       ordered = omega arith;
@@ -152,8 +152,8 @@ module _ (p : Plan) (root : IsRooted p) where
 
   pub lines_are_ordered : SequenceLaw → IsOrderedBy p (ids_of p.actions)
   lines_are_ordered law =
-      (law (tree_of p) (candidate_of p (ids_of p.actions) ∷ []) (λ v. []) 0 (length p.actions) (flat_tree p)
-      (flat_candidates (ids_of p.actions) root.distinct_ids root.is_child) (flat_within p) flat_actions).1 lines_fit
+      (law (tree_of p) (meaning_of p (ids_of p.actions) ∷ []) (λ v. []) 0 (length p.actions) (flat_tree p)
+      (flat_meanings (ids_of p.actions) root.distinct_ids root.is_child) (flat_within p) flat_actions).1 lines_fit
 
   pub lines_match : (names : List (List ℕ)) → names ≡ line_names p.actions → IsMatching names p (ids_of p.actions)
   lines_match names same = record {
@@ -197,21 +197,21 @@ module _ (p : Plan) (root : IsRooted p) where
             let at = from.image in
             (omega arith, omega arith)
 
-    fit_of : FitsAll (tree_of p) (listed (candidate_of p children ∷ [])) (listed_for (λ v. [])) 0 0 (length p.actions)
+    fit_of : FitsAll (tree_of p) (listed (meaning_of p children ∷ [])) (listed_for (λ v. [])) 0 0 (length p.actions)
         → FitTogether (map (item_of p) p.root.ids) (orders (map (place_of p.actions) children)) (Fits (λ v. []) (listed_for (λ v. [])) 0) 0 (length p.actions)
     fit_of fits =
-        let fact = subst (λ (c : Candidate). RootFitsBy (map (item_of p) p.root.ids) (Fits (λ v. []) (listed_for (λ v. [])) 0) 0 (length p.actions) c) (only_candidate fits.candidate fits.listed) fits.fact in
+        let fact = subst (λ (c : Meaning). RootFitsBy (map (item_of p) p.root.ids) (Fits (λ v. []) (listed_for (λ v. [])) 0) 0 (length p.actions) c) (only_meaning fits.meaning fits.listed) fits.fact in
         fact.together
       where
-        only_candidate : (c : Candidate) → Mem c (candidate_of p children ∷ []) → c ≡ candidate_of p children
-        only_candidate c (inl same) = same
-        only_candidate c (inr m) = absurd m
+        only_meaning : (c : Meaning) → Mem c (meaning_of p children ∷ []) → c ≡ meaning_of p children
+        only_meaning c (inl same) = same
+        only_meaning c (inr m) = absurd m
 
     pub in_order : SequenceLaw → IsOrderedBy p children → children ≡ ids_of p.actions
     in_order law ordered =
         let fits =
-        (law (tree_of p) (candidate_of p children ∷ []) (λ v. []) 0 (length p.actions) (flat_tree p)
-        (flat_candidates children once only) (flat_within p) flat_actions).0 ordered in
+        (law (tree_of p) (meaning_of p children ∷ []) (λ v. []) 0 (length p.actions) (flat_tree p)
+        (flat_meanings children once only) (flat_within p) flat_actions).0 ordered in
         map_apart (place_of p.actions) children (ids_of p.actions)
         (λ i j m k same. places_apart p.actions i j (root.begins_line i (only i m)) k same)
         (row_from (fit_of fits) ∙ sym (places_in_order p.actions root.distinct_ids))

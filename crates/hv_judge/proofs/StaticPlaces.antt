@@ -9,7 +9,7 @@ use Rattle.hv_text.specs.Sexps.{spelled, spelled_all, closing, AreExpressions}
 use Rattle.hv_text.specs.Runs.{IsInOrder}
 use Rattle.hv_text.specs.declared.span.Span.{Span}
 use Rattle.hv_judge.specs.declared.syntax.field.Slot.TheVariants as slots
-use Rattle.hv_judge.specs.declared.syntax.fault.SyntaxKind.{SyntaxKind}
+use Rattle.hv_syntax.specs.declared.fault.SyntaxKind.{SyntaxKind}
 use Rattle.hv_judge.specs.declared.syntax.section.Standing.{Standing}
 use Rattle.hv_judge.specs.declared.world.fault.Side.{Side}
 use Rattle.hv_judge.specs.declared.world.fault.Side.TheVariants as sides

@@ -6,8 +6,8 @@ use Rattle.hv_text.specs.Sexps.{AreExpressions}
 use Rattle.hv_text.specs.declared.sexp.Sexp.{Sexp}
 use Rattle.hv_text.specs.declared.span.Span.{Span}
 use Rattle.hv_text.specs.declared.fault.TextKind.TheVariants as texts
-use Rattle.hv_judge.specs.declared.syntax.fault.SyntaxKind.{SyntaxKind}
-use Rattle.hv_judge.specs.declared.syntax.fault.SyntaxKind.TheVariants as kinds
+use Rattle.hv_syntax.specs.declared.fault.SyntaxKind.{SyntaxKind}
+use Rattle.hv_syntax.specs.declared.fault.SyntaxKind.TheVariants as kinds
 use Rattle.hv_judge.specs.declared.syntax.fault.SyntaxFault.{SyntaxFault}
 use Rattle.hv_judge.specs.Faults.{Answers, OfExpressions}
 use Rattle.hv_judge.specs.Values.{Domain, Problem}
@@ -29,6 +29,7 @@ module _ {V : Type 0} (reading : Trees → Result V (SyntaxKind × Span)) (text 
   of_text kinds.UnknownSection s h = (ts, are, h)
   of_text kinds.RepeatedSection s h = (ts, are, h)
   of_text kinds.MissingSection s h = (ts, are, h)
+  of_text kinds.BadShape s h = (ts, are, h)
   of_text kinds.Unsupported s h = (ts, are, h)
 
   pub fault_of_text : {X : Type 0} (view : X → V) (r : Result X SyntaxFault) → Answers view r (reading ts) → IfErr r (λ f. IsFaultBy reading text f.kind f.span)

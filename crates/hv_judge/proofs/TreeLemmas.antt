@@ -144,18 +144,6 @@ number_get i (j ∷ is) h = go (nat_eq i j) refl h (number_get i is)
     go true e h again = ap (λ x. Some x) (sym (eqb-true i j e))
     go false e h again = let one : 1 + position_or_len (nat_eq i) is ≡ suc (position_or_len (nat_eq i) is) = omega arith in rw one (again (omega arith))
 
--- each first place holds its id
-pub places_hold : (is ks root : List ℕ) → map Some ks ≡ map (λ i. position (nat_eq i) is) root → map (slice_get is) ks ≡ map Some root
-places_hold is [] [] e = refl
-places_hold is [] (i ∷ root) e = cc
-places_hold is (k ∷ ks) [] e = cc
-places_hold is (k ∷ ks) (i ∷ root) e =
-    let first : Some k ≡ position (nat_eq i) is = cc in
-    let rest : map Some ks ≡ map (λ i. position (nat_eq i) is) root = cc in
-    let found = found_at (nat_eq i) is k (sym first) in
-    let here : slice_get is k ≡ Some i = rw found.0 (number_get i is (rw found.0 at found.1)) in
-    rw (here, places_hold is ks root rest) refl
-
 id_place : (i : ℕ) (ls : List Action) → position_or_len (λ a. i == a.id) ls ≡ position_or_len (nat_eq i) (ids_of ls)
 id_place i [] = refl
 id_place i (l ∷ ls) = rw (id_place i ls) refl

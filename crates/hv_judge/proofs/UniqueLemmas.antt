@@ -21,8 +21,8 @@ use Rattle.hv_judge.specs.declared.answer.Certificate.{Certificate}
 use Rattle.hv_judge.specs.declared.answer.Fault.{Fault}
 use Rattle.hv_judge.specs.declared.answer.FaultKind.{FaultKind}
 use Rattle.hv_judge.specs.declared.answer.Which.{Which}
-use Rattle.hv_judge.specs.declared.syntax.fault.SyntaxKind.{SyntaxKind}
-use Rattle.hv_judge.specs.declared.syntax.fault.SyntaxKind.TheVariants as kinds
+use Rattle.hv_syntax.specs.declared.fault.SyntaxKind.{SyntaxKind}
+use Rattle.hv_syntax.specs.declared.fault.SyntaxKind.TheVariants as kinds
 use Rattle.hv_judge.specs.declared.world.fault.StaticFault.{StaticFault}
 use Rattle.hv_judge.specs.Values.{Action, Domain, Problem}
 use Rattle.hv_judge.specs.States.{State, AreApplicable, IsFirstInapplicable}
@@ -37,7 +37,7 @@ use Rattle.hv_judge.proofs.VerdictLemmas.{no_cause_of_fit, cause_of_tree}
 use Rattle.hv_judge.proofs.TextLemmas.{domain_said, problem_said}
 use Rattle.hv_judge.specs.Answers.{SameAnswer, OneAnswerLaw}
 use Rattle.hv_judge.proofs.StaticPlaces.{SameStatic, one_static, none_first}
-use Rattle.hv_judge.proofs.TextFaults.{Compared, less, equal, more, compare, Faulty, is_faulty, one_fault, no_fault}
+use Rattle.hv_text.proofs.TextFaults.{Compared, less, equal, more, compare, Faulty, is_faulty, one_fault, no_fault}
 
 -- the verdict on one domain, problem and plan
 
@@ -61,7 +61,7 @@ module _ (d : Domain) (p : Problem) (q : Plan) (limit : ℕ) (sound : IsStatic d
   solved : (c : Certificate) → Certifies c d p q → IsOrdered p q
   solved c h = (c.root.children.items, h.matching, h.ordered)
 
-  run_or_cause : (c : Cause) → IsRun d p q → IsCauseOf d p q limit c → (count_of p ≤ limit) × (IsOrdered p q → ⊥)
+  pub run_or_cause : (c : Cause) → IsRun d p q → IsCauseOf d p q limit c → (count_of p ≤ limit) × (IsOrdered p q → ⊥)
   run_or_cause c run (by_tree e is) = absurd (fits_or_cause c run.tree is)
   run_or_cause _ run (by_action k line tree first at) = absurd (all_or_first _ _ k run.applicable first)
   run_or_cause _ run (by_goal tree all goal) = let reached = run.goal in absurd (cc)
@@ -150,6 +150,7 @@ module _ (one_reading : (text : List ℕ) (ts us : Trees) → AreExpressions tex
     unread kinds.UnknownSection s f is h = by_reading h
     unread kinds.RepeatedSection s f is h = by_reading h
     unread kinds.MissingSection s f is h = by_reading h
+    unread kinds.BadShape s f is h = by_reading h
     unread kinds.Unsupported s f is h = by_reading h
 
     read_or_not : (x : V) (k : SyntaxKind) (s : Span) → IsReadAs reading text (Ok x) → Unread k s → ⊥

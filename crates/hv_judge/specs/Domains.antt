@@ -5,8 +5,8 @@ use Rattle.hv_text.specs.declared.span.Span.{Span}
 use Rattle.hv_judge.specs.declared.syntax.field.Slot.TheVariants as slots
 use Rattle.hv_judge.specs.declared.syntax.section.Standing.{Standing}
 use Rattle.hv_judge.specs.declared.syntax.section.Standing.TheVariants as standings
-use Rattle.hv_judge.specs.declared.syntax.fault.SyntaxKind.{SyntaxKind}
-use Rattle.hv_judge.specs.declared.syntax.fault.SyntaxKind.TheVariants as kinds
+use Rattle.hv_syntax.specs.declared.fault.SyntaxKind.{SyntaxKind}
+use Rattle.hv_syntax.specs.declared.fault.SyntaxKind.TheVariants as kinds
 use Rattle.hv_judge.specs.Words.{is}
 use Rattle.hv_judge.specs.Reading.{both, every}
 use Rattle.hv_judge.specs.Values.{WordAt, Formula, and, no_formulas, Literal, Action, action_with, Domain}

@@ -4,8 +4,8 @@ use Rattle.hv_text.specs.declared.span.Span.{Span}
 use Rattle.hv_text.specs.declared.fault.TextKind.TheVariants as texts
 use Rattle.hv_judge.specs.declared.syntax.refusal.Refusal.{Refusal}
 use Rattle.hv_judge.specs.declared.syntax.refusal.Refusal.TheVariants as refusals
-use Rattle.hv_judge.specs.declared.syntax.fault.SyntaxKind.{SyntaxKind}
-use Rattle.hv_judge.specs.declared.syntax.fault.SyntaxKind.TheVariants as kinds
+use Rattle.hv_syntax.specs.declared.fault.SyntaxKind.{SyntaxKind}
+use Rattle.hv_syntax.specs.declared.fault.SyntaxKind.TheVariants as kinds
 use Rattle.hv_judge.specs.declared.syntax.fault.SyntaxFault.{SyntaxFault}
 
 -- that memory ran out

@@ -1,15 +1,13 @@
 -- What is written where a text is printed.
 use Rattle.std.specs.Prelude.{◌≡◌, ℕ, false, List, Option, Some, None, Result, Ok, Err}
 use Rattle.std.specs.Io.KnownBytes.{Appends}
-use Rattle.hv_text.specs.Io.{IsRead}
+use Rattle.hv_text.specs.Io.{IsRead, AppendsBeginning}
 use Rattle.hv_text.specs.declared.fault.TheConstants.{MOST_BYTES}
-use Rattle.hv_text.specs.declared.fault.TextKind.TheVariants as texts
 use Rattle.hv_text.specs.declared.span.Span.{Span}
 use Rattle.hv_text.specs.declared.io.ReadFault.{ReadFault}
 use Rattle.hv_text.specs.declared.io.ReadFault.TheVariants as reads
 use Rattle.hv_syntax.specs.declared.fault.SyntaxFault.{SyntaxFault}
 use Rattle.hv_syntax.specs.declared.fault.SyntaxKind.{SyntaxKind}
-use Rattle.hv_syntax.specs.declared.fault.SyntaxKind.TheVariants as kinds
 use Rattle.hv_syntax.specs.Values.{Domain, Problem}
 use Rattle.hv_syntax.specs.Texts.{IsDomainText, IsDomainFault, IsProblemText, IsProblemFault}
 use Rattle.hv_syntax.specs.CanonicalSections.{canonical_domain, canonical_problem}
@@ -27,24 +25,9 @@ use Rattle.hv_judge.specs.declared.printing.Printed.{Printed}
 use Rattle.hv_judge.specs.declared.printing.Printed.TheVariants as ends
 use Rattle.hv_judge.specs.declared.running.RunFault.{RunFault}
 use Rattle.hv_judge.specs.declared.running.RunFault.TheVariants as runs
-use Rattle.hv_judge.specs.Rejections.{fault_in, fault_nowhere, reported_plan}
-use Rattle.hv_judge.specs.Text.{answer_text, AppendsBeginning}
+use Rattle.hv_judge.specs.Rejections.{fault_in, fault_nowhere, reported, reported_plan}
+use Rattle.hv_judge.specs.Text.{answer_text}
 use Rattle.hv_judge.specs.Runs.{IsTooLong}
-
--- the kind under which a fault of a domain's or a problem's text is reported; want of memory is reported as no fault
-abbrev pub reported_kind : SyntaxKind → Option FaultKind
-reported_kind (kinds.Text texts.BadByte) = Some faults.BadByte
-reported_kind (kinds.Text texts.Unclosed) = Some faults.Unclosed
-reported_kind (kinds.Text texts.Unopened) = Some faults.Unopened
-reported_kind (kinds.Text texts.TooDeep) = Some faults.TooDeep
-reported_kind (kinds.Text texts.TooLong) = Some faults.TooLong
-reported_kind (kinds.Text texts.Memory) = None
-reported_kind kinds.NotDefine = Some faults.NotDefine
-reported_kind kinds.UnknownSection = Some faults.UnknownSection
-reported_kind kinds.RepeatedSection = Some faults.RepeatedSection
-reported_kind kinds.MissingSection = Some faults.MissingSection
-reported_kind kinds.BadShape = Some faults.BadShape
-reported_kind kinds.Unsupported = Some faults.Unsupported
 
 -- the line of a rejection
 abbrev pub rejection : Which → Fault → List ℕ
@@ -55,9 +38,9 @@ pub data IsPrint (text : List ℕ) : Which → Printed → List ℕ → Type 0 w
   a_domain : (d : Domain) → IsDomainText text d → IsPrint text which.Domain ends.Done (canonical_domain d)
   a_problem : (p : Problem) → IsProblemText text p → IsPrint text which.Problem ends.Done (canonical_problem p)
   a_plan : (p : Plan) → IsPlan text p → IsPrint text which.Plan ends.Done (plan_text p)
-  no_domain : (kind : SyntaxKind) (s : Span) (k : FaultKind) → IsDomainFault text kind s → reported_kind kind ≡ Some k
+  no_domain : (kind : SyntaxKind) (s : Span) (k : FaultKind) → IsDomainFault text kind s → reported kind ≡ Some k
       → IsPrint text which.Domain ends.Rejected (rejection which.Domain (fault_in k text s))
-  no_problem : (kind : SyntaxKind) (s : Span) (k : FaultKind) → IsProblemFault text kind s → reported_kind kind ≡ Some k
+  no_problem : (kind : SyntaxKind) (s : Span) (k : FaultKind) → IsProblemFault text kind s → reported kind ≡ Some k
       → IsPrint text which.Problem ends.Rejected (rejection which.Problem (fault_in k text s))
   no_plan : (f : PlanFault) (r : Fault) → IsPlanFault text f → reported_plan f ≡ Some r → IsPrint text which.Plan ends.Rejected (rejection which.Plan r)
 
@@ -87,7 +70,7 @@ IsRejection w f end bytes = (end ≡ ends.Rejected) × (bytes ≡ rejection w f)
 
 -- the line of the rejection of a domain or a problem
 abbrev pub IsTextRejection : Which → List ℕ → SyntaxFault → Printed → List ℕ → Type 0
-IsTextRejection w text f end bytes = (k : FaultKind) × (reported_kind f.kind ≡ Some k) × IsRejection w (fault_in k text f.span) end bytes
+IsTextRejection w text f end bytes = (k : FaultKind) × (reported f.kind ≡ Some k) × IsRejection w (fault_in k text f.span) end bytes
 
 -- the line of the rejection of a plan
 abbrev pub IsPlanRejection : PlanFault → Printed → List ℕ → Type 0

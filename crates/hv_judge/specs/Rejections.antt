@@ -16,8 +16,8 @@ use Rattle.hv_judge.specs.declared.answer.Fault.{Fault}
 use Rattle.hv_judge.specs.declared.answer.Place.TheVariants.{Nowhere, Line, At}
 use Rattle.hv_judge.specs.declared.judgement.Unread.{Unread}
 use Rattle.hv_judge.specs.declared.judgement.Unread.TheVariants as unread
-use Rattle.hv_judge.specs.declared.syntax.fault.SyntaxKind.{SyntaxKind}
-use Rattle.hv_judge.specs.declared.syntax.fault.SyntaxKind.TheVariants as kinds
+use Rattle.hv_syntax.specs.declared.fault.SyntaxKind.{SyntaxKind}
+use Rattle.hv_syntax.specs.declared.fault.SyntaxKind.TheVariants as kinds
 use Rattle.hv_judge.specs.declared.world.fault.Side.{Side}
 use Rattle.hv_judge.specs.declared.world.fault.Side.TheVariants as sides
 use Rattle.hv_judge.specs.declared.world.fault.StaticKind.{StaticKind}
@@ -39,6 +39,7 @@ reported kinds.NotDefine = Some faults.NotDefine
 reported kinds.UnknownSection = Some faults.UnknownSection
 reported kinds.RepeatedSection = Some faults.RepeatedSection
 reported kinds.MissingSection = Some faults.MissingSection
+reported kinds.BadShape = Some faults.BadShape
 reported kinds.Unsupported = Some faults.Unsupported
 
 abbrev pub reported_static : StaticKind → Option FaultKind

@@ -1,7 +1,7 @@
 -- What a run over readers and a writer does.
 use Rattle.std.specs.Prelude.{◌≡◌, ℕ, Bool, true, false, List, Option, Result, Ok, Err, if◌then◌else◌}
 use Rattle.std.specs.Io.KnownBytes.{Appends}
-use Rattle.hv_text.specs.Io.{IsRead, IsReadFault}
+use Rattle.hv_text.specs.Io.{IsRead, IsReadFault, AppendsBeginning}
 use Rattle.hv_text.specs.declared.fault.TheConstants.{MOST_BYTES}
 use Rattle.hv_text.specs.declared.io.ReadFault.{ReadFault}
 use Rattle.hv_text.specs.declared.io.ReadFault.TheVariants as reads
@@ -10,12 +10,12 @@ use Rattle.hv_judge.specs.declared.answer.Answer.TheVariants as answers
 use Rattle.hv_judge.specs.declared.answer.FaultKind.TheVariants as faults
 use Rattle.hv_judge.specs.declared.answer.Which.{Which}
 use Rattle.hv_judge.specs.declared.answer.Which.TheVariants as texts
-use Rattle.hv_judge.specs.declared.running.Kind.{Kind}
-use Rattle.hv_judge.specs.declared.running.Kind.TheVariants as kinds
+use Rattle.hv_judge.specs.declared.answer.Kind.{Kind}
+use Rattle.hv_judge.specs.declared.answer.Kind.TheVariants as kinds
 use Rattle.hv_judge.specs.declared.running.RunFault.{RunFault}
 use Rattle.hv_judge.specs.declared.running.RunFault.TheVariants as runs
 use Rattle.hv_judge.specs.Rejections.{fault_nowhere}
-use Rattle.hv_judge.specs.Text.{answer_text, AppendsBeginning}
+use Rattle.hv_judge.specs.Text.{answer_text}
 use Rattle.hv_judge.specs.Verdicts.{Judged}
 
 -- the kind of the verdict of an answer
@@ -88,7 +88,49 @@ pub data IsRunOf {A B C : Type 0} (left_a : A → Option (List ℕ)) (a a' : A) 
   domain_too_long : IsTooLong (left_a a) (left_a a') → b' ≡ b → c' ≡ c
       → IsRunOf left_a a a' left_b b b' left_c c c' limit (too_long_answer texts.Domain)
 
+-- a reader was not read to its end, for this reason: it failed itself, or a growth was refused on the way. It has moved on by what it gave
+abbrev pub IsFailedRead : Which → Option (List ℕ) → Option (List ℕ) → RunFault → Type 0
+IsFailedRead w old new (runs.Read v) = (v ≡ w) × IsReadFault old new MOST_BYTES reads.Device
+IsFailedRead w old new runs.Memory = IsReadFault old new MOST_BYTES reads.Memory
+IsFailedRead w old new runs.Write = ⊥
+
+-- the last reader where a run gives nothing: it was not read to its end, or it was, and a growth was refused behind it
+pub data IsHaltOfText {R : Type 0} (w : Which) (left : R → Option (List ℕ)) (r r' : R) : RunFault → Type 0 where
+  text_failed : (fault : RunFault) → IsFailedRead w (left r) (left r') fault → IsHaltOfText w left r r' fault
+  text_given : (text : List ℕ) → IsRead (left r) (left r') MOST_BYTES text → IsHaltOfText w left r r' runs.Memory
+
+-- the readers of the problem and the plan where a run gives no verdict: nothing was done with the one behind one that was not read to its end
+pub data IsHaltOfProblem {B C : Type 0} (left_b : B → Option (List ℕ)) (b b' : B) (left_c : C → Option (List ℕ)) (c c' : C) : RunFault → Type 0 where
+  problem_failed : (fault : RunFault) → IsFailedRead texts.Problem (left_b b) (left_b b') fault → c' ≡ c
+      → IsHaltOfProblem left_b b b' left_c c c' fault
+  problem_given : (problem : List ℕ) (fault : RunFault) → IsRead (left_b b) (left_b b') MOST_BYTES problem → IsHaltOfText texts.Plan left_c c c' fault
+      → IsHaltOfProblem left_b b b' left_c c c' fault
+
+-- the three readers where a run gives no verdict: nothing was done with those behind one that was not read to its end
+pub data IsHaltOf {A B C : Type 0} (left_a : A → Option (List ℕ)) (a a' : A) (left_b : B → Option (List ℕ)) (b b' : B) (left_c : C → Option (List ℕ)) (c c' : C) : RunFault → Type 0 where
+  domain_failed : (fault : RunFault) → IsFailedRead texts.Domain (left_a a) (left_a a') fault → b' ≡ b → c' ≡ c
+      → IsHaltOf left_a a a' left_b b b' left_c c c' fault
+  domain_given : (domain : List ℕ) (fault : RunFault) → IsRead (left_a a) (left_a a') MOST_BYTES domain → IsHaltOfProblem left_b b b' left_c c c' fault
+      → IsHaltOf left_a a a' left_b b b' left_c c c' fault
+
+-- where a run gave nothing, `P` holds of the reason
+abbrev pub IfHalted : {K : Type 0} → (RunFault → Type 0) → Result K RunFault → Type 0
+IfHalted P (Ok k) = Unit {0}
+IfHalted P (Err (runs.Read w)) = P (runs.Read w)
+IfHalted P (Err runs.Memory) = P runs.Memory
+IfHalted P (Err runs.Write) = Unit {0}
+
 -- what the parts of the code do
+
+-- why a run gives nothing where a text was not read
+abbrev pub IsFailureOf : Which → ReadFault → RunFault → Type 0
+IsFailureOf w reads.Device fault = fault ≡ runs.Read w
+IsFailureOf w reads.TooLong fault = ⊥
+IsFailureOf w reads.Memory fault = fault ≡ runs.Memory
+
+-- a run without readers gives nothing only where a growth was refused
+abbrev pub IsWant : RunFault → Type 0
+IsWant fault = fault ≡ runs.Memory
 
 -- how many reads failed where a text was not read
 abbrev pub failures_of : ReadFault → ℕ

@@ -4,8 +4,8 @@ use Rattle.hv_text.specs.Trees.{Tree, word, list, Trees, none, more, place_of}
 use Rattle.hv_text.specs.declared.span.Span.{Span}
 use Rattle.hv_judge.specs.declared.syntax.section.Standing.{Standing}
 use Rattle.hv_judge.specs.declared.syntax.section.Standing.TheVariants as standings
-use Rattle.hv_judge.specs.declared.syntax.fault.SyntaxKind.{SyntaxKind}
-use Rattle.hv_judge.specs.declared.syntax.fault.SyntaxKind.TheVariants as kinds
+use Rattle.hv_syntax.specs.declared.fault.SyntaxKind.{SyntaxKind}
+use Rattle.hv_syntax.specs.declared.fault.SyntaxKind.TheVariants as kinds
 use Rattle.hv_judge.specs.declared.syntax.word.Sort.TheVariants as sorts
 use Rattle.hv_judge.specs.Words.{is, is_the_word, is_sorted_word}
 use Rattle.hv_judge.specs.Reading.{all_are, only}

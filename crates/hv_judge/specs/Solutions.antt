@@ -2,7 +2,7 @@
 use Rattle.std.specs.Prelude.{◌≡◌, ◌==◌, ℕ, Bool, true, false, List, [], ◌∷◌, length, map, Some, if◌then◌else◌}
 use Rattle.std.specs.List.{position_or_len}
 use Rattle.hv_plan.specs.Trees.{Item, Act, Task, Pre, Mem, Distinct, Tree}
-use Rattle.hv_order.specs.Candidates.{Candidate, listed, listed_for}
+use Rattle.hv_order.specs.Meanings.{Meaning, listed, listed_for}
 use Rattle.hv_order.specs.Sequences.{HasSolution}
 use Rattle.hv_plan.specs.Values.{Action, Plan}
 use Rattle.hv_judge.specs.Trees.{name_of, occurs}
@@ -32,8 +32,8 @@ orders places (Task v) y = false
 orders places (Pre v) y = false
 
 -- what a matching of the root says of the order: the subtasks are ordered as they are written, and so are their children
-abbrev pub candidate_of : Plan → List ℕ → Candidate
-candidate_of p children = record { before = orders (map (place_of p.actions) children); true_at = λ k. true }
+abbrev pub meaning_of : Plan → List ℕ → Meaning
+meaning_of p children = record { before = orders (map (place_of p.actions) children); true_at = λ k. true }
 
 -- A matching of the children of `root` to subtasks with these names: for each subtask, in written order, the id of its child.
 -- Each child stands once, and its line names its subtask
@@ -46,4 +46,4 @@ pub record IsMatching (names : List (List ℕ)) (p : Plan) (children : List ℕ)
 -- with this matching there is a derivation, and an executable sequence of its end that has the plan's actions in plan order,
 -- goal and applicability aside
 abbrev pub IsOrderedBy : Plan → List ℕ → Type 0
-IsOrderedBy p children = HasSolution (tree_of p) (listed (candidate_of p children ∷ [])) (listed_for (λ v. [])) (length p.actions)
+IsOrderedBy p children = HasSolution (tree_of p) (listed (meaning_of p children ∷ [])) (listed_for (λ v. [])) (length p.actions)

@@ -1,7 +1,6 @@
 -- The text of an answer.
-use Rattle.std.specs.Prelude.{ℕ, Bool, List, [], ◌∷◌, ◌++◌, take, Option, None, Some, codes, decimal, if◌then◌else◌}
+use Rattle.std.specs.Prelude.{ℕ, Bool, List, [], ◌∷◌, ◌++◌, Option, None, Some, codes, decimal, if◌then◌else◌}
 use Rattle.std.specs.List.{flat_map}
-use Rattle.std.specs.Io.KnownBytes.{Appends}
 use Rattle.hv_text.specs.Names.{text_of}
 use Rattle.hv_judge.specs.Kinds.{which_name, fault_number, fault_name, cause_number, cause_name}
 use Rattle.hv_judge.specs.declared.answer.Place.{Place}
@@ -18,10 +17,6 @@ use Rattle.hv_judge.specs.declared.answer.Answer.TheVariants.{Solves, Fails, Und
 -- texts one after another
 abbrev pub joined : List (List ℕ) → List ℕ
 joined ts = flat_map (λ t. t) ts
-
--- a beginning of the text, perhaps all of it, was added to what a writer took
-abbrev pub AppendsBeginning : Option (List ℕ) → Option (List ℕ) → List ℕ → Type 0
-AppendsBeginning old new text = (n : ℕ) × Appends old new (take n text)
 
 -- where a cause stands
 abbrev pub line_text : Option ℕ → List ℕ

@@ -4,8 +4,8 @@ use Rattle.hv_text.specs.Trees.{Trees}
 use Rattle.hv_text.specs.Sexps.{AreExpressions, IsTextFault}
 use Rattle.hv_text.specs.declared.span.Span.{Span}
 use Rattle.hv_text.specs.declared.fault.TextKind.TheVariants as texts
-use Rattle.hv_judge.specs.declared.syntax.fault.SyntaxKind.{SyntaxKind}
-use Rattle.hv_judge.specs.declared.syntax.fault.SyntaxKind.TheVariants as kinds
+use Rattle.hv_syntax.specs.declared.fault.SyntaxKind.{SyntaxKind}
+use Rattle.hv_syntax.specs.declared.fault.SyntaxKind.TheVariants as kinds
 use Rattle.hv_judge.specs.Values.{Domain, Problem}
 use Rattle.hv_judge.specs.Domains.{domain_of}
 use Rattle.hv_judge.specs.Problems.{problem_of}

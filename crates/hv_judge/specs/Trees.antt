@@ -117,10 +117,6 @@ IsCause cause faults.Memory = Unit {0}
 abbrev pub AreNumbers : List (List ℕ) → Plan → List ℕ → Type 0
 AreNumbers declared p numbers = map (slice_get declared) numbers ≡ map (λ a. Some a.name) p.actions
 
--- each child of the root has the place of its line
-abbrev pub ArePlaces : Plan → List ℕ → Type 0
-ArePlaces p children = map (slice_get (ids_of p.actions)) children ≡ map Some p.root.ids
-
 -- each child of the root has the place of the first line that its id begins
 abbrev pub AreFirstPlaces : Plan → List ℕ → Type 0
 AreFirstPlaces p children = map Some children ≡ map (λ i. position (nat_eq i) (ids_of p.actions)) p.root.ids

@@ -44,10 +44,6 @@ head_of w =
     if is w (codes "when") then heads.When else
     symbol_if_name (sort_of w)
 
-abbrev pub is_symbol : Head → Bool
-is_symbol heads.Symbol = true
-is_symbol _ = false
-
 -- whether an expression is this word
 abbrev pub is_the_word : List ℕ → Tree → Bool
 is_the_word v (word w s) = is w v

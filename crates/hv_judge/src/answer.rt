@@ -2,6 +2,7 @@
 
 ghost use Rattle.std.specs.Prelude.{◌≡◌};
 ghost use Rattle.hv_judge.specs.Kinds.{fault_number, fault_name, cause_number, cause_name, which_name};
+ghost use Rattle.hv_judge.specs.Runs.{kind_of};
 
 use hv_text::Name;
 
@@ -326,4 +327,27 @@ pub enum Answer<'s> {
     Undecided(u32),
     /// One of the texts is not judged.
     Rejected(Which, Fault),
+}
+
+/// What kind of verdict was given.
+#[derive(Clone, Copy, Debug, PartialEq, Eq)]
+pub enum Kind {
+    Solves,
+    Fails,
+    Undecided,
+    Rejected,
+}
+
+impl Answer<'_> {
+    /// The kind of the verdict.
+    pub fn kind(&self) -> Kind
+        ensures { result ≡ kind_of self.now }
+    {
+        match self {
+            Answer::Solves(_) => Kind::Solves,
+            Answer::Fails(_) => Kind::Fails,
+            Answer::Undecided(_) => Kind::Undecided,
+            Answer::Rejected(_, _) => Kind::Rejected,
+        }
+    }
 }

@@ -1,20 +1,21 @@
 //! The judge: from the bytes of three texts to a verdict.
 
-ghost use Rattle.std.specs.Prelude.{◌≡◌, ◌≤◌, length, IfOk, IfErr, Some, None};
+ghost use Rattle.std.specs.Prelude.{◌≡◌, ◌≤◌, length, IfOk, IfErr, None};
 ghost use Rattle.hv_text.specs.declared.fault.TheConstants.{MOST_BYTES};
 ghost use Rattle.hv_plan.specs.LineViews.{plan_view};
 ghost use Rattle.hv_judge.specs.DomainViews.{domain_view};
 ghost use Rattle.hv_judge.specs.ProblemViews.{problem_view};
-ghost use Rattle.hv_judge.specs.Rejections.{fault_in, reported, reported_static, reported_plan, decomposition_fault, first_too_long, unread_by, which_of, text_of_side, AreRead, IsUnread};
+ghost use Rattle.hv_judge.specs.Rejections.{reported, reported_static, decomposition_fault, first_too_long, unread_by, which_of, text_of_side, AreRead, IsUnread};
 ghost use Rattle.hv_judge.specs.Statics.{IsStatic};
 ghost use Rattle.hv_judge.specs.Verdicts.{IsUnreadAnswer, IsUnplannedAnswer, IsJudgedOrRejected, IsPlanAnswer, Judged};
 
-use crate::answer::{Answer, Fault, FaultKind, Place, Which};
-use crate::syntax::{SyntaxFault, SyntaxKind, read_domain, read_problem};
+use crate::answer::{Answer, Fault, FaultKind, Which};
+use crate::rejection::{at_line, fault_in, reported, reported_plan, reported_static};
+use crate::syntax::{SyntaxFault, read_domain, read_problem};
 use crate::verdict::verdict;
-use crate::world::{Side, StaticFault, StaticKind, World};
+use crate::world::{Side, StaticFault, World};
 use hv_plan::{PlanFault, PlanText, read_plan};
-use hv_text::{MOST_BYTES, Memory, Span, TextKind, place};
+use hv_text::{MOST_BYTES, Memory};
 use std::alloc::Global;
 
 /// Why there is no world to judge in: a text is rejected, or memory was refused.
@@ -22,83 +23,6 @@ use std::alloc::Global;
 pub(crate) enum Unread {
     Rejected(Which, Fault),
     Memory,
-}
-
-// The fault of this kind at a place of a text.
-pub(crate) fn fault_in(kind: FaultKind, text: &[u8], span: Span) -> Fault
-    requires { length text.now ≤ MOST_BYTES }
-    ensures { result ≡ fault_in kind text.now span }
-{
-    let (line, column) = place(text, span);
-    Fault {
-        kind,
-        place: Place::At { line, column },
-    }
-}
-
-// The kind under which a fault of a domain or a problem is reported; None for want of memory.
-fn reported(kind: SyntaxKind) -> Option<FaultKind>
-    ensures { result ≡ reported kind }
-{
-    match kind {
-        SyntaxKind::Text(TextKind::BadByte) => Some(FaultKind::BadByte),
-        SyntaxKind::Text(TextKind::Unclosed) => Some(FaultKind::Unclosed),
-        SyntaxKind::Text(TextKind::Unopened) => Some(FaultKind::Unopened),
-        SyntaxKind::Text(TextKind::TooDeep) => Some(FaultKind::TooDeep),
-        SyntaxKind::Text(TextKind::TooLong) => Some(FaultKind::TooLong),
-        SyntaxKind::Text(TextKind::Memory) => None,
-        SyntaxKind::NotDefine => Some(FaultKind::NotDefine),
-        SyntaxKind::UnknownSection => Some(FaultKind::UnknownSection),
-        SyntaxKind::RepeatedSection => Some(FaultKind::RepeatedSection),
-        SyntaxKind::MissingSection => Some(FaultKind::MissingSection),
-        SyntaxKind::Unsupported => Some(FaultKind::Unsupported),
-    }
-}
-
-fn reported_static(kind: StaticKind) -> Option<FaultKind>
-    ensures { result ≡ reported_static kind }
-{
-    match kind {
-        StaticKind::UnknownPredicate => Some(FaultKind::UnknownPredicate),
-        StaticKind::UnknownTask => Some(FaultKind::UnknownTask),
-        StaticKind::DuplicateName => Some(FaultKind::DuplicateName),
-        StaticKind::Memory => None,
-    }
-}
-
-// A plan's fault is told by its line alone.
-fn at_line(kind: FaultKind, line: u32) -> Option<Fault>
-    ensures { result ≡ Some (record { kind = kind; place = Place.Line line }) }
-{
-    Some(Fault {
-        kind,
-        place: Place::Line(line),
-    })
-}
-
-fn nowhere(kind: FaultKind) -> Option<Fault>
-    ensures { result ≡ Some (record { kind = kind; place = Place.Nowhere }) }
-{
-    Some(Fault {
-        kind,
-        place: Place::Nowhere,
-    })
-}
-
-pub(crate) fn reported_plan(fault: PlanFault) -> Option<Fault>
-    ensures { result ≡ reported_plan fault }
-{
-    match fault {
-        PlanFault::BadByte(line) => at_line(FaultKind::BadByte, line),
-        PlanFault::TooLong => nowhere(FaultKind::TooLong),
-        PlanFault::NoStart => nowhere(FaultKind::NoStart),
-        PlanFault::NoEnd => nowhere(FaultKind::NoEnd),
-        PlanFault::BadLine(line) => at_line(FaultKind::BadLine, line),
-        PlanFault::IdTooLarge(line) => at_line(FaultKind::IdTooLarge, line),
-        PlanFault::NoRoot => nowhere(FaultKind::NoRoot),
-        PlanFault::RepeatedRoot(line) => at_line(FaultKind::RepeatedRoot, line),
-        PlanFault::Memory => None,
-    }
 }
 
 // The fault of a plan with decomposition lines, which are not judged yet.

@@ -1,6 +1,6 @@
-//! What holds of every answer. The function only cites the laws that it stands on: its contract is the law.
+//! What holds of every answer. A function only cites the laws that it stands on: its contract is the law.
 
-ghost use Rattle.hv_judge.specs.Answers.{OneAnswerLaw};
+ghost use Rattle.hv_judge.specs.Answers.{OneAnswerLaw, SolvesLaw, FailsLaw};
 
 use hv_plan::a_plan_or_a_fault;
 use hv_text::{a_text_has_one_reading, words_are_in_order};
@@ -15,3 +15,10 @@ pub fn one_answer()
     words_are_in_order();
     a_plan_or_a_fault();
 }
+
+/// A plan that is said to solve its problem is a solution of it, and one that is said to fail is none: the three texts spell a
+/// domain, a problem and a plan of which that holds.
+pub fn a_solution_or_none()
+    ensures solves { SolvesLaw }
+    ensures fails { FailsLaw }
+{}

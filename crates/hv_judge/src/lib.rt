@@ -6,6 +6,7 @@ mod judgement;
 mod law;
 mod matching;
 mod printing;
+mod rejection;
 mod running;
 mod state;
 mod syntax;
@@ -15,9 +16,11 @@ mod verdict;
 mod world;
 mod write;
 
-pub use answer::{Answer, Cause, CauseKind, Certificate, Choice, Fault, FaultKind, Place, Which};
+pub use answer::{
+    Answer, Cause, CauseKind, Certificate, Choice, Fault, FaultKind, Kind, Place, Which,
+};
 pub use judgement::judge;
-pub use law::one_answer;
+pub use law::{a_solution_or_none, one_answer};
 pub use printing::{Printed, run_print};
-pub use running::{Kind, RunFault, run};
-pub use write::{write_answer, write_parts};
+pub use running::{RunFault, run};
+pub use write::write_answer;

@@ -1,19 +1,19 @@
 //! A text printed anew: its canonical text, or the line of its rejection.
 
-ghost use Rattle.std.specs.Prelude.{◌≡◌, ◌<◌, ◌≤◌, ◌+◌, ◌-◌, ◌^◌, length};
+ghost use Rattle.std.specs.Prelude.{◌≡◌, ◌<◌, ◌≤◌, ◌+◌, ◌-◌, ◌^◌, false, length};
 ghost use Rattle.hv_text.specs.declared.fault.TheConstants.{MOST_BYTES};
 ghost use Rattle.hv_judge.specs.declared.answer.Which.{Which};
 ghost use Rattle.hv_judge.specs.declared.answer.Which.TheVariants as texts;
-ghost use Rattle.hv_judge.specs.Runs.{reads_failed, writes_failed, failures_at};
-ghost use Rattle.hv_judge.specs.Prints.{reported_kind, IsPrint, IsPrintOf, WrotePrint, IsDone, IsRejection, IsTextRejection, IsPlanRejection, IsUnreadRejection};
+ghost use Rattle.hv_judge.specs.Runs.{is_same, reads_failed, writes_failed, failures_at, IfHalted, IsWant, IsFailureOf, IsHaltOfText};
+ghost use Rattle.hv_judge.specs.Prints.{IsPrint, IsPrintOf, WrotePrint, IsDone, IsRejection, IsTextRejection, IsPlanRejection, IsUnreadRejection};
 
-use crate::answer::{Answer, Fault, FaultKind, Which};
-use crate::judgement::{fault_in, reported_plan};
+use crate::answer::{Answer, Fault, Which};
+use crate::rejection::{fault_in, reported, reported_plan};
 use crate::running::RunFault;
 use crate::write::write_answer;
 use hv_plan::{PlanFault, print_plan, read_plan};
-use hv_syntax::{SyntaxFault, SyntaxKind, print_domain, print_problem, read_domain, read_problem};
-use hv_text::{MOST_BYTES, ReadFault, Sink, Source, TextKind, read_all, write_all};
+use hv_syntax::{SyntaxFault, print_domain, print_problem, read_domain, read_problem};
+use hv_text::{MOST_BYTES, ReadFault, Sink, Source, read_all, write_all};
 use std::alloc::Global;
 
 /// How a text was printed.
@@ -25,31 +25,12 @@ pub enum Printed {
     Rejected,
 }
 
-// The kind under which a fault of a domain or a problem is reported; None for want of memory.
-fn reported_kind(kind: SyntaxKind) -> Option<FaultKind>
-    ensures { result ≡ reported_kind kind }
-{
-    match kind {
-        SyntaxKind::Text(TextKind::BadByte) => Some(FaultKind::BadByte),
-        SyntaxKind::Text(TextKind::Unclosed) => Some(FaultKind::Unclosed),
-        SyntaxKind::Text(TextKind::Unopened) => Some(FaultKind::Unopened),
-        SyntaxKind::Text(TextKind::TooDeep) => Some(FaultKind::TooDeep),
-        SyntaxKind::Text(TextKind::TooLong) => Some(FaultKind::TooLong),
-        SyntaxKind::Text(TextKind::Memory) => None,
-        SyntaxKind::NotDefine => Some(FaultKind::NotDefine),
-        SyntaxKind::UnknownSection => Some(FaultKind::UnknownSection),
-        SyntaxKind::RepeatedSection => Some(FaultKind::RepeatedSection),
-        SyntaxKind::MissingSection => Some(FaultKind::MissingSection),
-        SyntaxKind::BadShape => Some(FaultKind::BadShape),
-        SyntaxKind::Unsupported => Some(FaultKind::Unsupported),
-    }
-}
-
 // Writes the line of a rejection.
 fn reject<W: Sink>(which: Which, fault: Fault, out: &mut W) -> Result<Printed, RunFault>
     requires { W.failures out.old < 2 ^ 64 - 1 }
     ensures wrote { WrotePrint (IsRejection which fault) W.taken out.old out.new result }
     ensures reads { (w : Which) → reads_failed w result ≡ 0 }
+    ensures halted { IfHalted (λ _. ⊥) result }
     ensures writes { W.failures out.new ≡ W.failures out.old + writes_failed result }
 {
     write_answer(&Answer::Rejected(which, fault), false, out)?;
@@ -67,9 +48,10 @@ fn reject_text<W: Sink>(
     requires out { W.failures out.old < 2 ^ 64 - 1 }
     ensures wrote { WrotePrint (IsTextRejection which text.now fault) W.taken out.old out.new result }
     ensures reads { (w : Which) → reads_failed w result ≡ 0 }
+    ensures halted { IfHalted IsWant result }
     ensures writes { W.failures out.new ≡ W.failures out.old + writes_failed result }
 {
-    match reported_kind(fault.kind) {
+    match reported(fault.kind) {
         Some(kind) => reject(which, fault_in(kind, text, fault.span), out),
         None => Err(RunFault::Memory),
     }
@@ -80,6 +62,7 @@ fn write_canonical<W: Sink>(bytes: &[u8], out: &mut W) -> Result<Printed, RunFau
     requires { W.failures out.old < 2 ^ 64 - 1 }
     ensures wrote { WrotePrint (IsDone bytes.now) W.taken out.old out.new result }
     ensures reads { (w : Which) → reads_failed w result ≡ 0 }
+    ensures halted { IfHalted IsWant result }
     ensures writes { W.failures out.new ≡ W.failures out.old + writes_failed result }
 {
     write_all(out, bytes)?;
@@ -92,6 +75,7 @@ fn print_domain_text<W: Sink>(alloc: Global, text: &[u8], out: &mut W) -> Result
     requires out { W.failures out.old < 2 ^ 64 - 1 }
     ensures wrote { WrotePrint (IsPrint text.now texts.Domain) W.taken out.old out.new result }
     ensures reads { (w : Which) → reads_failed w result ≡ 0 }
+    ensures halted { IfHalted IsWant result }
     ensures writes { W.failures out.new ≡ W.failures out.old + writes_failed result }
 {
     match read_domain(alloc, text) {
@@ -110,6 +94,7 @@ fn print_problem_text<W: Sink>(alloc: Global, text: &[u8], out: &mut W) -> Resul
     requires out { W.failures out.old < 2 ^ 64 - 1 }
     ensures wrote { WrotePrint (IsPrint text.now texts.Problem) W.taken out.old out.new result }
     ensures reads { (w : Which) → reads_failed w result ≡ 0 }
+    ensures halted { IfHalted IsWant result }
     ensures writes { W.failures out.new ≡ W.failures out.old + writes_failed result }
 {
     match read_problem(alloc, text) {
@@ -127,6 +112,7 @@ fn print_plan_text<W: Sink>(alloc: Global, text: &[u8], out: &mut W) -> Result<P
     requires { W.failures out.old < 2 ^ 64 - 1 }
     ensures wrote { WrotePrint (IsPrint text.now texts.Plan) W.taken out.old out.new result }
     ensures reads { (w : Which) → reads_failed w result ≡ 0 }
+    ensures halted { IfHalted IsWant result }
     ensures writes { W.failures out.new ≡ W.failures out.old + writes_failed result }
 {
     match read_plan(alloc, text) {
@@ -144,6 +130,7 @@ fn reject_plan<W: Sink>(fault: PlanFault, out: &mut W) -> Result<Printed, RunFau
     requires { W.failures out.old < 2 ^ 64 - 1 }
     ensures wrote { WrotePrint (IsPlanRejection fault) W.taken out.old out.new result }
     ensures reads { (w : Which) → reads_failed w result ≡ 0 }
+    ensures halted { IfHalted IsWant result }
     ensures writes { W.failures out.new ≡ W.failures out.old + writes_failed result }
 {
     match reported_plan(fault) {
@@ -163,6 +150,7 @@ fn print_text<W: Sink>(
     requires out { W.failures out.old < 2 ^ 64 - 1 }
     ensures wrote { WrotePrint (IsPrint text.now which) W.taken out.old out.new result }
     ensures reads { (w : Which) → reads_failed w result ≡ 0 }
+    ensures halted { IfHalted IsWant result }
     ensures writes { W.failures out.new ≡ W.failures out.old + writes_failed result }
 {
     match which {
@@ -177,6 +165,7 @@ fn print_unread<W: Sink>(which: Which, fault: ReadFault, out: &mut W) -> Result<
     requires { W.failures out.old < 2 ^ 64 - 1 }
     ensures wrote { WrotePrint (IsUnreadRejection which fault) W.taken out.old out.new result }
     ensures reads { (w : Which) → reads_failed w result ≡ failures_at w which fault }
+    ensures halted { IfHalted (IsFailureOf which fault) result }
     ensures writes { W.failures out.new ≡ W.failures out.old + writes_failed result }
 {
     match fault {
@@ -203,6 +192,10 @@ pub fn run_print<R: Source, W: Sink>(
     requires out { W.failures out.old < 2 ^ 64 - 1 }
     ensures wrote { WrotePrint (IsPrintOf which R.left reader.old reader.new) W.taken out.old out.new result }
     ensures reads { R.failures reader.new ≡ R.failures reader.old + reads_failed which result }
+    // no other reader is blamed
+    ensures only { (w : Which) → is_same w which ≡ false → reads_failed w result ≡ 0 }
+    // where nothing is printed, the reader has moved on by what it gave
+    ensures halted { IfHalted (IsHaltOfText which R.left reader.old reader.new) result }
     ensures writes { W.failures out.new ≡ W.failures out.old + writes_failed result }
 {
     match read_all(alloc, reader, MOST_BYTES) {

@@ -4,37 +4,14 @@ ghost use Rattle.std.specs.Prelude.{◌≡◌, ◌<◌, ◌+◌, ◌-◌, ◌^�
 ghost use Rattle.hv_judge.specs.declared.answer.Which.TheVariants as texts;
 ghost use Rattle.hv_judge.specs.declared.answer.Which.{Which};
 ghost use Rattle.hv_judge.specs.Verdicts.{Judged};
-ghost use Rattle.hv_judge.specs.Runs.{kind_of, reads_failed, writes_failed, failures_at, Wrote, IsRunOfPlan, IsRunOfProblem, IsRunOf, IsUnreadText};
+ghost use Rattle.hv_judge.specs.Runs.{reads_failed, writes_failed, failures_at, Wrote, IsRunOfPlan, IsRunOfProblem, IsRunOf, IsUnreadText, IfHalted, IsWant, IsFailureOf, IsHaltOfText, IsHaltOfProblem, IsHaltOf};
 
-use crate::answer::{Answer, Fault, Which};
+use crate::answer::{Answer, Fault, Kind, Which};
 use crate::judgement::judge;
 use crate::write::write_answer;
 use hv_text::{MOST_BYTES, Memory, ReadFault, Sink, Source, WriteFault, read_all};
 use std::alloc::Global;
 use thiserror::Error;
-
-/// What kind of verdict was given.
-#[derive(Clone, Copy, Debug, PartialEq, Eq)]
-pub enum Kind {
-    Solves,
-    Fails,
-    Undecided,
-    Rejected,
-}
-
-impl Answer<'_> {
-    /// The kind of the verdict.
-    pub fn kind(&self) -> Kind
-        ensures { result ≡ kind_of self.now }
-    {
-        match self {
-            Answer::Solves(_) => Kind::Solves,
-            Answer::Fails(_) => Kind::Fails,
-            Answer::Undecided(_) => Kind::Undecided,
-            Answer::Rejected(_, _) => Kind::Rejected,
-        }
-    }
-}
 
 /// Why no verdict was given, or was not written whole.
 #[derive(Clone, Copy, Debug, PartialEq, Eq, Error)]
@@ -75,6 +52,7 @@ fn finish<W: Sink>(answer: &Answer<'_>, explain: bool, out: &mut W) -> Result<Ki
     requires { W.failures out.old < 2 ^ 64 - 1 }
     ensures wrote { Wrote (λ a. a ≡ answer.now) W.taken out.old out.new explain result }
     ensures reads { (w : Which) → reads_failed w result ≡ 0 }
+    ensures halted { IfHalted (λ _. ⊥) result }
     ensures writes { W.failures out.new ≡ W.failures out.old + writes_failed result }
 {
     write_answer(answer, explain, out)?;
@@ -91,6 +69,7 @@ fn finish_unread<W: Sink>(
     requires { W.failures out.old < 2 ^ 64 - 1 }
     ensures wrote { Wrote (IsUnreadText which fault) W.taken out.old out.new explain result }
     ensures reads { (w : Which) → reads_failed w result ≡ failures_at w which fault }
+    ensures halted { IfHalted (IsFailureOf which fault) result }
     ensures writes { W.failures out.new ≡ W.failures out.old + writes_failed result }
 {
     match fault {
@@ -113,6 +92,7 @@ fn judge_texts<W: Sink>(
     requires { W.failures out.old < 2 ^ 64 - 1 }
     ensures wrote { Wrote (Judged domain.now problem.now plan.now limit) W.taken out.old out.new explain result }
     ensures reads { (w : Which) → reads_failed w result ≡ 0 }
+    ensures halted { IfHalted IsWant result }
     ensures writes { W.failures out.new ≡ W.failures out.old + writes_failed result }
 {
     let answer = judge(alloc, domain, problem, plan, limit)?;
@@ -135,6 +115,7 @@ fn run_plan<C: Source, W: Sink>(
     ensures reads_domain { reads_failed texts.Domain result ≡ 0 }
     ensures reads_problem { reads_failed texts.Problem result ≡ 0 }
     ensures reads_plan { C.failures plan.new ≡ C.failures plan.old + reads_failed texts.Plan result }
+    ensures halted { IfHalted (IsHaltOfText texts.Plan C.left plan.old plan.new) result }
     ensures writes { W.failures out.new ≡ W.failures out.old + writes_failed result }
 {
     match read_all(alloc, plan, MOST_BYTES) {
@@ -161,6 +142,7 @@ fn run_problem<B: Source, C: Source, W: Sink>(
     ensures reads_problem { B.failures problem.new ≡ B.failures problem.old + reads_failed texts.Problem result }
     ensures reads_plan { C.failures plan.new ≡ C.failures plan.old + reads_failed texts.Plan result }
     ensures later_plan { 0 < reads_failed texts.Problem result → plan.new ≡ plan.old }
+    ensures halted { IfHalted (IsHaltOfProblem B.left problem.old problem.new C.left plan.old plan.new) result }
     ensures writes { W.failures out.new ≡ W.failures out.old + writes_failed result }
 {
     match read_all(alloc, problem, MOST_BYTES) {
@@ -193,6 +175,8 @@ pub fn run<A: Source, B: Source, C: Source, W: Sink>(
     ensures reads_domain { A.failures domain.new ≡ A.failures domain.old + reads_failed texts.Domain result }
     ensures reads_problem { B.failures problem.new ≡ B.failures problem.old + reads_failed texts.Problem result }
     ensures reads_plan { C.failures plan.new ≡ C.failures plan.old + reads_failed texts.Plan result }
+    // where no verdict is given, each reader has moved on by what it gave
+    ensures halted { IfHalted (IsHaltOf A.left domain.old domain.new B.left problem.old problem.new C.left plan.old plan.new) result }
     // a reader behind one that failed is left alone
     ensures later_problem { 0 < reads_failed texts.Domain result → problem.new ≡ problem.old }
     ensures later_plan { 0 < reads_failed texts.Domain result + reads_failed texts.Problem result → plan.new ≡ plan.old }

@@ -13,7 +13,7 @@ mod section;
 pub(crate) mod word;
 
 pub(crate) use domain::{ActionText, DomainText};
-pub(crate) use fault::{SyntaxFault, SyntaxKind};
+pub(crate) use fault::SyntaxFault;
 pub(crate) use formula::FormulaText;
 pub(crate) use literal::LiteralText;
 pub(crate) use problem::ProblemText;

@@ -6,7 +6,7 @@ ghost use Rattle.std.specs.Option.{option_map};
 ghost use Rattle.hv_text.specs.Names.{text_of};
 ghost use Rattle.hv_plan.specs.LineViews.{actions_view, plan_view};
 ghost use Rattle.hv_judge.specs.Counting.{multiplicity, stands_in, subtask_names};
-ghost use Rattle.hv_judge.specs.Trees.{declared_names, at_line, at_action, at_root, ids_of, occurs, repeated, has_arguments, tree_cause, fit_cause, children_cause, cause_of, IsCause, AreNumbers, ArePlaces, AreFirstPlaces};
+ghost use Rattle.hv_judge.specs.Trees.{declared_names, at_line, at_action, at_root, ids_of, occurs, repeated, has_arguments, tree_cause, fit_cause, children_cause, cause_of, IsCause, AreNumbers, AreFirstPlaces};
 ghost use Rattle.hv_judge.specs.declared.answer.CauseKind.TheVariants as kinds;
 ghost use Rattle.hv_judge.specs.declared.tree.TreeFault.TheVariants as faults;
 
@@ -45,12 +45,10 @@ impl From<AllocError> for TreeFault {
     }
 }
 
-/// The tree of a plan: the number of the action of each action line, in the order of the lines, and
-/// the children of the root, each as the place of its line among the action lines.
+/// The tree of a plan: the number of the action of each action line, in the order of the lines.
 #[derive(Drop)]
 pub(crate) struct Tree {
     actions: Vec<usize>,
-    children: Vec<usize>,
 }
 
 impl Tree {
@@ -65,16 +63,12 @@ impl Tree {
     ) -> Result<Tree, TreeFault>
         ensures sound { OnOk result (cause_of (declared_names actions.now) (subtask_names subtasks.now) (plan_view plan.now) ≡ None) }
         ensures actions { IfOk result (λ t. AreNumbers (declared_names actions.now) (plan_view plan.now) t.actions.items) }
-        ensures children { IfOk result (λ t. ArePlaces (plan_view plan.now) t.children.items) }
         ensures err { IfErr result (IsCause (cause_of (declared_names actions.now) (subtask_names subtasks.now) (plan_view plan.now))) }
     {
         let children = read_places(alloc, plan)?;
         let numbers = read_actions(alloc, actions, plan)?;
         check_children(alloc, actions, subtasks, plan, &children)?;
-        Ok(Tree {
-            actions: numbers,
-            children,
-        })
+        Ok(Tree { actions: numbers })
     }
 
     /// The number of the action of each action line.
@@ -82,13 +76,6 @@ impl Tree {
         ensures { result.now ≡ self.now.actions.items }
     {
         self.actions.as_slice()
-    }
-
-    /// The place of the line of each child of the root.
-    pub(crate) fn children(&self) -> &[usize]
-        ensures { result.now ≡ self.now.children.items }
-    {
-        self.children.as_slice()
     }
 }
 

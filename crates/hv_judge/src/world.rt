@@ -7,7 +7,7 @@ ghost use Rattle.hv_judge.specs.DomainViews.{action_view, domain_view};
 ghost use Rattle.hv_judge.specs.ProblemViews.{problem_view};
 ghost use Rattle.hv_judge.specs.Trees.{declared_names};
 ghost use Rattle.hv_judge.specs.Views.{formula_view, literal_view};
-ghost use Rattle.hv_judge.specs.Statics.{predicate_names, action_names, names};
+ghost use Rattle.hv_judge.specs.Statics.{action_names, names};
 
 mod build;
 mod fault;
@@ -22,15 +22,13 @@ pub(crate) use fault::{Side, StaticFault, StaticKind};
 use hv_text::Name;
 use indexmap::IndexSet;
 
-/// A domain and a problem without static faults, and the names that the domain declares. An action's
+/// A domain and a problem without static faults, and the names of the actions that the domain declares. An action's
 /// number is its place among the actions of the domain.
 #[derive(Drop)]
 pub struct World<'s> {
     domain: DomainText<'s>,
     problem: ProblemText<'s>,
-    predicates: IndexSet<Name<'s>>,
     actions: IndexSet<Name<'s>>,
-    pub ghost predicates_numbered: { map text_of predicates.keys ≡ predicate_names (domain_view domain) },
     pub ghost actions_numbered: { map text_of actions.keys ≡ action_names (domain_view domain) },
 }
 
@@ -68,12 +66,5 @@ impl<'s> World<'s> {
         ensures { option_map (λ g. formula_view g.now) result ≡ (problem_view self.now.problem).goal }
     {
         self.problem.goal()
-    }
-
-    /// The place among the predicates of the domain of the one of this name.
-    pub(crate) fn predicate_number(&self, name: &Name<'_>) -> Option<usize>
-        ensures { result ≡ position (bytes_eq (text_of name.now)) (predicate_names (domain_view self.now.domain)) }
-    {
-        self.predicates.get_index_of(name)
     }
 }

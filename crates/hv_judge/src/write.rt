@@ -1,28 +1,15 @@
 //! The text of an answer, written piece by piece: writing takes no memory.
 
 ghost use Rattle.std.specs.Prelude.{◌≡◌, ◌<◌, ◌≤◌, length, ◌+◌, ◌-◌, ◌^◌, ◌++◌, codes, Some, OnOk, OnErr, is_ok, if◌then◌else◌};
-ghost use Rattle.std.specs.List.{flat_map};
 ghost use Rattle.std.specs.Io.KnownBytes.{Appends};
 ghost use Rattle.hv_text.specs.Bytes.{lower};
 ghost use Rattle.hv_text.specs.Names.{text_of};
-ghost use Rattle.hv_judge.specs.Text.{AppendsBeginning, line_text, place_text, ids_text, names_text, children_text, objects_text, choice_text, root_text, node_text, nodes_text, certificate_text, cause_text, fault_text, verdict_text, explanation, answer_text};
+ghost use Rattle.hv_text.specs.Io.{AppendsBeginning};
+ghost use Rattle.hv_judge.specs.Text.{line_text, place_text, ids_text, names_text, children_text, objects_text, choice_text, root_text, node_text, nodes_text, certificate_text, cause_text, fault_text, verdict_text, explanation, answer_text};
 
 use crate::answer::{Answer, Cause, Certificate, Choice, Fault, Place, Which};
-use hv_text::{Name, Sink, WriteFault, write_all};
+use hv_text::{Name, Sink, WriteFault, write_all, write_parts};
 use itoa::Buffer;
-
-/// Writes texts one after another. Where a write fails, a beginning of them was written. No memory is taken.
-pub fn write_parts<W: Sink>(out: &mut W, parts: &[&[u8]]) -> Result<(), WriteFault>
-    requires { W.failures out.old < 2 ^ 64 - 1 }
-    ensures ok { OnOk result (Appends (W.taken out.old) (W.taken out.new) (flat_map (λ p. p.now) parts.now)) }
-    ensures err { OnErr result (AppendsBeginning (W.taken out.old) (W.taken out.new) (flat_map (λ p. p.now) parts.now)) }
-    ensures failures { W.failures out.new ≡ W.failures out.old + (if is_ok result then 0 else 1) }
-{
-    for part in parts {
-        write_all(out, part)?;
-    }
-    Ok(())
-}
 
 fn write_line<W: Sink>(out: &mut W, line: u32) -> Result<(), WriteFault>
     requires { W.failures out.old < 2 ^ 64 - 1 }

@@ -9,7 +9,7 @@ ghost use Rattle.hv_judge.specs.Domains.{formula_at, effect_at, action_of, domai
 ghost use Rattle.hv_judge.specs.Views.{formula_view, literal_view};
 ghost use Rattle.hv_judge.specs.DomainViews.{action_view, domain_section_view, domain_view};
 
-use crate::syntax::fault::{SyntaxFault, SyntaxKind};
+use crate::syntax::fault::SyntaxFault;
 use crate::syntax::field::{Slot, field, is_field_list, is_nothing};
 use crate::syntax::formula::{FormulaText, read_formula};
 use crate::syntax::literal::{LiteralText, read_atoms, read_effect, read_symbol};
@@ -18,6 +18,7 @@ use crate::syntax::section::{
     Standing, are_keywords, headed, is_unsupported, refused, sections_of, span_of, unread,
 };
 use crate::syntax::word::Placed;
+use hv_syntax::SyntaxKind;
 use hv_text::{Name, Sexp, Span, TextKind};
 use std::alloc::Global;
 

@@ -2,25 +2,9 @@
 
 ghost use Rattle.std.specs.Prelude.{◌≡◌};
 
+use hv_syntax::SyntaxKind;
 use hv_text::{Span, TextFault, TextKind};
 use std::alloc::AllocFailed;
-
-/// The kinds of faults of the text of a domain or a problem.
-#[derive(Clone, Copy, Debug, PartialEq, Eq)]
-pub enum SyntaxKind {
-    /// The text is no list of expressions, or memory ran out.
-    Text(TextKind),
-    /// The text is not exactly one list that begins with `define` and its title.
-    NotDefine,
-    /// A member is no list that a section's keyword heads.
-    UnknownSection,
-    /// A second section of a head that may stand once.
-    RepeatedSection,
-    /// A problem lacks `:domain`, `:htn` or `:init`.
-    MissingSection,
-    /// A section of the language that is not read.
-    Unsupported,
-}
 
 /// A fault, and its place: 0 to 0 where it has none.
 #[derive(Clone, Copy, Debug, PartialEq, Eq)]
@@ -43,7 +27,7 @@ impl SyntaxFault {
 
 impl From<TextFault> for SyntaxFault {
     ghost use Rattle.std.specs.Prelude.{◌≡◌};
-    ghost use Rattle.hv_judge.specs.declared.syntax.fault.SyntaxKind.TheVariants as kinds;
+    ghost use Rattle.hv_syntax.specs.declared.fault.SyntaxKind.TheVariants as kinds;
 
     ghost from_gives = { λ f e. e ≡ record { kind = kinds.Text f.kind; span = f.span } };
 
@@ -57,7 +41,7 @@ impl From<TextFault> for SyntaxFault {
 
 impl<T: Drop> From<AllocFailed<T>> for SyntaxFault {
     ghost use Rattle.std.specs.Prelude.{◌≡◌};
-    ghost use Rattle.hv_judge.specs.declared.syntax.fault.SyntaxKind.TheVariants as kinds;
+    ghost use Rattle.hv_syntax.specs.declared.fault.SyntaxKind.TheVariants as kinds;
     ghost use Rattle.hv_text.specs.declared.fault.TextKind.TheVariants as texts;
 
     ghost from_gives = { λ _ e. e.kind ≡ kinds.Text texts.Memory };

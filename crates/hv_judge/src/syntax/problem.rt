@@ -9,7 +9,7 @@ ghost use Rattle.hv_judge.specs.Problems.{subtasks_at, network_of, goal_by, prob
 ghost use Rattle.hv_judge.specs.Views.{word_view, formula_view};
 ghost use Rattle.hv_judge.specs.ProblemViews.{problem_section_view, problem_view};
 
-use crate::syntax::fault::{SyntaxFault, SyntaxKind};
+use crate::syntax::fault::SyntaxFault;
 use crate::syntax::field::{Slot, field, is_field_list, is_nothing};
 use crate::syntax::formula::{FormulaText, read_formula};
 use crate::syntax::literal::{LiteralText, only, read_literals, read_subtasks};
@@ -19,6 +19,7 @@ use crate::syntax::section::{
     span_of, unread,
 };
 use crate::syntax::word::Placed;
+use hv_syntax::SyntaxKind;
 use hv_text::{Name, Sexp, Span};
 use std::alloc::Global;
 

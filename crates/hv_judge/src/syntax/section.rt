@@ -8,10 +8,11 @@ ghost use Rattle.hv_judge.specs.Reading.{only, all_are};
 ghost use Rattle.hv_judge.specs.Faults.{IsUnread};
 ghost use Rattle.hv_judge.specs.Sections.{headed, is_headed_by, occurs, is_title, is_one_name, sections_of, refused, is_unsupported, are_keywords};
 
-use crate::syntax::fault::{SyntaxFault, SyntaxKind};
+use crate::syntax::fault::SyntaxFault;
 use crate::syntax::literal::only;
 use crate::syntax::refusal::Refusal;
 use crate::syntax::word::{Sort, is_sorted_word, is_the_word};
+use hv_syntax::SyntaxKind;
 use hv_text::{Name, Sexp, Span};
 
 /// How a section stands in a text.

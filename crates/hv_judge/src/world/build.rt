@@ -76,14 +76,13 @@ impl<'s> World<'s> {
             return Err(fault);
         }
         let Tables {
-            predicates,
+            predicates: _,
             actions,
             fault: _,
         } = tables;
         Ok(World {
             domain,
             problem,
-            predicates,
             actions,
         })
     }

@@ -14,7 +14,6 @@ returns-in-Some-problem_fault-clause-err c =
 
 pub invariant_of-result : goal.invariant_of-result
 invariant_of-result c = record {
-  predicates_numbered = c.in_ok-tables.ensures.ok.predicates_exact c.in_default.is;
   actions_numbered = c.in_ok-tables.ensures.ok.actions_exact c.in_default.is;
 }
 
