@@ -1,9 +1,9 @@
 -- How the program ends.
 use Rattle.std.specs.Prelude.{ℕ, List, [], ◌++◌, codes}
-use Rattle.hv_judge.specs.declared.running.Kind.TheVariants as kinds
+use Rattle.hv_judge.specs.declared.answer.Kind.TheVariants as kinds
 use Rattle.hv_judge.specs.declared.printing.Printed.TheVariants as printed
 use Rattle.hddlv.specs.declared.end.End.{End}
-use Rattle.hddlv.specs.declared.end.End.TheVariants.{Judged, Printed, Words, CannotRead, CannotWrite, OutOfMemory}
+use Rattle.hddlv.specs.declared.end.End.TheVariants.{Judged, Printed, Words, NotUtf8, Missing, CannotRead, CannotWrite, OutOfMemory}
 
 -- the exit status
 abbrev pub status_of : End → ℕ
@@ -14,6 +14,8 @@ status_of (Judged kinds.Rejected) = 3
 status_of (Printed printed.Done) = 0
 status_of (Printed printed.Rejected) = 3
 status_of Words = 4
+status_of NotUtf8 = 4
+status_of Missing = 4
 status_of (CannotRead name) = 5
 status_of CannotWrite = 5
 status_of OutOfMemory = 5
@@ -23,6 +25,8 @@ abbrev pub line_of : End → List ℕ
 line_of (Judged kind) = []
 line_of (Printed end) = []
 line_of Words = []
+line_of NotUtf8 = codes "hddlv: a word of the command line is not UTF-8\n"
+line_of Missing = codes "hddlv: the command line lacks a command or a value\n"
 line_of (CannotRead name) = codes "hddlv: cannot read " ++ (name.now ++ codes "\n")
 line_of CannotWrite = codes "hddlv: cannot write\n"
 line_of OutOfMemory = codes "hddlv: out of memory\n"

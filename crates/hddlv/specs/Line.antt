@@ -37,11 +37,11 @@ judge_line = with_rule (with_rule (with_rule (with_rule (with_rule (new_app (com
 abbrev pub print_line : Text → App
 print_line name = with_rule (new_app name) (file_rule (codes "file"))
 
--- the whole command, of which one subcommand must be named
+-- the whole command, of which one subcommand must be named; it has a version
 abbrev pub line : App
 line =
     with_subcommand (with_subcommand (with_subcommand (with_subcommand
-    (record (new_app (codes "hddlv")) { top = record (new_app (codes "hddlv")).top { subcommand_required = true } })
+    (record (new_app (codes "hddlv")) { top = record (new_app (codes "hddlv")).top { has_version = true; subcommand_required = true } })
     judge_line.top) (print_line (command_of PrintDomain)).top) (print_line (command_of PrintProblem)).top) (print_line (command_of PrintPlan)).top
 
 -- the number is what the text of `--limit` spells

@@ -57,7 +57,7 @@ fn judge_command<'a>(alloc: Global) -> Result<Command<'a>, AllocError>
     ensures app { IfOk result (λ c. app_of c ≡ judge_line) }
     ensures local { IfOk result (λ c. (out-Command c).has_globals ≡ false) }
 {
-    let command = Command::new(alloc, "judge");
+    let command = Command::new(alloc, "judge").about("Judge whether a plan solves a problem");
     let command = with_arg(command, limit_arg(alloc))?;
     let command = with_arg(command, explain_arg(alloc))?;
     let command = with_arg(command, file_arg(alloc, "domain", "The domain, in HDDL"))?;
@@ -69,11 +69,15 @@ fn judge_command<'a>(alloc: Global) -> Result<Command<'a>, AllocError>
     Ok(command)
 }
 
-fn print_command<'a>(alloc: Global, name: &'a str) -> Result<Command<'a>, AllocError>
+fn print_command<'a>(
+    alloc: Global,
+    name: &'a str,
+    about: &'a str,
+) -> Result<Command<'a>, AllocError>
     ensures app { IfOk result (λ c. app_of c ≡ print_line name.entry.now) }
     ensures local { IfOk result (λ c. (out-Command c).has_globals ≡ false) }
 {
-    let command = Command::new(alloc, name);
+    let command = Command::new(alloc, name).about(about);
     let command = with_arg(
         command,
         file_arg(alloc, "file", "The text whose canonical form is written"),
@@ -84,21 +88,43 @@ fn print_command<'a>(alloc: Global, name: &'a str) -> Result<Command<'a>, AllocE
 fn command<'a>(alloc: Global) -> Result<Command<'a>, AllocError>
     ensures { IfOk result (λ c. app_of c ≡ line) }
 {
-    let command = Command::new(alloc, "hddlv").subcommand_required(true);
+    let command = Command::new(alloc, "hddlv")
+        .about(
+            "Judges plans of hierarchical planning problems, with proof that its answers are right",
+        )
+        .version("0.1.0")
+        .subcommand_required(true);
     let command = with_command(command, judge_command(alloc)?)?;
-    let command = with_command(command, print_command(alloc, "print-domain")?)?;
-    let command = with_command(command, print_command(alloc, "print-problem")?)?;
-    let command = with_command(command, print_command(alloc, "print-plan")?)?;
+    let command = with_command(
+        command,
+        print_command(
+            alloc,
+            "print-domain",
+            "Print a domain in its canonical form",
+        )?,
+    )?;
+    let command = with_command(
+        command,
+        print_command(
+            alloc,
+            "print-problem",
+            "Print a problem in its canonical form",
+        )?,
+    )?;
+    let command = with_command(
+        command,
+        print_command(alloc, "print-plan", "Print a plan in its canonical form")?,
+    )?;
     Ok(command)
 }
 
-// A value that the definition of the command asks for is never missing; nothing here proves that, and `Memory` is answered in its place.
+// A value that the definition of the command asks for is never missing; nothing here proves that, so `Missing` is answered in its place.
 fn text_of(alloc: Global, matches: &ArgMatches<'_>, id: &str) -> Result<String, JobFault>
     ensures { IfOk result (λ s. first_of id.now (rows_of (found_of matches.now)) ≡ Some (string_bytes s)) }
 {
     match matches.get_str(id) {
         Some(text) => Ok(String::from_str(alloc, text)?),
-        None => Err(JobFault::Memory),
+        None => Err(JobFault::Missing),
     }
 }
 
@@ -107,7 +133,7 @@ fn limit_of(matches: &ArgMatches<'_>) -> Result<u64, JobFault>
 {
     match matches.get_one::<u64>("limit") {
         Some(limit) => Ok(limit),
-        None => Err(JobFault::Memory),
+        None => Err(JobFault::Missing),
     }
 }
 
@@ -172,7 +198,8 @@ fn mode_of(name: &str) -> Option<Mode>
 ///
 /// # Errors
 ///
-/// `Words` where they do not parse or ask for help, and `Memory` where a growth was refused.
+/// `Words` where they do not parse, or ask for help or the version; `Missing` where they parse but lack a command or a value that
+/// each line must have; and `Memory` where a growth was refused.
 pub fn job<'a>(alloc: Global, words: &'a [&'a str]) -> Result<Job, JobFault>
     ensures { IfOk result (IsJobOf (subcommand_of line (map (λ w. w.now) words.entry.now))) }
 {
@@ -180,11 +207,11 @@ pub fn job<'a>(alloc: Global, words: &'a [&'a str]) -> Result<Job, JobFault>
     let matches = command.try_get_matches_from(words)?;
     // nor is one of the defined commands ever missing
     let Some((name, inner)) = matches.subcommand() else {
-        return Err(JobFault::Memory);
+        return Err(JobFault::Missing);
     };
     match mode_of(name) {
         Some(Mode::Judge) => Ok(judge_job(alloc, inner)?),
         Some(mode) => Ok(print_job(alloc, mode, inner)?),
-        None => Err(JobFault::Memory),
+        None => Err(JobFault::Missing),
     }
 }

@@ -8,6 +8,8 @@ mod task;
 mod tests;
 
 ghost use Rattle.std.specs.Prelude.{◌≡◌, IfOk, length};
+ghost use Rattle.std.specs.Process.{exit_status};
+ghost use Rattle.hddlv.specs.Ends.{status_of};
 ghost use Rattle.hddlv.specs.Line.{file_arguments};
 
 use end::{End, status, write_end};
@@ -15,7 +17,6 @@ use hv_judge::{Kind, RunFault, Which, run, run_print};
 use hv_text::{FromReader, ToWriter};
 use line::job;
 use std::alloc::Global;
-use std::fmt::Display;
 use std::fs::{self, File};
 use std::process::ExitCode;
 use std::{env, io};
@@ -114,15 +115,21 @@ fn end_of<'a>(rt: &HostRuntime, job: &'a Job) -> End<'a>
 }
 
 // Writes the line of an end to standard error, and gives its status.
-fn conclude(rt: &HostRuntime, end: &End<'_>) -> ExitCode {
+fn conclude(rt: &HostRuntime, end: &End<'_>) -> ExitCode
+    ensures { exit_status result ≡ status_of end.now }
+{
     let mut err = ToWriter::new(rt.stderr());
     let _ = write_end(end, &mut err);
     ExitCode::from(status(end))
 }
 
-// Says on standard error why the words are refused.
-fn refuse_words(rt: &HostRuntime, reason: &impl Display) -> ExitCode {
-    let _ = eprintln!(rt; "{reason}");
+// Writes `clap`'s text on the words to standard error. A mistake is said to be one of this program's words; help and the version
+// say so themselves.
+fn refuse_words(rt: &HostRuntime, error: &clap::Error) -> ExitCode
+    ensures { exit_status result ≡ 4 }
+{
+    let owner = if error.use_stderr() { "hddlv: " } else { "" };
+    let _ = eprint!(rt; "{owner}{error}");
     conclude(rt, &End::Words)
 }
 
@@ -142,11 +149,12 @@ fn main(rt: HostRuntime) -> ExitCode {
         Err(error) if error.kind() == io::ErrorKind::OutOfMemory => {
             return conclude(&rt, &End::OutOfMemory);
         }
-        Err(error) => return refuse_words(&rt, &error),
+        Err(_) => return conclude(&rt, &End::NotUtf8),
     };
     match job_of(rt.alloc(), &words) {
         Ok(job) => conclude(&rt, &end_of(&rt, &job)),
         Err(JobFault::Words(error)) => refuse_words(&rt, &error),
+        Err(JobFault::Missing) => conclude(&rt, &End::Missing),
         Err(JobFault::Memory) => conclude(&rt, &End::OutOfMemory),
     }
 }

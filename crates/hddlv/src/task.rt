@@ -32,9 +32,12 @@ pub struct Job {
 /// Why the words name no job.
 #[derive(Debug, Drop, Error)]
 pub enum JobFault {
-    /// They do not parse, or ask for help.
+    /// They do not parse, or ask for help or the version.
     #[error("{0}")]
     Words(clap::Error),
+    /// They parse, but lack a command or a value that each line must have.
+    #[error("the command line lacks a command or a value")]
+    Missing,
     /// A growth of memory was refused.
     #[error("out of memory")]
     Memory,

@@ -101,6 +101,7 @@ fn words_that_are_refused(rt: HostRuntime) -> Result<(), Fail> {
     assert!(rt; is_refused(alloc, &[]));
     assert!(rt; is_refused(alloc, &["hddlv"]));
     assert!(rt; is_refused(alloc, &["hddlv", "--help"]));
+    assert!(rt; is_refused(alloc, &["hddlv", "--version"]));
     assert!(rt; is_refused(alloc, &["hddlv", "solve", "d", "p", "q"]));
     assert!(rt; is_refused(alloc, &["hddlv", "judge", "d", "p"]));
     assert!(rt; is_refused(alloc, &["hddlv", "judge", "d", "p", "q", "r"]));
@@ -129,6 +130,16 @@ fn ends(rt: HostRuntime) -> Result<(), Fail> {
         (End::Printed(Printed::Done), 0, ""),
         (End::Printed(Printed::Rejected), 3, ""),
         (End::Words, 4, ""),
+        (
+            End::NotUtf8,
+            4,
+            "hddlv: a word of the command line is not UTF-8\n",
+        ),
+        (
+            End::Missing,
+            4,
+            "hddlv: the command line lacks a command or a value\n",
+        ),
         (End::CannotRead("a b"), 5, "hddlv: cannot read a b\n"),
         (End::CannotWrite, 5, "hddlv: cannot write\n"),
         (End::OutOfMemory, 5, "hddlv: out of memory\n"),
