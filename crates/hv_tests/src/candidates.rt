@@ -3,7 +3,7 @@
 ghost use Rattle.std.specs.Prelude.{◌<◌, length, IfSome};
 ghost use Rattle.hv_world.specs.WorldViews.{world_view};
 ghost use Rattle.hv_plan.specs.BuiltTrees.{tree_view};
-ghost use Rattle.hv_match.specs.Candidates.{IsNode};
+ghost use Rattle.hv_plan.specs.PlanTrees.{IsTreeIn};
 
 mod slow;
 
@@ -12,16 +12,16 @@ use crate::texts::{
     WIDE, WIDE_APART,
 };
 use crate::worlds::{plan_of, tree_of, world_of};
-use hv_match::{Candidate, Candidates, count, exceeds};
+use hv_match::{Candidates, count, exceeds, is_candidate};
 use hv_plan::Tree;
-use hv_world::World;
+use hv_world::{ObjectId, World};
 use std::alloc::Global;
 
 // The number of the node of an id, which the root line's has none.
-fn node_of(tree: &Tree<'_, '_>, id: Option<u64>) -> Option<usize>
+fn node_of(tree: &Tree<'_, '_>, id: Option<u64>) -> Option<u32>
     ensures { IfSome result (λ v. v < length (tree_view tree.now).nodes) }
 {
-    for number in 0..tree.nodes().len() {
+    for number in 0..tree.node_count() {
         if tree.node(number)?.id() == id {
             return Some(number);
         }
@@ -29,24 +29,51 @@ fn node_of(tree: &Tree<'_, '_>, id: Option<u64>) -> Option<usize>
     None
 }
 
-// The candidates of a node, where they are fewer than a thousand.
-fn all(alloc: Global, world: &World<'_>, tree: &Tree<'_, '_>, node: usize) -> Option<Vec<Candidate>>
-    requires { IsNode (world_view world.now) (tree_view tree.now) node }
+/// For each subtask the place of its child, and for each parameter its object.
+#[derive(Drop)]
+pub(crate) struct Candidate {
+    pub(crate) children: Vec<usize>,
+    pub(crate) objects: Vec<ObjectId>,
+}
+
+// The candidate that is lent.
+fn lent(alloc: Global, candidates: &Candidates<'_>) -> Option<Candidate> {
+    let mut children = Vec::new(alloc);
+    for place in candidates.children() {
+        children.push(*place as usize).ok()?;
+    }
+    let objects = Vec::from_slice(alloc, candidates.objects()).ok()?;
+    Some(Candidate { children, objects })
+}
+
+// The candidates of a node, where they are fewer than a thousand and each is said to be one.
+fn all(alloc: Global, world: &World<'_>, tree: &Tree<'_, '_>, node: u32) -> Option<Vec<Candidate>>
+    requires tree { IsTreeIn (world_view world.now) (tree_view tree.now) }
+    requires node { node < length (tree_view tree.now).nodes }
 {
     let mut candidates = Candidates::new(alloc, world, tree, node).ok()?;
     let mut all = Vec::new(alloc);
     for _ in 0..1000 {
-        match candidates.next(alloc).ok()? {
-            Some(candidate) => all.push(candidate).ok()?,
-            None => return Some(all),
+        let has_next = candidates.has_next().ok()?;
+        if candidates.advance().ok()? != has_next {
+            return None;
         }
+        if !has_next {
+            return Some(all);
+        }
+        let (children, objects) = (candidates.children(), candidates.objects());
+        if !is_candidate(alloc, world, tree, node, children, objects).ok()? {
+            return None;
+        }
+        all.push(lent(alloc, &candidates)?).ok()?;
     }
     None
 }
 
 // Whether the count of a node is this one.
-fn is_count(world: &World<'_>, tree: &Tree<'_, '_>, node: usize, wanted: u64) -> bool
-    requires { IsNode (world_view world.now) (tree_view tree.now) node }
+fn is_count(world: &World<'_>, tree: &Tree<'_, '_>, node: u32, wanted: u64) -> bool
+    requires tree { IsTreeIn (world_view world.now) (tree_view tree.now) }
+    requires node { node < length (tree_view tree.now).nodes }
 {
     if wanted > 0 && !exceeds(world, tree, node, wanted - 1) {
         return false;

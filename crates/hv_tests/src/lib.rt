@@ -1,4 +1,4 @@
-//! The tests of the library crates, which call their public items alone. Beside the tests there is nothing here.
+//! The tests of the library crates below the judge, which call their public items alone. Beside the tests there is nothing here.
 #![tactic(auto)]
 
 #[cfg(test)]
@@ -6,13 +6,13 @@ mod candidates;
 #[cfg(test)]
 mod canonical;
 #[cfg(test)]
-mod judge;
-#[cfg(test)]
 mod plan;
 #[cfg(test)]
 mod state;
 #[cfg(test)]
 mod syntax;
+#[cfg(test)]
+mod text;
 #[cfg(test)]
 mod texts;
 #[cfg(test)]

@@ -4,10 +4,10 @@ use crate::texts::{
     EMPTY, FLIP, FLIP_ONCE, NO_RELIC_EXISTS, ONE, RELIC_EXISTS, TRANSPORT, negated,
 };
 use crate::worlds::world_of;
-use hv_state::{AtomView, SortedState, State, Stop, Trace, truth};
+use hv_state::{AtomView, GroundAtoms, SortedState, State, Stop, Trace, next_row, truth};
 use hv_text::{Word, read_words};
 use hv_world::{
-    ActionId, Atom, Binding, Formula, GroundAction, ObjectId, PredicateId, TaskName, Term, World,
+    ActionId, Atom, Binding, Formula, GroundActions, ObjectId, PredicateId, TaskName, Term, World,
 };
 use std::alloc::Global;
 
@@ -131,7 +131,9 @@ fn moved(alloc: Global, objects: &[ObjectId]) -> Option<SortedState> {
     let mut state = SortedState::initial(alloc, &world).ok()?;
     let action = world.action(ActionId(0))?;
     let binding = Binding::Given(objects);
-    state.apply(action.deletes(), action.adds(), &binding).ok()?;
+    let deletes = GroundAtoms::of(alloc, action.deletes(), &binding).ok()?;
+    let adds = GroundAtoms::of(alloc, action.adds(), &binding).ok()?;
+    state.apply(&deletes, &adds).ok()?;
     Some(state)
 }
 
@@ -156,7 +158,9 @@ fn adds_come_after_deletes(rt: HostRuntime) {
 fn without(state: &SortedState, alloc: Global) -> Option<SortedState> {
     let mut other = state.copy(alloc).ok()?;
     let atom = atom(alloc, AT, &[LEFT])?;
-    other.apply(&[atom], &[], &NONE).ok()?;
+    let mut deletes = GroundAtoms::new(alloc);
+    deletes.push(&AtomView::new(&atom, &NONE)).ok()?;
+    other.apply(&deletes, &GroundAtoms::new(alloc)).ok()?;
     Some(other)
 }
 
@@ -226,8 +230,13 @@ fn negations_nest(rt: HostRuntime) {
     assert!(rt; is_true_within(rt.alloc(), 253) == Some(false));
 }
 
-// The ground action of a line: the action's name, and those of its objects.
-fn ground<'s>(alloc: Global, world: &World<'s>, line: &'s [u8]) -> Option<GroundAction> {
+// Puts the ground action of a line behind others: the action's name, and those of its objects.
+fn push_line<'s>(
+    alloc: Global,
+    world: &World<'s>,
+    actions: &mut GroundActions,
+    line: &'s [u8],
+) -> Option<()> {
     let words = read_words(alloc, line).ok()?;
     let mut action = None;
     let mut objects = Vec::new(alloc);
@@ -241,7 +250,10 @@ fn ground<'s>(alloc: Global, world: &World<'s>, line: &'s [u8]) -> Option<Ground
         }
     }
     match action? {
-        TaskName::Primitive(action) => world.ground(action, objects),
+        TaskName::Primitive(action) => {
+            let step = world.ground(action, &objects)?;
+            actions.push(step.action(), step.objects()).ok()
+        }
         TaskName::Compound(_) => None,
     }
 }
@@ -250,12 +262,15 @@ fn ground<'s>(alloc: Global, world: &World<'s>, line: &'s [u8]) -> Option<Ground
 fn then<'s>(
     alloc: Global,
     world: &World<'s>,
-    mut actions: Vec<GroundAction>,
+    mut actions: GroundActions,
     line: &'s [u8],
-) -> Option<Vec<GroundAction>> {
-    let action = ground(alloc, world, line)?;
-    actions.push(action).ok()?;
+) -> Option<GroundActions> {
+    push_line(alloc, world, &mut actions, line)?;
     Some(actions)
+}
+
+fn no_actions(alloc: Global) -> Option<GroundActions> {
+    GroundActions::with_capacity(alloc, 0).ok()
 }
 
 // The ground actions of three lines of the transport.
@@ -265,14 +280,14 @@ fn three<'s>(
     first: &'s [u8],
     second: &'s [u8],
     third: &'s [u8],
-) -> Option<Vec<GroundAction>> {
-    let one = then(alloc, world, Vec::new(alloc), first)?;
+) -> Option<GroundActions> {
+    let one = then(alloc, world, no_actions(alloc)?, first)?;
     let two = then(alloc, world, one, second)?;
     then(alloc, world, two, third)
 }
 
 // Whether three actions run, and the truck is where it began at first, then not, and the goal holds.
-fn delivers(alloc: Global, world: &World<'_>, actions: &[GroundAction]) -> Option<bool> {
+fn delivers(alloc: Global, world: &World<'_>, actions: &GroundActions) -> Option<bool> {
     if actions.len() != 3 {
         return None;
     }
@@ -301,6 +316,52 @@ fn a_truck_brings_a_package(rt: HostRuntime) {
     assert!(rt; brings_a_package(rt.alloc()) == Some(true));
 }
 
+// Whether the truck is where it began until it drives, and never again.
+fn stays_until_it_drives(
+    alloc: Global,
+    world: &World<'_>,
+    actions: &GroundActions,
+) -> Option<bool> {
+    if actions.len() != 3 {
+        return None;
+    }
+    let there = Formula::Holds(atom(alloc, 0, &[LEFT, OTHER])?);
+    let trace: Trace<SortedState> = Trace::run(alloc, world, actions).ok()?;
+    let until = (
+        trace.unchanged_until(0, &there, &NONE),
+        trace.unchanged_until(2, &there, &NONE),
+    );
+    let first = (
+        trace.first_true(0, 3, &there, &NONE),
+        trace.first_true(2, 3, &there, &NONE),
+    );
+    Some(until == (2, 4) && first == (Some((0, 1)), None))
+}
+
+fn changes_once(alloc: Global) -> Option<bool> {
+    let world = world_of(alloc, TRANSPORT, ONE)?;
+    let actions = three(
+        alloc,
+        &world,
+        b"load t1 p1 a",
+        b"drive t1 a b",
+        b"unload t1 p1 b",
+    )?;
+    stays_until_it_drives(alloc, &world, &actions)
+}
+
+#[test]
+fn a_truth_stays_until_its_atom_changes(rt: HostRuntime) {
+    assert!(rt; changes_once(rt.alloc()) == Some(true));
+}
+
+#[test]
+fn deletes_come_before_adds_in_a_word(rt: HostRuntime) {
+    let mut row = [12];
+    next_row(&mut row, &[6], &[2]);
+    assert!(rt; row == [10]);
+}
+
 // Why the actions of these lines do not run.
 fn stop_of(
     alloc: Global,
@@ -325,7 +386,7 @@ fn a_plan_stops_at_the_first_action_that_is_not_applicable(rt: HostRuntime) {
 }
 
 // Whether an atom is false at first, and true after one action, and the goal is so too.
-fn flips(alloc: Global, world: &World<'_>, actions: &[GroundAction]) -> Option<bool> {
+fn flips(alloc: Global, world: &World<'_>, actions: &GroundActions) -> Option<bool> {
     if actions.len() != 1 {
         return None;
     }
@@ -337,7 +398,7 @@ fn flips(alloc: Global, world: &World<'_>, actions: &[GroundAction]) -> Option<b
 
 fn flip(alloc: Global) -> Option<bool> {
     let world = world_of(alloc, FLIP, FLIP_ONCE)?;
-    let actions = then(alloc, &world, Vec::new(alloc), b"flip")?;
+    let actions = then(alloc, &world, no_actions(alloc)?, b"flip")?;
     flips(alloc, &world, &actions)
 }
 
@@ -349,7 +410,8 @@ fn an_atom_deleted_and_added_is_true(rt: HostRuntime) {
 // Whether the goal holds where nothing is done.
 fn holds_at_once(alloc: Global, domain: &[u8], problem: &[u8]) -> Option<bool> {
     let world = world_of(alloc, domain, problem)?;
-    let trace: Trace<SortedState> = Trace::run(alloc, &world, &[]).ok()?;
+    let actions = no_actions(alloc)?;
+    let trace: Trace<SortedState> = Trace::run(alloc, &world, &actions).ok()?;
     Some(trace.goal_holds())
 }
 
@@ -366,7 +428,8 @@ fn goals_of_plans_without_actions(rt: HostRuntime) {
 fn is_applicable_at_once(alloc: Global, domain: &[u8], problem: &[u8]) -> Option<bool> {
     let world = world_of(alloc, domain, problem)?;
     let action = world.action(ActionId(0))?;
-    let trace: Trace<SortedState> = Trace::run(alloc, &world, &[]).ok()?;
+    let actions = no_actions(alloc)?;
+    let trace: Trace<SortedState> = Trace::run(alloc, &world, &actions).ok()?;
     Some(trace.holds_at(0, action.precondition(), &NONE))
 }
 

@@ -18,13 +18,20 @@ fn cause(alloc: Global, world: &World<'static>, text: &'static [u8]) -> (u32, u3
     }
 }
 
+// Whether the action of a place in plan order is this one, with these objects.
+fn is_action(tree: &Tree<'_, '_>, place: usize, action: usize, objects: &[ObjectId]) -> bool {
+    match tree.actions().get(place) {
+        Some(found) => found.action().0 == action && found.objects() == objects,
+        None => false,
+    }
+}
+
 // Whether the actions are those of the plan, in its order.
 fn has_actions(tree: &Tree<'_, '_>) -> bool {
-    let [load, drive, unload] = tree.actions() else {
-        return false;
-    };
-    (load.action.0, drive.action.0, unload.action.0) == (1, 0, 2)
-        && load.objects.as_slice() == [ObjectId(0), ObjectId(1), ObjectId(2)].as_slice()
+    is_action(tree, 0, 1, &[ObjectId(0), ObjectId(1), ObjectId(2)])
+        && is_action(tree, 1, 0, &[ObjectId(0), ObjectId(2), ObjectId(3)])
+        && is_action(tree, 2, 2, &[ObjectId(0), ObjectId(1), ObjectId(3)])
+        && tree.actions().len() == 3
 }
 
 fn has_action_ids(tree: &Tree<'_, '_>) -> bool {
@@ -50,7 +57,7 @@ fn has_root(tree: &Tree<'_, '_>) -> Option<bool> {
 }
 
 fn begins_with_root(tree: &Tree<'_, '_>) -> Option<bool> {
-    let is_last = tree.nodes().len() == 4 && tree.node_at(0) == Some(3);
+    let is_last = tree.node_count() == 4 && tree.node_at(0) == Some(3);
     Some(is_last && tree.node_at(4).is_none() && has_root(tree)?)
 }
 
@@ -61,7 +68,7 @@ fn nth<'a>(tree: &'a Tree<'_, '_>, k: usize) -> Option<Node<'a>> {
 
 // The k-th node in the order of nodes as a child.
 fn child_at(tree: &Tree<'_, '_>, k: usize) -> Option<Child> {
-    Some(Child::Node(u32::try_from(tree.node_at(k)?).ok()?))
+    Some(Child::Node(tree.node_at(k)?))
 }
 
 // Whether the node of the delivery says what its line says, and its children stand in the order of the line.
@@ -427,7 +434,7 @@ fn accepts_trees(rt: HostRuntime) {
 }
 
 // Whether the k-th nodes have these numbers.
-fn are_in_order(tree: &Tree<'_, '_>, numbers: &[usize]) -> bool {
+fn are_in_order(tree: &Tree<'_, '_>, numbers: &[u32]) -> bool {
     for (k, number) in numbers.iter().enumerate() {
         if tree.node_at(k) != Some(*number) {
             return false;
@@ -436,7 +443,7 @@ fn are_in_order(tree: &Tree<'_, '_>, numbers: &[usize]) -> bool {
     true
 }
 
-fn is_node(tree: &Tree<'_, '_>, node: usize, id: Option<u64>, children: &[Child]) -> bool {
+fn is_node(tree: &Tree<'_, '_>, node: u32, id: Option<u64>, children: &[Child]) -> bool {
     match tree.node(node) {
         Some(node) => node.id() == id && node.children() == children,
         None => false,
@@ -444,12 +451,12 @@ fn is_node(tree: &Tree<'_, '_>, node: usize, id: Option<u64>, children: &[Child]
 }
 
 fn are_nodes(tree: &Tree<'_, '_>) -> bool {
-    tree.nodes().len() == 4
+    tree.node_count() == 4
         && is_node(tree, 0, Some(3), &[])
         && is_node(tree, 1, Some(2), &[Child::Node(0), Child::Action(0)])
         && is_node(tree, 2, Some(0), &[Child::Node(1), Child::Action(1)])
         && is_node(tree, 3, None, &[Child::Node(2)])
-        && tree.nodes().get(4).is_none()
+        && tree.node(4).is_none()
 }
 
 fn is_numbered(alloc: Global) -> Option<bool> {

@@ -93,8 +93,8 @@ fn method_has_numbers(method: &Method<'_>) -> bool {
 
 fn network_has_numbers(network: &Network) -> bool {
     network.subtasks().len() == 2
-        && network.order().before(1, 0)
-        && !network.order().before(0, 1)
+        && network.order().directly_before(0) == [1usize].as_slice()
+        && network.order().directly_before(1).is_empty()
         && network.constraints().len() == 1
         && network.class_sizes() == [1usize, 1].as_slice()
 }
@@ -146,14 +146,8 @@ fn sections_have_numbers(rt: HostRuntime) {
 }
 
 // Whether there is a ground action of these objects.
-fn is_ground(
-    alloc: Global,
-    world: &World<'_>,
-    action: usize,
-    objects: &[ObjectId],
-) -> Option<bool> {
-    let objects = Vec::from_slice(alloc, objects).ok()?;
-    Some(world.ground(ActionId(action), objects).is_some())
+fn is_ground(world: &World<'_>, action: usize, objects: &[ObjectId]) -> bool {
+    world.ground(ActionId(action), objects).is_some()
 }
 
 const HOME: ObjectId = ObjectId(0);
@@ -179,7 +173,7 @@ const GROUNDINGS: [(usize, &[ObjectId], bool); 10] = [
 fn are_grounded(alloc: Global) -> Option<bool> {
     let world = world_of(alloc, DOMAIN, PROBLEM)?;
     for (action, objects, wanted) in GROUNDINGS {
-        if is_ground(alloc, &world, action, objects)? != wanted {
+        if is_ground(&world, action, objects) != wanted {
             return Some(false);
         }
     }
@@ -218,7 +212,9 @@ fn variables_have_numbers(rt: HostRuntime) {
 
 fn deliver_has_its_order(method: &Method<'_>) -> bool {
     let order = method.network().order();
-    method.parameters().len() == 4 && order.before(0, 3) && !order.before(1, 0)
+    method.parameters().len() == 4
+        && order.is_ordered()
+        && order.directly_before(3) == [2usize].as_slice()
 }
 
 fn transport(alloc: Global) -> Option<bool> {

@@ -1,13 +1,10 @@
 //! Worlds, plans and trees of texts, and the numbers of names.
 
-ghost use Rattle.std.specs.Prelude.{◌<◌, ℕ, length, IfSome};
+ghost use Rattle.std.specs.Prelude.{IfSome};
 ghost use Rattle.hv_world.specs.WorldViews.{world_view};
 ghost use Rattle.hv_plan.specs.BuiltTrees.{tree_view};
-ghost use Rattle.hv_plan.specs.LineViews.{plan_view};
-ghost use Rattle.hv_plan.specs.Shapes.{IsInTextOrder};
-ghost use Rattle.hv_match.specs.Candidates.{IsNode};
+ghost use Rattle.hv_plan.specs.PlanTrees.{IsTreeIn};
 
-use hv_match::nodes_have_methods;
 use hv_plan::{PlanText, Tree, read_plan};
 use hv_syntax::{read_domain, read_problem};
 use hv_text::Name;
@@ -38,13 +35,8 @@ pub(crate) fn type_of<'s>(world: &World<'s>, name: &'s [u8]) -> Option<TypeId> {
 }
 
 /// The plan of a text, where it has no fault.
-pub(crate) fn plan_of<'s>(alloc: Global, text: &'s [u8]) -> Option<PlanText<'s>>
-    ensures { IfSome result (λ p. IsInTextOrder (plan_view p)) }
-{
-    match read_plan(alloc, text) {
-        Ok(plan) => Some(plan),
-        Err(_) => None,
-    }
+pub(crate) fn plan_of<'s>(alloc: Global, text: &'s [u8]) -> Option<PlanText<'s>> {
+    read_plan(alloc, text).ok()
 }
 
 /// The tree of a plan in a world.
@@ -53,10 +45,8 @@ pub(crate) fn tree_of<'p, 's>(
     world: &World<'s>,
     plan: &'p PlanText<'s>,
 ) -> Option<Tree<'p, 's>>
-    requires { IsInTextOrder (plan_view plan.now) }
-    ensures { IfSome result (λ t. (v : ℕ) → v < length (tree_view t).nodes → IsNode (world_view world.now) (tree_view t) v) }
+    ensures { IfSome result (λ t. IsTreeIn (world_view world.now) (tree_view t)) }
 {
-    nodes_have_methods();
     match Tree::build(alloc, world, plan) {
         Ok(tree) => Some(tree),
         Err(_) => None,

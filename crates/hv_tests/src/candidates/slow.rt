@@ -1,6 +1,6 @@
 //! The candidates of a node by trial of all children for all subtasks and all objects for all parameters.
 
-use hv_match::Candidate;
+use crate::candidates::Candidate;
 use hv_plan::{Child, Node, Tree};
 use hv_world::{Constraint, Method, ObjectId, Subtask, TaskName, Term, TypeId, World};
 use std::alloc::Global;
@@ -28,12 +28,12 @@ fn does(tree: &Tree<'_, '_>, child: Child, subtask: &Subtask, objects: &[ObjectI
     match child {
         Child::Action(place) => match tree.actions().get(place as usize) {
             Some(action) => {
-                subtask.name == TaskName::Primitive(action.action)
-                    && are(objects, &subtask.terms, &action.objects)
+                subtask.name == TaskName::Primitive(action.action())
+                    && are(objects, &subtask.terms, action.objects())
             }
             None => false,
         },
-        Child::Node(number) => match tree.node(number as usize) {
+        Child::Node(number) => match tree.node(number) {
             Some(node) => match node.task() {
                 Some(task) => {
                     subtask.name == TaskName::Compound(task)
@@ -165,7 +165,7 @@ pub(crate) fn candidates(
     alloc: Global,
     world: &World<'_>,
     tree: &Tree<'_, '_>,
-    node: usize,
+    node: u32,
 ) -> Option<Vec<Candidate>> {
     let node = tree.node(node)?;
     let method = world.method(node.method()?)?;

@@ -70,14 +70,40 @@ fn parameters_in_no_argument_are_free(rt: HostRuntime) {
 // Which of two subtasks come before which, by number.
 type Pairs = &'static [(usize, usize, bool)];
 
-// Whether these pairs of subtasks are in order, or not, as said.
-fn are_before(order: &Order, pairs: Pairs) -> bool {
-    for (earlier, later, wanted) in pairs {
-        if order.before(*earlier, *later) != *wanted {
-            return false;
+// Puts what stands directly before a subtask behind others, up to the one that is looked for; says whether it is there.
+fn reaches(order: &Order, subtask: usize, wanted: usize, reached: &mut Vec<usize>) -> Option<bool> {
+    for direct in order.directly_before(subtask) {
+        if *direct == wanted {
+            return Some(true);
+        }
+        reached.push(*direct).ok()?;
+    }
+    Some(false)
+}
+
+// Whether one subtask comes before another, in a network of a few: it is directly before it, or before one that is.
+fn comes_before(alloc: Global, order: &Order, earlier: usize, later: usize) -> Option<bool> {
+    let mut reached = Vec::new(alloc);
+    reached.push(later).ok()?;
+    for place in 0..100 {
+        let Some(subtask) = reached.get(place).copied() else {
+            return Some(false);
+        };
+        if reaches(order, subtask, earlier, &mut reached)? {
+            return Some(true);
         }
     }
-    true
+    None
+}
+
+// Whether these pairs of subtasks are in order, or not, as said.
+fn are_before(alloc: Global, order: &Order, pairs: Pairs) -> Option<bool> {
+    for (earlier, later, wanted) in pairs {
+        if comes_before(alloc, order, *earlier, *later)? != *wanted {
+            return Some(false);
+        }
+    }
+    Some(true)
 }
 
 // Whether these stand directly before the subtasks, from the first on.
@@ -100,7 +126,7 @@ fn is_ordered(
 ) -> Option<bool> {
     let world = world_of(alloc, DOMAIN, problem)?;
     let order = world.top().network().order();
-    let is_ordered = are_before(order, pairs) && are_direct(order, directs);
+    let is_ordered = are_before(alloc, order, pairs)? && are_direct(order, directs);
     Some(is_ordered && order.arrangement().len() == many)
 }
 

@@ -1,14 +1,14 @@
 //! Whole texts and their verdicts, over readers and a writer.
 
 ghost use Rattle.std.specs.Prelude.{◌≡◌};
-ghost use Rattle.hv_text.specs.Faltering.{writes_failed};
+ghost use Rattle.hv_fixtures.specs.Faltering.{writes_failed};
 
-mod flat;
-mod printing;
-
-use crate::texts::{FLIP, FLIP_ONCE, TWO, UP_DOWN, UP_DOWN_FOR_UP, UP_DOWN_UP};
+use hv_fixtures::{
+    FLIP, FLIP_ONCE, Falter, FalteringReader, FalteringWriter, TWO, UP_DOWN, UP_DOWN_FOR_UP,
+    UP_DOWN_UP,
+};
 use hv_judge::{Kind, RunFault, Which, run};
-use hv_text::{Falter, FalteringReader, FalteringWriter, FromMemory, ToMemory};
+use hv_text::{FromMemory, ToMemory};
 use std::alloc::Global;
 use std::test::Fail;
 
@@ -43,13 +43,18 @@ fn written(
     Ok(String::from_utf8_lossy(alloc, out.written())?)
 }
 
-// What `run` writes without a certificate, within the limit of the command line.
-fn verdict_on(alloc: Global, domain: &[u8], problem: &[u8], plan: &[u8]) -> Result<String, Fail> {
+/// What `run` writes without a certificate, within the limit of the command line.
+pub(crate) fn verdict_on(
+    alloc: Global,
+    domain: &[u8],
+    problem: &[u8],
+    plan: &[u8],
+) -> Result<String, Fail> {
     written(alloc, domain, problem, plan, 1_000_000, false)
 }
 
-// The first of some domains whose verdict is another than the one beside it.
-fn misjudged_domain(
+/// The first of some domains whose verdict is another than the one beside it.
+pub(crate) fn misjudged_domain(
     alloc: Global,
     domains: &[(&'static str, &'static str)],
     problem: &[u8],
@@ -64,8 +69,8 @@ fn misjudged_domain(
     Ok(None)
 }
 
-// The first of some problems whose verdict is another.
-fn misjudged_problem(
+/// The first of some problems whose verdict is another.
+pub(crate) fn misjudged_problem(
     alloc: Global,
     domain: &[u8],
     problems: &[(&'static str, &'static str)],

@@ -1,6 +1,6 @@
 //! What flat texts say, and what is not flat or else at fault.
 
-use super::{misjudged_domain, misjudged_problem, verdict_on};
+use crate::verdicts::{misjudged_domain, misjudged_problem, verdict_on};
 use std::test::Fail;
 
 // Actions of which one is never applicable.

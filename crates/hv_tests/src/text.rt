@@ -1,0 +1,117 @@
+//! Words, expressions, names and places of texts; bytes that come in and go out.
+
+use hv_fixtures::{Falter, FalteringReader, FalteringWriter};
+use hv_text::{
+    Cursor, FromMemory, Lists, Name, ReadFault, Span, TextKind, ToMemory, WriteFault, check_text,
+    place, read_all, read_sexps, read_words, write_all,
+};
+use indexmap::IndexMap;
+use std::test::Fail;
+
+#[test]
+fn reads_words(rt: HostRuntime) -> Result<(), Fail> {
+    let words = read_words(rt.alloc(), b"(define ; (x\n  (Domain f))")?;
+    assert_eq!(rt; words.len(), 7);
+    Ok(())
+}
+
+#[test]
+fn reads_expressions(rt: HostRuntime) -> Result<(), Fail> {
+    let es = read_sexps(rt.alloc(), b"a (b ()) ; c\n d")?;
+    assert_eq!(rt; es.len(), 3);
+    Ok(())
+}
+
+#[test]
+fn reads_expressions_one_at_a_time(rt: HostRuntime) -> Result<(), Fail> {
+    let start = Cursor::new(rt.alloc(), b"a (b ()) ; c\n d")?;
+    let (es, end) = start.read_rest(rt.alloc())?;
+    assert_eq!(rt; es.len(), 3);
+    assert!(rt; end.next().is_none());
+    Ok(())
+}
+
+#[test]
+fn checks_a_text(rt: HostRuntime) {
+    let kind = |text: &[u8]| check_text(rt.alloc(), text)
+        .err()
+        .map(|f| (f.kind, f.span.start));
+    assert_eq!(rt; kind(b"a (b ()) ; c\n d"), None);
+    assert_eq!(rt; kind(b"(a (b) (c"), Some((TextKind::Unclosed, 7)));
+}
+
+#[test]
+fn keeps_lists_in_one(rt: HostRuntime) -> Result<(), Fail> {
+    let mut lists = Lists::with_capacity(rt.alloc(), 3)?;
+    lists.push(&[1u32, 2])?;
+    lists.push(&[])?;
+    lists.push(&[3])?;
+    assert_eq!(rt; (lists.len(), lists.item_count()), (3, 3));
+    assert!(rt; lists.at(0) == [1u32, 2].as_slice());
+    assert!(rt; lists.at(1).is_empty());
+    assert!(rt; lists.at(2) == [3u32].as_slice());
+    assert!(rt; lists.at(3).is_empty());
+    Ok(())
+}
+
+#[test]
+fn finds_the_first_fault(rt: HostRuntime) {
+    let kind = |text: &[u8]| read_sexps(rt.alloc(), text)
+        .err()
+        .map(|f| (f.kind, f.span.start));
+    assert_eq!(rt; kind(b"(a"), Some((TextKind::Unclosed, 0)));
+    assert_eq!(rt; kind(b"(a (b) (c"), Some((TextKind::Unclosed, 7)));
+    assert_eq!(rt; kind(b"(a) )"), Some((TextKind::Unopened, 4)));
+    assert_eq!(rt; kind(b"((a)\x01"), Some((TextKind::BadByte, 4)));
+    assert_eq!(rt; kind(b";\x01\n"), None);
+    let deep = [b'('; 257];
+    assert_eq!(rt; kind(&deep), Some((TextKind::TooDeep, 256)));
+    assert_eq!(rt; kind(&deep[..256]), Some((TextKind::Unclosed, 255)));
+}
+
+#[test]
+fn places(rt: HostRuntime) {
+    assert_eq!(rt; place(b"ab\ncd", Span { start: 4, past: 5 }), (2, 2));
+}
+
+#[test]
+fn finds_a_name_by_another_spelling(rt: HostRuntime) -> Result<(), Fail> {
+    let mut numbers: IndexMap<Name<'_>, u32> = IndexMap::new(rt.alloc());
+    if let Some(name) = Name::new(b"Truck-1") {
+        numbers.insert(name, 7)?;
+    }
+    let number = Name::new(b"tRUCK-1").and_then(|name| numbers.get(&name).copied());
+    assert_eq!(rt; number, Some(7));
+    Ok(())
+}
+
+#[test]
+fn reads_all_or_tells_why_not(rt: HostRuntime) {
+    let read = |reads_before: Option<usize>, limit: usize| {
+        let mut reader = FalteringReader::new(b"abc", reads_before);
+        read_all(rt.alloc(), &mut reader, limit).map(|bytes| bytes.len())
+    };
+    assert_eq!(rt; read(None, 3), Ok(3));
+    assert_eq!(rt; read(None, 2), Err(ReadFault::TooLong));
+    assert_eq!(rt; read(Some(0), 3), Err(ReadFault::Device));
+    assert_eq!(rt; read(Some(3), 3), Err(ReadFault::Device));
+}
+
+#[test]
+fn writes_a_beginning_where_a_write_falters(rt: HostRuntime) {
+    let mut broken = FalteringWriter::new(rt.alloc(), Some(2), Falter::Fails);
+    assert_eq!(rt; write_all(&mut broken, b"abc"), Err(WriteFault::Device));
+    assert!(rt; broken.written() == b"ab".as_slice());
+    let mut full = FalteringWriter::new(rt.alloc(), Some(1), Falter::TakesNothing);
+    assert_eq!(rt; write_all(&mut full, b"abc"), Err(WriteFault::Device));
+    assert!(rt; full.written() == b"a".as_slice());
+}
+
+#[test]
+fn copies_memory(rt: HostRuntime) -> Result<(), Fail> {
+    let bytes = read_all(rt.alloc(), &mut FromMemory::new(b"abc"), 3)?;
+    let mut out = ToMemory::new(rt.alloc());
+    write_all(&mut out, &bytes)?;
+    assert!(rt; out.written() == b"abc".as_slice());
+    Ok(())
+}
