@@ -10,7 +10,7 @@ use Rattle.hv_syntax.specs.inside.Reading.{both, two, tuple}
 use Rattle.hv_syntax.specs.inside.Terms.{term_of, atom_of}
 use Rattle.hv_syntax.specs.inside.Lists.{negated, listed}
 use Rattle.hv_syntax.specs.Fields.{field}
-use Rattle.hv_syntax.specs.inside.Networks.{labelled, with_label, subtask_by, subtask_of, pair_by, pair_of, equation_by, equation_of, constraint_by, constraint_of, listed_at, subtasks_by, network_with, network_of}
+use Rattle.hv_syntax.specs.inside.Networks.{labelled, with_label, subtask_by, subtask_of, sides, pair_by, pair_of, equation_by, equation_of, constraint_by, constraint_of, listed_at, subtasks_by, network_with, network_of}
 use Rattle.hv_syntax.specs.Canonical.{each, conjunction, word_expression, term_expression, atom_expression, subtask_expression, pair_expression, constraint_expression, network_fields}
 use Rattle.hv_syntax.specs.Bare.{bare_word, bare_term, bare_atom, bare_subtask, bare_pair, bare_constraint, bare_network}
 use Rattle.hv_syntax.proofs.Again.{if_map, if_both, IsReadAgain, symbol_again, term_again, atom_again, listed_again}
@@ -53,19 +53,12 @@ IsPairAgain p = IsReadAgain pair_of pair_expression bare_pair p
 pair_from : (l m : WordAt) → IsWordAgain l → IsWordAgain m → IsPairAgain (pair l m)
 pair_from l m h k = rw (h, k) refl
 
-pair_either : (b c : Bool) (x y z : Tree) → IfSome (if b then both pair (symbol_of y) (symbol_of z) else if c then both pair (symbol_of x) (symbol_of z) else None) IsPairAgain
-pair_either true c x y z = if_both pair IsWordAgain IsWordAgain IsPairAgain pair_from (symbol_of y) (symbol_of z) (symbol_again y) (symbol_again z)
-pair_either false true x y z = if_both pair IsWordAgain IsWordAgain IsPairAgain pair_from (symbol_of x) (symbol_of z) (symbol_again x) (symbol_again z)
-pair_either false false x y z = tt
-
-pair_by_again : (x : Tree) (o : Option (Tree × Tree)) → IfSome (pair_by x o) IsPairAgain
-pair_by_again x None = tt
-pair_by_again x (Some (y, z)) = pair_either (is_the_word (codes "<") x) (is_the_word (codes "<") y) x y z
+pair_by_again : (o : Option (Tree × Tree)) → IfSome (pair_by o) IsPairAgain
+pair_by_again None = tt
+pair_by_again (Some (x, y)) = if_both pair IsWordAgain IsWordAgain IsPairAgain pair_from (symbol_of x) (symbol_of y) (symbol_again x) (symbol_again y)
 
 pair_again : (e : Tree) → IfSome (pair_of e) IsPairAgain
-pair_again (word w s) = tt
-pair_again (list none s) = tt
-pair_again (list (more x ts) s) = pair_by_again x (two ts)
+pair_again e = pair_by_again (sides e)
 
 abbrev IsEquationAgain : Term × Term → Type 0
 IsEquationAgain p = IsTermAgain p.0 × IsTermAgain p.1

@@ -9,7 +9,7 @@ use Rattle.hv_syntax.specs.Values.{WordAt, Formula, Domain, Problem}
 use Rattle.hv_syntax.specs.Domains as domains
 use Rattle.hv_syntax.specs.Domains.{DomainSection, has_types, has_constants, has_predicates, has_task, has_method, has_action, domain_standing, no_domain, add_section}
 use Rattle.hv_syntax.specs.Problems as problems
-use Rattle.hv_syntax.specs.Problems.{ProblemSection, is_for, has_objects, has_htn, has_init, has_goal, problem_standing, Parts, no_parts, add_part}
+use Rattle.hv_syntax.specs.Problems.{ProblemSection, is_for, has_objects, has_htn, has_init, has_goal, problem_standing, no_parts, add_part}
 use Rattle.hv_syntax.specs.Spellings.{SpellsWord, SpellsGround}
 use Rattle.hv_syntax.specs.Tables as tables
 use Rattle.hv_syntax.specs.Tables.{SpellsPredicate, SpellsDomainSection, SpellsProblemSection, SpellsSection, a_section, SpellSections, no_sections, more_sections, SpellsDefine, a_definition, IsDomain, a_domain, IsProblem, a_problem}

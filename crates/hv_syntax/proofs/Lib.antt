@@ -8,6 +8,7 @@ pub mod SectionLemmas
 pub mod SpellingLemmas
 pub mod PartSpellings
 pub mod TableLemmas
+pub mod FieldPairs
 pub mod TextSpellings
 pub mod PrintLemmas
 pub mod FaultSpellings
@@ -17,6 +18,7 @@ pub mod AgainFormulas
 pub mod AgainNetworks
 pub mod AgainDeclarations
 pub mod AgainSections
+pub mod BySections
 pub mod Parts
 pub mod AgainDomains
 pub mod AgainProblems

@@ -14,7 +14,7 @@ use Rattle.hv_syntax.specs.Lists.{conjuncts, behind_and}
 use Rattle.hv_syntax.specs.inside.Lists.{behind_not, single, listed, listed_by}
 use Rattle.hv_syntax.specs.Literals.{are_constants}
 use Rattle.hv_syntax.specs.inside.Literals.{literal_by, literal_of, effect_of, if_ground, ground_literal_of}
-use Rattle.hv_syntax.specs.inside.Networks.{labelled, subtask_by, with_label, subtask_of, pair_of, equation_of, constraint_by, constraint_of}
+use Rattle.hv_syntax.specs.inside.Networks.{labelled, subtask_by, with_label, subtask_of, pair_by, pair_of, equation_of, constraint_by, constraint_of}
 use Rattle.hv_syntax.specs.Spellings.{SpellsSymbol, a_symbol, SpellsTerm, a_name, a_variable, SpellEach, no_more, one_more, SpellsList, none_of_them, one_of_them, all_of_them, SpellsAtom, an_atom, SpellsLiteral, a_positive, a_negative, SpellsGround, a_ground, SpellsEffect, an_effect, SpellsSubtask, a_task_alone, a_labelled_task, SpellsPair, a_pair_behind, a_pair_between, SpellsEquation, an_equation, SpellsConstraint, they_are_equal, they_differ}
 use Rattle.hv_syntax.proofs.SpellingLemmas.{same_word, if_map, if_both, if_then, if_weaker, agree, symbol_read, symbol_spelled, term_read, term_spelled, each_read, each_spelled, atom_read, atom_spelled}
 
@@ -172,7 +172,7 @@ pair_read _ _ (a_pair_behind w p s t u l m e h k) = rw (e, symbol_read t l h, sy
 pair_read _ _ (a_pair_between w p s t u l m e h k) = rw (symbol_is_other t l h, e, symbol_read t l h, symbol_read u m k) refl
 
 pair_else : (t u v : Tree) (s : Span) (b c : Bool) → is_the_word (codes "<") t ≡ b → is_the_word (codes "<") u ≡ c
-    → IfSome (if b then both pair (symbol_of u) (symbol_of v) else if c then both pair (symbol_of t) (symbol_of v) else None) (SpellsPair (list (more t (more u (more v none))) s))
+    → IfSome (pair_by (if b then Some (u, v) else if c then Some (t, v) else None)) (SpellsPair (list (more t (more u (more v none))) s))
 pair_else (word w p) u v s true c e f =
     if_both pair (SpellsSymbol u) (SpellsSymbol v) (SpellsPair (list (more (word w p) (more u (more v none))) s)) (λ l m h k. a_pair_behind w p s u v l m e h k)
     (symbol_of u) (symbol_of v) (symbol_spelled u) (symbol_spelled v)

@@ -13,7 +13,7 @@ use Rattle.hv_syntax.specs.declared.word.Head.TheVariants as heads
 use Rattle.hv_syntax.specs.declared.field.Slot.{Slot}
 use Rattle.hv_syntax.specs.declared.field.Slot.TheVariants as slots
 use Rattle.hv_syntax.specs.Values as v
-use Rattle.hv_syntax.specs.Values.{WordAt, word_at, Term, constant, variable, Atom, atom_with, TypeOf, no_type, of_type, type_name, Typed, typed, Formula, formulas_of, holds, and, or, imply, forall, exists, equal, Literal, literal, Effect, effect, Subtask, subtask, Pair, pair, Constraint, constraint, Network, network}
+use Rattle.hv_syntax.specs.Values.{WordAt, word_at, Term, constant, variable, Atom, atom_with, TypeOf, no_type, of_type, type_name, Typed, typed, Formula, formulas_of, holds, and, or, imply, forall, exists, equal, Literal, literal, effect, Subtask, subtask, Pair, pair, Constraint, constraint}
 use Rattle.hv_syntax.specs.Words.{is, sort_of, is_sort, head_of, is_the_word}
 use Rattle.hv_syntax.specs.inside.Words.{sorted_word_of, symbol_by, symbol_of}
 use Rattle.hv_syntax.specs.inside.Reading.{both, every, all_some, behind, only, tuple, two}
@@ -26,7 +26,7 @@ use Rattle.hv_syntax.specs.inside.Formulas.{few, variables_of, and_all, or_all, 
 use Rattle.hv_syntax.specs.Literals.{is_constant, are_constants}
 use Rattle.hv_syntax.specs.inside.Literals.{literal_by, literal_of, effect_of, if_ground, ground_literal_of}
 use Rattle.hv_syntax.specs.Fields.{slot_of, same_slot, is_in, field, is_field_list}
-use Rattle.hv_syntax.specs.inside.Networks.{with_list, labelled, with_label, subtask_by, subtask_of, pair_by, pair_of, equation_by, equation_of, constraint_by, constraint_of, listed_at, subtasks_by, network_with, network_of}
+use Rattle.hv_syntax.specs.inside.Networks.{with_list, labelled, with_label, subtask_by, subtask_of, sides_by, sides, pair_by, pair_of, equation_by, equation_of, constraint_by, constraint_of, listed_at, subtasks_by, network_with, network_of}
 use Rattle.hv_syntax.specs.Bare.{bare_word, bare_term, bare_atom, bare_typed, bare_formula, bare_formulas, bare_literal, bare_effect, bare_subtask, bare_pair, bare_constraint, bare_network}
 use Rattle.hv_text.specs.Shapes.{bare_tree, bare_trees}
 
@@ -421,22 +421,30 @@ subtask_same t = ap (λ o. option_map bare_subtask (subtask_by o (bare_tree t)))
 pair_alike : (l m x y : WordAt) → bare_word l ≡ bare_word m → bare_word x ≡ bare_word y → bare_pair (pair l x) ≡ bare_pair (pair m y)
 pair_alike l m x y e f = ap (λ z. pair z (bare_word x)) e ∙ ap (pair (bare_word m)) f
 
-pair_two : (x y : Tree) → Same bare_pair (both pair (symbol_of (bare_tree x)) (symbol_of (bare_tree y))) (both pair (symbol_of x) (symbol_of y))
-pair_two x y = same_both pair pair bare_word bare_word bare_pair pair_alike (symbol_of (bare_tree x)) (symbol_of x) (symbol_of (bare_tree y)) (symbol_of y) (symbol_same x) (symbol_same y)
+either_same : (b c : Bool) (x y z : Tree) → (if b then Some (bare_two (y, z)) else if c then Some (bare_two (x, z)) else None) ≡ option_map bare_two (if b then Some (y, z) else if c then Some (x, z) else None)
+either_same true c x y z = refl
+either_same false true x y z = refl
+either_same false false x y z = refl
 
-pair_by_same : (x : Tree) (o : Option (Tree × Tree)) → Same bare_pair (pair_by (bare_tree x) (option_map bare_two o)) (pair_by x o)
-pair_by_same x None = refl
-pair_by_same x (Some (y, z)) =
-    ap (λ k. option_map bare_pair (if k then both pair (symbol_of (bare_tree y)) (symbol_of (bare_tree z)) else if is_the_word (codes "<") (bare_tree y) then both pair (symbol_of (bare_tree x)) (symbol_of (bare_tree z)) else None)) (word_is_same (codes "<") x)
-    ∙ ap (λ k. option_map bare_pair (if is_the_word (codes "<") x then both pair (symbol_of (bare_tree y)) (symbol_of (bare_tree z)) else if k then both pair (symbol_of (bare_tree x)) (symbol_of (bare_tree z)) else None)) (word_is_same (codes "<") y)
-    ∙ same_if bare_pair (is_the_word (codes "<") x) (both pair (symbol_of (bare_tree y)) (symbol_of (bare_tree z))) (both pair (symbol_of y) (symbol_of z))
-    (if is_the_word (codes "<") y then both pair (symbol_of (bare_tree x)) (symbol_of (bare_tree z)) else None) (if is_the_word (codes "<") y then both pair (symbol_of x) (symbol_of z) else None) (pair_two y z)
-    (same_if bare_pair (is_the_word (codes "<") y) (both pair (symbol_of (bare_tree x)) (symbol_of (bare_tree z))) (both pair (symbol_of x) (symbol_of z)) None None (pair_two x z) refl)
+sides_by_same : (x : Tree) (o : Option (Tree × Tree)) → sides_by (bare_tree x) (option_map bare_two o) ≡ option_map bare_two (sides_by x o)
+sides_by_same x None = refl
+sides_by_same x (Some (y, z)) =
+    ap (λ k. if k then Some (bare_two (y, z)) else if is_the_word (codes "<") (bare_tree y) then Some (bare_two (x, z)) else None) (word_is_same (codes "<") x)
+    ∙ ap (λ k. if is_the_word (codes "<") x then Some (bare_two (y, z)) else if k then Some (bare_two (x, z)) else None) (word_is_same (codes "<") y)
+    ∙ either_same (is_the_word (codes "<") x) (is_the_word (codes "<") y) x y z
+
+sides_same : (t : Tree) → sides (bare_tree t) ≡ option_map bare_two (sides t)
+sides_same (word w s) = refl
+sides_same (list none s) = refl
+sides_same (list (more x ts) s) = ap (sides_by (bare_tree x)) (two_same ts) ∙ sides_by_same x (two ts)
+
+pair_by_same : (o : Option (Tree × Tree)) → Same bare_pair (pair_by (option_map bare_two o)) (pair_by o)
+pair_by_same None = refl
+pair_by_same (Some (x, y)) =
+    same_both pair pair bare_word bare_word bare_pair pair_alike (symbol_of (bare_tree x)) (symbol_of x) (symbol_of (bare_tree y)) (symbol_of y) (symbol_same x) (symbol_same y)
 
 pair_same : (t : Tree) → Same bare_pair (pair_of (bare_tree t)) (pair_of t)
-pair_same (word w s) = refl
-pair_same (list none s) = refl
-pair_same (list (more x ts) s) = ap (λ o. option_map bare_pair (pair_by (bare_tree x) o)) (two_same ts) ∙ pair_by_same x (two ts)
+pair_same t = ap (λ o. option_map bare_pair (pair_by o)) (sides_same t) ∙ pair_by_same (sides t)
 
 abbrev bare_terms : Term × Term → Term × Term
 bare_terms p = (bare_term p.0, bare_term p.1)

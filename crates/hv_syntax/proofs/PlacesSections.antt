@@ -25,7 +25,7 @@ use Rattle.hv_syntax.specs.Sections.{is_headed_by, occurs}
 use Rattle.hv_syntax.specs.inside.Sections.{refused, one_name, keyword_of, title_of, defined_with, define_form, judged, at_place, section_of, ◌>>=◌, sections_from}
 use Rattle.hv_syntax.specs.Domains as d
 use Rattle.hv_syntax.specs.Domains.{DomainSection, has_types, has_constants, has_predicates, has_task, has_method, has_action, domain_standing, no_domain, add_section}
-use Rattle.hv_syntax.specs.inside.Domains.{domain_section_by, domain_section, domain_in, domain_of}
+use Rattle.hv_syntax.specs.inside.Domains.{domain_section_by, domain_in, domain_of}
 use Rattle.hv_syntax.specs.Problems.{htn_slots}
 use Rattle.hv_syntax.specs.inside.Problems.{htn_of}
 use Rattle.hv_syntax.specs.Bare.{bare_word, bare_term, bare_atom, bare_typed, bare_formula, bare_formulas, bare_literal, bare_effect, bare_network, bare_predicate, bare_task, bare_method, bare_action, bare_domain, bare_htn}

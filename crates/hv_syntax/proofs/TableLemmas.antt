@@ -130,7 +130,7 @@ pub if_tested : {A : Type 0} (P : A → Type 0) (o : Option A) (b : Bool) → (b
 if_tested P o true h = h refl
 if_tested P o false h = tt
 
-both_true : (a b c : Bool) → (a && b && c) ≡ true → (a ≡ true) × (b ≡ true) × (c ≡ true)
+pub both_true : (a b c : Bool) → (a && b && c) ≡ true → (a ≡ true) × (b ≡ true) × (c ≡ true)
 both_true true true true h = (refl, refl, refl)
 both_true true true false h = let clash : false ≡ true = h in cc
 both_true true false c h = let clash : false ≡ true = h in cc

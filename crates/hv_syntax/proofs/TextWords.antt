@@ -7,7 +7,7 @@ use Rattle.std.specs.List.{take_while, list_all}
 use Rattle.hv_text.specs.Bytes.{is_word_byte, is_word, lower}
 use Rattle.hv_text.specs.Trees.{Tree, word, list, Trees, none, more, trees_of}
 use Rattle.hv_text.specs.Words as found
-use Rattle.hv_text.specs.Words.{Piece, left, right, bad, nowhere, class_of, in_comment, uncommented, beginning, pieces_from, pieces}
+use Rattle.hv_text.specs.Words.{Piece, left, right, nowhere, class_of, in_comment, uncommented, beginning, pieces_from, pieces}
 use Rattle.hv_text.specs.Sexps.{spelled, spelled_all}
 use Rattle.hv_text.specs.declared.words.Class.{Class}
 use Rattle.hv_text.specs.declared.words.Class.TheVariants.{Blank, Semicolon, Left, Right, Inner, Bad}

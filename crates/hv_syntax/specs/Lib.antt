@@ -11,6 +11,8 @@ pub mod Unsupported
 pub mod Domains
 pub mod Problems
 pub mod Tables
+pub mod FieldPairs
+pub mod BySections
 pub mod FirstFaults
 pub mod Texts
 pub mod Views

@@ -69,9 +69,7 @@ fn read_effect_at<'s>(alloc: Global, e: Option<&Sexp<'s>>) -> Result<EffectText<
     ensures { Gives effect_view result (effect_at (option_map (λ e. tree e.now) e.entry)) }
 {
     match e {
-        None => Ok(EffectText {
-            literals: Vec::new(alloc),
-        }),
+        None => Ok(EffectText::nothing(alloc)),
         Some(e) => read_effect(alloc, e),
     }
 }

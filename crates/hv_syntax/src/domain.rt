@@ -1,6 +1,6 @@
 //! Domains.
 
-ghost use Rattle.std.specs.Prelude.{◌≡◌, [], map, option_map, OnOk, IfErr};
+ghost use Rattle.std.specs.Prelude.{◌≡◌, [], map, OnOk, IfErr};
 ghost use Rattle.hv_text.specs.Names.{text_of};
 ghost use Rattle.hv_text.specs.Trees.{tree, trees};
 ghost use Rattle.hv_syntax.specs.inside.Reading.{Gives};

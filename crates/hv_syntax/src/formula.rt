@@ -1,6 +1,6 @@
 //! Formulas.
 
-ghost use Rattle.std.specs.Prelude.{◌≡◌, map};
+ghost use Rattle.std.specs.Prelude.{map};
 ghost use Rattle.hv_text.specs.Trees.{tree, trees};
 ghost use Rattle.hv_syntax.specs.inside.Reading.{Gives, every};
 ghost use Rattle.hv_syntax.specs.Words.{head_of};

@@ -1,6 +1,6 @@
 //! What holds of the grammar. These functions do nothing: their contracts are the laws.
 
-ghost use Rattle.std.specs.Prelude.{◌≡◌, ◌↔◌, ◌⊎◌, ℕ, List, Some, Ok, Err};
+ghost use Rattle.std.specs.Prelude.{◌≡◌, ◌↔◌, ◌⊎◌, ℕ, true, List, Option, Some, Ok, Err};
 ghost use Rattle.hv_text.specs.Bytes.{lower};
 ghost use Rattle.hv_text.specs.Sexps.{AreExpressions};
 ghost use Rattle.hv_text.specs.Trees.{Tree, Trees};
@@ -15,6 +15,11 @@ ghost use Rattle.hv_syntax.specs.inside.Networks.{subtask_of, pair_of, constrain
 ghost use Rattle.hv_syntax.specs.inside.Domains.{domain_of};
 ghost use Rattle.hv_syntax.specs.inside.Problems.{problem_of};
 ghost use Rattle.hv_syntax.specs.Tables.{IsDomain, IsProblem};
+ghost use Rattle.hv_syntax.specs.declared.field.Slot.{Slot};
+ghost use Rattle.hv_syntax.specs.Fields.{is_field_list};
+ghost use Rattle.hv_syntax.specs.Declarations.{is_nothing};
+ghost use Rattle.hv_syntax.specs.FieldPairs.{IsOfFields, AreFound, SaysNothing};
+ghost use Rattle.hv_syntax.specs.BySections.{IsDomainBySections, IsProblemBySections};
 ghost use Rattle.hv_text.specs.declared.span.Span.{Span};
 ghost use Rattle.hv_syntax.specs.declared.fault.SyntaxKind.{SyntaxKind};
 ghost use Rattle.hv_syntax.specs.FirstFaults.{IsFaultyDomain, IsFaultyProblem};
@@ -57,6 +62,21 @@ pub fn networks_are_spelled()
 pub fn texts_are_spelled()
     ensures domains { (es : Trees) (d : Domain) → IsDomain es d ↔ (domain_of es ≡ Ok d) }
     ensures problems { (es : Trees) (p : Problem) → IsProblem es p ↔ (problem_of es ≡ Ok p) }
+{}
+
+/// Each section stands by itself, no head that may stand once heads two of them, and a domain or a
+/// problem is what its sections say: the table of whole texts, with no word of what stands before.
+pub fn sections_stand_once()
+    ensures domains { (es : Trees) (d : Domain) → IsDomain es d ↔ IsDomainBySections es d }
+    ensures problems { (es : Trees) (p : Problem) → IsProblem es p ↔ IsProblemBySections es p }
+{}
+
+/// A list of fields is pairs of a keyword and an expression, no field twice, a field is found exactly
+/// where it is one of the pairs, and it says nothing where it is absent, `()` or `(and)`.
+pub fn fields_are_pairs()
+    ensures lists { (a : List Slot) (ts : Trees) → (is_field_list a ts ≡ true) ↔ IsOfFields a ts }
+    ensures found { (a : List Slot) (ts : Trees) → AreFound a ts }
+    ensures nothing { (o : Option Tree) → (is_nothing o ≡ true) ↔ SaysNothing o }
 {}
 
 /// A text says at most one domain and at most one problem, and the expressions of a text at most one

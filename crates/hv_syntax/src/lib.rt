@@ -30,8 +30,9 @@ pub use fault::{SyntaxFault, SyntaxKind};
 pub use formula::FormulaText;
 pub use laws::{
     a_domain_or_a_fault, a_problem_or_a_fault, a_text_says_one_thing, a_value_or_a_fault,
-    atoms_are_spelled, effects_are_spelled, faults_are_first, formulas_are_spelled,
-    letter_case_decides_nothing, networks_are_spelled, texts_are_spelled, typed_lists_are_spelled,
+    atoms_are_spelled, effects_are_spelled, faults_are_first, fields_are_pairs,
+    formulas_are_spelled, letter_case_decides_nothing, networks_are_spelled, sections_stand_once,
+    texts_are_spelled, typed_lists_are_spelled,
 };
 pub use literal::{EffectText, LiteralText};
 pub use method::MethodText;

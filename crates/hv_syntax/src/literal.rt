@@ -1,14 +1,15 @@
 //! Literals and effects.
 
-ghost use Rattle.std.specs.Prelude.{◌≡◌, ◌≤◌, IfOk, map};
+ghost use Rattle.std.specs.Prelude.{◌≡◌, ◌≤◌, [], IfOk, map};
 ghost use Rattle.hv_text.specs.Trees.{tree, trees};
 ghost use Rattle.hv_text.specs.Rests.{here, ended};
 ghost use Rattle.hv_text.specs.Cursors.{rest_at, left_at};
 ghost use Rattle.hv_syntax.specs.inside.Reading.{Gives, every};
 ghost use Rattle.hv_syntax.specs.inside.Lists.{listed};
+ghost use Rattle.hv_syntax.specs.Values.{effect};
 ghost use Rattle.hv_syntax.specs.Literals.{is_constant, are_constants};
 ghost use Rattle.hv_syntax.specs.inside.Literals.{literal_of, effect_of, ground_literal_of};
-ghost use Rattle.hv_syntax.specs.Views.{term_view, literal_view, effect_view};
+ghost use Rattle.hv_syntax.specs.Views.{term_view, atom_view, literal_view, effect_view};
 
 use crate::list::{conjuncts, negated};
 use crate::refusal::Refusal;
@@ -19,14 +20,48 @@ use std::alloc::Global;
 /// An atom, or the negation of one.
 #[derive(Drop)]
 pub struct LiteralText<'s> {
-    pub is_positive: bool,
-    pub atom: AtomText<'s>,
+    is_positive: bool,
+    atom: AtomText<'s>,
+}
+
+impl<'s> LiteralText<'s> {
+    /// Whether the atom stands without `not`.
+    pub fn is_positive(&self) -> bool
+        ensures { result ≡ (literal_view self.now).is_positive }
+    {
+        self.is_positive
+    }
+
+    /// The atom.
+    pub fn atom(&self) -> &AtomText<'s>
+        ensures { atom_view result.now ≡ (literal_view self.now).atom }
+    {
+        &self.atom
+    }
 }
 
 /// What an action brings about: all of its literals become true.
 #[derive(Drop)]
 pub struct EffectText<'s> {
-    pub literals: Vec<LiteralText<'s>>,
+    literals: Vec<LiteralText<'s>>,
+}
+
+impl<'s> EffectText<'s> {
+    /// The effect that brings nothing about.
+    pub(crate) fn nothing(alloc: Global) -> EffectText<'s>
+        ensures { effect_view result ≡ effect [] }
+    {
+        EffectText {
+            literals: Vec::new(alloc),
+        }
+    }
+
+    /// The literals, as written.
+    pub fn literals(&self) -> &[LiteralText<'s>]
+        ensures { map literal_view result.now ≡ (effect_view self.now).literals }
+    {
+        &self.literals
+    }
 }
 
 // An atom, or `(not atom)`.
@@ -106,7 +141,7 @@ fn read_ground_literal<'s>(alloc: Global, e: &Sexp<'s>) -> Result<LiteralText<'s
     ensures { Gives literal_view result (ground_literal_of (tree e.now)) }
 {
     let literal = read_literal(alloc, e)?;
-    if !are_constants(&literal.atom.terms) {
+    if !are_constants(literal.atom.terms()) {
         return Err(Refusal::NoSpelling);
     }
     Ok(literal)

@@ -4,8 +4,8 @@ ghost use Rattle.std.specs.Prelude.{◌≡◌, map, option_map};
 ghost use Rattle.hv_text.specs.Trees.{tree, trees};
 ghost use Rattle.hv_syntax.specs.inside.Reading.{Gives, every};
 ghost use Rattle.hv_syntax.specs.inside.Lists.{listed};
-ghost use Rattle.hv_syntax.specs.inside.Networks.{labelled, subtask_of, pair_of, equation_of, constraint_of, listed_at, subtasks_by, network_of};
-ghost use Rattle.hv_syntax.specs.Views.{term_view};
+ghost use Rattle.hv_syntax.specs.inside.Networks.{labelled, subtask_of, sides, pair_of, equation_of, constraint_of, listed_at, subtasks_by, network_of};
+ghost use Rattle.hv_syntax.specs.Views.{word_view, term_view, atom_view};
 ghost use Rattle.hv_syntax.specs.NetworkViews.{subtask_view, pair_view, constraint_view, network_view};
 
 use crate::field::{Slot, field};
@@ -19,23 +19,78 @@ use std::alloc::Global;
 /// A subtask of a network: a task, with the label that it may have.
 #[derive(Drop)]
 pub struct SubtaskText<'s> {
-    pub label: Option<Placed<'s>>,
-    pub task: AtomText<'s>,
+    label: Option<Placed<'s>>,
+    task: AtomText<'s>,
+}
+
+impl<'s> SubtaskText<'s> {
+    /// Its label, if one is written.
+    pub fn label(&self) -> Option<Placed<'s>>
+        ensures { option_map word_view result ≡ (subtask_view self.now).label }
+    {
+        self.label
+    }
+
+    /// Its task.
+    pub fn task(&self) -> &AtomText<'s>
+        ensures { atom_view result.now ≡ (subtask_view self.now).task }
+    {
+        &self.task
+    }
 }
 
 /// A pair of an ordering: the subtask of the first label comes before that of the second.
 #[derive(Clone, Copy)]
 pub struct PairText<'s> {
-    pub earlier: Placed<'s>,
-    pub later: Placed<'s>,
+    earlier: Placed<'s>,
+    later: Placed<'s>,
+}
+
+impl<'s> PairText<'s> {
+    /// The label of the subtask that comes first.
+    pub fn earlier(self) -> Placed<'s>
+        ensures { word_view result ≡ (pair_view self.entry).earlier }
+    {
+        self.earlier
+    }
+
+    /// The label of the subtask that comes behind it.
+    pub fn later(self) -> Placed<'s>
+        ensures { word_view result ≡ (pair_view self.entry).later }
+    {
+        self.later
+    }
 }
 
 /// A constraint: two terms are one object, or they are not.
 #[derive(Clone, Copy)]
 pub struct ConstraintText<'s> {
-    pub is_equal: bool,
-    pub left: TermText<'s>,
-    pub right: TermText<'s>,
+    is_equal: bool,
+    left: TermText<'s>,
+    right: TermText<'s>,
+}
+
+impl<'s> ConstraintText<'s> {
+    /// Whether the terms must be one object.
+    pub fn is_equal(self) -> bool
+        ensures { result ≡ (constraint_view self.entry).is_equal }
+    {
+        self.is_equal
+    }
+
+    /// The first term.
+    pub fn left(self) -> TermText<'s>
+        ensures { term_view result ≡ (constraint_view self.entry).left }
+    {
+        self.left
+    }
+
+    /// The second term.
+    pub fn right(self) -> TermText<'s>
+        ensures { term_view result ≡ (constraint_view self.entry).right }
+    {
+        self.right
+    }
 }
 
 /// A task network: its subtasks, whether their form orders them as written, the pairs of its
@@ -112,32 +167,38 @@ fn read_subtask<'s>(alloc: Global, e: &Sexp<'s>) -> Result<SubtaskText<'s>, Refu
     }
 }
 
-// `< symbol symbol` or `symbol < symbol`, between parentheses.
+// The two others of three members, where the first or the second of them is `<`.
+fn sides<'a, 's>(e: &'a Sexp<'s>) -> Option<(&'a Sexp<'s>, &'a Sexp<'s>)>
+    ensures { option_map (λ p. (tree p.0.now, tree p.1.now)) result ≡ sides (tree e.now) }
+{
+    let Sexp::List(members, _) = e else {
+        return None;
+    };
+    match members.as_slice() {
+        [] => None,
+        [first, others @ ..] => {
+            let (second, third) = two(others)?;
+            if is_the_word(first, b"<") {
+                Some((second, third))
+            } else if is_the_word(second, b"<") {
+                Some((first, third))
+            } else {
+                None
+            }
+        }
+    }
+}
+
+// `(< symbol symbol)` or `(symbol < symbol)`.
 fn read_pair<'s>(e: &Sexp<'s>) -> Result<PairText<'s>, Refusal>
     ensures { Gives pair_view result (pair_of (tree e.now)) }
 {
-    let Sexp::List(members, _) = e else {
+    let Some((earlier, later)) = sides(e) else {
         return Err(Refusal::NoSpelling);
     };
-    match members.as_slice() {
-        [] => Err(Refusal::NoSpelling),
-        [first, others @ ..] => {
-            let Some((second, third)) = two(others) else {
-                return Err(Refusal::NoSpelling);
-            };
-            if is_the_word(first, b"<") {
-                let earlier = read_symbol(second)?;
-                let later = read_symbol(third)?;
-                return Ok(PairText { earlier, later });
-            }
-            if is_the_word(second, b"<") {
-                let earlier = read_symbol(first)?;
-                let later = read_symbol(third)?;
-                return Ok(PairText { earlier, later });
-            }
-            Err(Refusal::NoSpelling)
-        }
-    }
+    let earlier = read_symbol(earlier)?;
+    let later = read_symbol(later)?;
+    Ok(PairText { earlier, later })
 }
 
 // The terms of `(= term term)`.

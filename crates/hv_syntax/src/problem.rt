@@ -6,7 +6,7 @@ ghost use Rattle.hv_text.specs.Trees.{tree, trees};
 ghost use Rattle.hv_syntax.specs.inside.Reading.{Gives};
 ghost use Rattle.hv_syntax.specs.inside.Faults.{Answers};
 ghost use Rattle.hv_syntax.specs.Problems.{problem_standing, add_part, no_parts};
-ghost use Rattle.hv_syntax.specs.inside.Problems.{htn_of, goal_of, problem_section_by, problem_section, parts_from, whole, problem_of};
+ghost use Rattle.hv_syntax.specs.inside.Problems.{htn_of, goal_of, problem_section_by, problem_section, parts_from, assembled, whole, problem_of};
 ghost use Rattle.hv_syntax.specs.Views.{word_view, typed_view, formula_view, literal_view};
 ghost use Rattle.hv_syntax.specs.NetworkViews.{network_view};
 ghost use Rattle.hv_syntax.specs.ProblemViews.{htn_view, problem_section_view, parts_view, problem_view};
@@ -269,17 +269,24 @@ fn add<'s>(parts: &mut ProblemParts<'s>, section: ProblemSection<'s>)
     }
 }
 
-fn read_sections<'s>(alloc: Global, es: &[Sexp<'s>]) -> Result<ProblemParts<'s>, SyntaxFault>
-    ensures { Answers parts_view result (parts_from no_parts [] (trees es.now)) }
+// What no section has said yet.
+fn no_parts<'s>(alloc: Global) -> ProblemParts<'s>
+    ensures { parts_view result ≡ no_parts }
 {
-    let mut parts = ProblemParts {
+    ProblemParts {
         domain: None,
         requirements: Vec::new(alloc),
         objects: Vec::new(alloc),
         htn: None,
         init: None,
         goal: None,
-    };
+    }
+}
+
+fn read_sections<'s>(alloc: Global, es: &[Sexp<'s>]) -> Result<ProblemParts<'s>, SyntaxFault>
+    ensures { Answers parts_view result (parts_from no_parts [] (trees es.now)) }
+{
+    let mut parts = no_parts(alloc);
     for i in 0..es.len() {
         let section = read_section(alloc, &es[..i], &es[i])?;
         add(&mut parts, section);
@@ -298,6 +305,21 @@ fn missing(span: Span) -> SyntaxFault
 }
 
 // The problem of this name and these parts, where those that it must have are among them.
+fn assembled<'s>(name: Placed<'s>, parts: ProblemParts<'s>) -> Option<ProblemText<'s>>
+    ensures { option_map problem_view result ≡ assembled (word_view name.entry) (parts_view parts.entry) }
+{
+    Some(ProblemText {
+        name,
+        domain: parts.domain?,
+        requirements: parts.requirements,
+        objects: parts.objects,
+        htn: parts.htn?,
+        init: parts.init?,
+        goal: parts.goal,
+    })
+}
+
+// The same, or that a section is missing in the text at this place.
 fn whole<'s>(
     span: Span,
     name: Placed<'s>,
@@ -305,32 +327,10 @@ fn whole<'s>(
 ) -> Result<ProblemText<'s>, SyntaxFault>
     ensures { Answers problem_view result (whole span (word_view name.entry) (parts_view parts.entry)) }
 {
-    let ProblemParts {
-        domain,
-        requirements,
-        objects,
-        htn,
-        init,
-        goal,
-    } = parts;
-    let Some(domain) = domain else {
-        return Err(missing(span));
-    };
-    let Some(htn) = htn else {
-        return Err(missing(span));
-    };
-    let Some(init) = init else {
-        return Err(missing(span));
-    };
-    Ok(ProblemText {
-        name,
-        domain,
-        requirements,
-        objects,
-        htn,
-        init,
-        goal,
-    })
+    match assembled(name, parts) {
+        Some(problem) => Ok(problem),
+        None => Err(missing(span)),
+    }
 }
 
 /// Reads the problem that the expressions of a text spell.

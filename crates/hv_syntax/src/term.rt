@@ -4,7 +4,7 @@ ghost use Rattle.std.specs.Prelude.{◌≡◌, map};
 ghost use Rattle.hv_text.specs.Trees.{tree, trees};
 ghost use Rattle.hv_syntax.specs.inside.Reading.{Gives, every};
 ghost use Rattle.hv_syntax.specs.inside.Terms.{term_of, atom_of};
-ghost use Rattle.hv_syntax.specs.Views.{term_view, atom_view};
+ghost use Rattle.hv_syntax.specs.Views.{word_view, term_view, atom_view};
 
 use crate::refusal::Refusal;
 use crate::word::{Placed, Sort, read_symbol, sort_of};
@@ -21,8 +21,24 @@ pub enum TermText<'s> {
 /// A symbol and its terms: a predicate that holds of them, or a task over them.
 #[derive(Drop)]
 pub struct AtomText<'s> {
-    pub symbol: Placed<'s>,
-    pub terms: Vec<TermText<'s>>,
+    pub(crate) symbol: Placed<'s>,
+    pub(crate) terms: Vec<TermText<'s>>,
+}
+
+impl<'s> AtomText<'s> {
+    /// The predicate, or the name of the task.
+    pub fn symbol(&self) -> Placed<'s>
+        ensures { word_view result ≡ (atom_view self.now).symbol }
+    {
+        self.symbol
+    }
+
+    /// The terms, as written.
+    pub fn terms(&self) -> &[TermText<'s>]
+        ensures { map term_view result.now ≡ (atom_view self.now).terms }
+    {
+        &self.terms
+    }
 }
 
 /// Reads a term.

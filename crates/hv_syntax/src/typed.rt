@@ -1,7 +1,7 @@
 //! Typed lists.
 
 ghost use Rattle.std.specs.Prelude.{◌≡◌, ◌++◌, map, OnOk, IfErr};
-ghost use Rattle.hv_text.specs.Trees.{tree, trees};
+ghost use Rattle.hv_text.specs.Trees.{trees};
 ghost use Rattle.hv_syntax.specs.inside.Reading.{Gives};
 ghost use Rattle.hv_syntax.specs.TypedLists.{with_type};
 ghost use Rattle.hv_syntax.specs.inside.TypedLists.{typed_list_of};
@@ -24,8 +24,24 @@ pub enum TypeText<'s> {
 /// A name or a variable, and its type.
 #[derive(Clone, Copy)]
 pub struct TypedText<'s> {
-    pub name: Placed<'s>,
-    pub of: TypeText<'s>,
+    name: Placed<'s>,
+    of: TypeText<'s>,
+}
+
+impl<'s> TypedText<'s> {
+    /// The name or the variable.
+    pub fn name(self) -> Placed<'s>
+        ensures { word_view result ≡ (typed_view self.entry).name }
+    {
+        self.name
+    }
+
+    /// Its type.
+    pub fn of(self) -> TypeText<'s>
+        ensures { type_view result ≡ (typed_view self.entry).of }
+    {
+        self.of
+    }
 }
 
 // Gives this type to the names that wait for one.

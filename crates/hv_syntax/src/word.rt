@@ -15,8 +15,24 @@ use hv_text::{Name, Sexp, Span};
 /// A word and its place.
 #[derive(Clone, Copy)]
 pub struct Placed<'s> {
-    pub name: Name<'s>,
-    pub span: Span,
+    pub(crate) name: Name<'s>,
+    pub(crate) span: Span,
+}
+
+impl<'s> Placed<'s> {
+    /// The word.
+    pub fn name(self) -> Name<'s>
+        ensures { text_of result ≡ (word_view self.entry).text }
+    {
+        self.name
+    }
+
+    /// Its place.
+    pub fn span(self) -> Span
+        ensures { result ≡ (word_view self.entry).place }
+    {
+        self.span
+    }
 }
 
 /// What a word may be.

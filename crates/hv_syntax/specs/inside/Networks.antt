@@ -34,19 +34,28 @@ subtask_by None e = option_map (subtask None) (atom_of e)
 abbrev pub subtask_of : Tree → Option Subtask
 subtask_of e = subtask_by (labelled e) e
 
--- two symbols among three members, where `<` is the first or the second of them
-abbrev pub pair_by : Tree → Option (Tree × Tree) → Option Pair
-pair_by x None = None
-pair_by x (Some (y, z)) =
-    if is_the_word (codes "<") x then both pair (symbol_of y) (symbol_of z) else
-    if is_the_word (codes "<") y then both pair (symbol_of x) (symbol_of z) else
+-- the two others of three, where the first or the second of them is `<`
+abbrev pub sides_by : Tree → Option (Tree × Tree) → Option (Tree × Tree)
+sides_by x None = None
+sides_by x (Some (y, z)) =
+    if is_the_word (codes "<") x then Some (y, z) else
+    if is_the_word (codes "<") y then Some (x, z) else
     None
+
+-- the two others of three members, where the first or the second of them is `<`
+abbrev pub sides : Tree → Option (Tree × Tree)
+sides (word w s) = None
+sides (list none s) = None
+sides (list (more x ts) s) = sides_by x (two ts)
+
+-- two symbols
+abbrev pub pair_by : Option (Tree × Tree) → Option Pair
+pair_by None = None
+pair_by (Some (x, y)) = both pair (symbol_of x) (symbol_of y)
 
 -- a pair: `(< symbol symbol)` or `(symbol < symbol)`
 abbrev pub pair_of : Tree → Option Pair
-pair_of (word w s) = None
-pair_of (list none s) = None
-pair_of (list (more x ts) s) = pair_by x (two ts)
+pair_of t = pair_by (sides t)
 
 -- two terms behind `=`
 abbrev pub equation_by : Tree → Option (Tree × Tree) → Option (Term × Term)

@@ -46,13 +46,26 @@ problem_section = section_of problem_standing problem_section_by
 abbrev pub parts_from : Parts → List Tree → Trees → Result Parts (SyntaxKind × Span)
 parts_from = sections_from problem_section add_part
 
--- the problem of this name and these parts, in the text at this place: `:domain`, `:htn` and `:init` must be among them
+-- the problem of this name and these parts: `:domain`, `:htn` and `:init` must be among them
+abbrev pub assembled_by : WordAt → Parts → Option WordAt → Option Htn → Option (List Literal) → Option Problem
+assembled_by n p None h ls = None
+assembled_by n p (Some d) None ls = None
+assembled_by n p (Some d) (Some h) None = None
+assembled_by n p (Some d) (Some h) (Some ls) =
+    Some (record { name = n; domain = d; requirements = p.requirements; objects = p.objects; htn = h; init = ls; goal = p.goal })
+
+-- the same, by what the parts have
+abbrev pub assembled : WordAt → Parts → Option Problem
+assembled n p = assembled_by n p p.domain p.htn p.init
+
+-- a problem, or that a section is missing in the text at this place
+abbrev pub or_missing : Span → Option Problem → Result Problem (SyntaxKind × Span)
+or_missing s None = Err (kinds.MissingSection, s)
+or_missing s (Some p) = Ok p
+
+-- the problem of this name and these parts, in the text at this place
 abbrev pub whole_by : Span → WordAt → Parts → Option WordAt → Option Htn → Option (List Literal) → Result Problem (SyntaxKind × Span)
-whole_by s n p None h ls = Err (kinds.MissingSection, s)
-whole_by s n p (Some d) None ls = Err (kinds.MissingSection, s)
-whole_by s n p (Some d) (Some h) None = Err (kinds.MissingSection, s)
-whole_by s n p (Some d) (Some h) (Some ls) =
-    Ok (record { name = n; domain = d; requirements = p.requirements; objects = p.objects; htn = h; init = ls; goal = p.goal })
+whole_by s n p d h ls = or_missing s (assembled_by n p d h ls)
 
 -- the same, by what the parts have
 abbrev pub whole : Span → WordAt → Parts → Result Problem (SyntaxKind × Span)

@@ -2,7 +2,7 @@
 
 ghost use Rattle.std.specs.Prelude.{◌≡◌, ◌++◌, map, OnOk};
 ghost use Rattle.hv_syntax.specs.Values.{formulas_of, not, forall, exists, equal};
-ghost use Rattle.hv_syntax.specs.Canonical.{text, spaced, each, conjunction, term_expression, formula_expression, formula_expressions, literal_expression, effect_expression};
+ghost use Rattle.hv_syntax.specs.Canonical.{text, spaced, each, conjunction, formula_expression, formula_expressions, literal_expression, effect_expression};
 ghost use Rattle.hv_syntax.specs.inside.Formulas.{and_all, or_all};
 ghost use Rattle.hv_syntax.specs.Views.{typed_view, term_view, formula_view, literal_view, effect_view};
 
@@ -139,11 +139,11 @@ fn put_formulas(out: &mut Vec<u8>, formulas: &[FormulaText<'_>]) -> Result<(), M
 fn put_literal(out: &mut Vec<u8>, literal: &LiteralText<'_>) -> Result<(), Memory>
     ensures { OnOk result (out.new.items ≡ out.old.items ++ text (literal_expression (literal_view literal.now))) }
 {
-    if literal.is_positive {
-        return put_atom(out, &literal.atom);
+    if literal.is_positive() {
+        return put_atom(out, literal.atom());
     }
     out.extend_from_slice(b"(not ")?;
-    put_atom(out, &literal.atom)?;
+    put_atom(out, literal.atom())?;
     out.push(b')')?;
     Ok(())
 }
@@ -190,5 +190,5 @@ fn put_listed_literals(out: &mut Vec<u8>, literals: &[LiteralText<'_>]) -> Resul
 pub(crate) fn put_effect(out: &mut Vec<u8>, effect: &EffectText<'_>) -> Result<(), Memory>
     ensures { OnOk result (out.new.items ≡ out.old.items ++ text (effect_expression (effect_view effect.now))) }
 {
-    put_listed_literals(out, &effect.literals)
+    put_listed_literals(out, effect.literals())
 }

@@ -15,13 +15,13 @@ use hv_text::Memory;
 fn put_subtask(out: &mut Vec<u8>, subtask: &SubtaskText<'_>) -> Result<(), Memory>
     ensures { OnOk result (out.new.items ≡ out.old.items ++ text (subtask_expression (subtask_view subtask.now))) }
 {
-    match subtask.label {
-        None => put_atom(out, &subtask.task),
+    match subtask.label() {
+        None => put_atom(out, subtask.task()),
         Some(label) => {
             out.push(b'(')?;
             put_word(out, label)?;
             out.push(b' ')?;
-            put_atom(out, &subtask.task)?;
+            put_atom(out, subtask.task())?;
             out.push(b')')?;
             Ok(())
         }
@@ -63,9 +63,9 @@ fn put_pair(out: &mut Vec<u8>, pair: PairText<'_>) -> Result<(), Memory>
     ensures { OnOk result (out.new.items ≡ out.old.items ++ text (pair_expression (pair_view pair.entry))) }
 {
     out.extend_from_slice(b"(< ")?;
-    put_word(out, pair.earlier)?;
+    put_word(out, pair.earlier())?;
     out.push(b' ')?;
-    put_word(out, pair.later)?;
+    put_word(out, pair.later())?;
     out.push(b')')?;
     Ok(())
 }
@@ -130,11 +130,11 @@ fn put_equation(out: &mut Vec<u8>, left: TermText<'_>, right: TermText<'_>) -> R
 fn put_constraint(out: &mut Vec<u8>, constraint: ConstraintText<'_>) -> Result<(), Memory>
     ensures { OnOk result (out.new.items ≡ out.old.items ++ text (constraint_expression (constraint_view constraint.entry))) }
 {
-    if constraint.is_equal {
-        return put_equation(out, constraint.left, constraint.right);
+    if constraint.is_equal() {
+        return put_equation(out, constraint.left(), constraint.right());
     }
     out.extend_from_slice(b"(not ")?;
-    put_equation(out, constraint.left, constraint.right)?;
+    put_equation(out, constraint.left(), constraint.right())?;
     out.push(b')')?;
     Ok(())
 }

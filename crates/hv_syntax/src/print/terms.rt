@@ -29,7 +29,7 @@ fn put_name(out: &mut Vec<u8>, name: Name<'_>) -> Result<(), Memory>
 pub(crate) fn put_word(out: &mut Vec<u8>, word: Placed<'_>) -> Result<(), Memory>
     ensures { OnOk result (out.new.items ≡ out.old.items ++ (word_view word.entry).text) }
 {
-    put_name(out, word.name)
+    put_name(out, word.name())
 }
 
 /// Puts words, a space before each.
@@ -81,8 +81,8 @@ pub(crate) fn put_atom(out: &mut Vec<u8>, atom: &AtomText<'_>) -> Result<(), Mem
     ensures { OnOk result (out.new.items ≡ out.old.items ++ text (atom_expression (atom_view atom.now))) }
 {
     out.push(b'(')?;
-    put_word(out, atom.symbol)?;
-    put_terms(out, &atom.terms)?;
+    put_word(out, atom.symbol())?;
+    put_terms(out, atom.terms())?;
     out.push(b')')?;
     Ok(())
 }
@@ -108,9 +108,9 @@ fn put_type(out: &mut Vec<u8>, of: TypeText<'_>) -> Result<(), Memory>
 pub(crate) fn put_one_typed(out: &mut Vec<u8>, one: TypedText<'_>) -> Result<(), Memory>
     ensures { OnOk result (out.new.items ≡ out.old.items ++ ((typed_view one.entry).name.text ++ (32 ∷ 45 ∷ 32 ∷ []) ++ type_name (typed_view one.entry).of)) }
 {
-    put_word(out, one.name)?;
+    put_word(out, one.name())?;
     out.extend_from_slice(b" - ")?;
-    put_type(out, one.of)
+    put_type(out, one.of())
 }
 
 /// Puts a typed list, each member with its own type, and a space before each.

@@ -13,7 +13,9 @@ ghost use Rattle.hv_syntax.specs.Problems.{no_parts};
 ghost use Rattle.hv_syntax.specs.inside.Problems.{parts_from, problem_of};
 ghost use Rattle.hv_syntax.specs.ProblemViews.{problem_section_view, parts_view, problem_view};
 
-use super::{ProblemParts, ProblemSection, ProblemText, add, read_members, standing_of, whole};
+use super::{
+    ProblemParts, ProblemSection, ProblemText, add, no_parts, read_members, standing_of, whole,
+};
 use crate::literal::read_ground_literals_at;
 use crate::refusal::Refusal;
 use crate::section::{Standing, headed, title};
@@ -156,14 +158,7 @@ fn read_sections_at<'s>(
     ensures parts { IfOk result (λ p. parts_from no_parts [] (here (rest_at from.entry)) ≡ Ok (parts_view p.0)) }
     ensures end { IfOk result (λ p. rest_at p.1 ≡ ended (rest_at from.entry)) }
 {
-    let mut parts = ProblemParts {
-        domain: None,
-        requirements: Vec::new(alloc),
-        objects: Vec::new(alloc),
-        htn: None,
-        init: None,
-        goal: None,
-    };
+    let mut parts = no_parts(alloc);
     let mut heads = Vec::new(alloc);
     let mut cursor = from;
     'sections: while let Some(read) = read_section_at(alloc, cursor, &heads)? {
