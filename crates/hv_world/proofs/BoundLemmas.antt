@@ -1,20 +1,17 @@
 -- Where there is no static fault, the numbers of a world are those of what it has.
-use Rattle.std.proofs.Common.{◌≡◌, ℕ, zero, suc, ◌+◌, ◌<◌, Bool, true, false, not, ◌||◌, List, [], ◌∷◌, ◌++◌, map, filter, length, take_while, drop, get_or, Option, Some, None, option_map, nat_eq, bytes_eq, if◌then◌else◌, All, refl, ap, sym, subst, ◌∙◌, arith}
-use Rattle.std.specs.Prelude.{MatchOption}
-use Rattle.std.specs.List.{slice_get, flat_map}
+use Rattle.std.proofs.Common.{◌≡◌, ℕ, zero, suc, ◌+◌, ◌<◌, Bool, true, false, not, ◌||◌, List, [], ◌∷◌, length, Option, Some, None, option_map, bytes_eq, if◌then◌else◌, All, refl, ap, sym, subst, ◌∙◌, arith}
+use Rattle.std.specs.List.{slice_get}
 use Rattle.std.proofs.lemmas.List.{length-map}
-use Rattle.std.proofs.lemmas.List.Elements.{All-cons, All-nil, All-weaker, All-map}
+use Rattle.std.proofs.lemmas.List.Elements.{All-weaker, All-map}
 use Rattle.hv_syntax.specs.Values as text
 use Rattle.hv_syntax.specs.Values.{WordAt, Typed, type_name, Predicate, Domain, Problem}
 use Rattle.hv_world.specs.declared.fault.StaticKind.{StaticKind}
 use Rattle.hv_world.specs.declared.fault.StaticKind.TheVariants as kinds
 use Rattle.hv_world.specs.declared.fault.Side.{Side}
-use Rattle.hv_world.specs.declared.fault.StaticFault.{StaticFault}
-use Rattle.hv_world.specs.Faults.{fault_at, faults_at}
-use Rattle.hv_world.specs.Names.{is_among, names, place_in, number_or, number_in, repeated}
-use Rattle.hv_world.specs.Known.{Known, Signature, signature, signature_at, known_in, variables, typed_words, predicate_words}
+use Rattle.hv_world.specs.Names.{is_among, names, place_in, number_or}
+use Rattle.hv_world.specs.Known.{Known, Signature, signature, signature_at, known_in, variables, predicate_words}
 use Rattle.hv_world.specs.Scopes.{Scope, outer, inside, parameters, size, variable_in, is_some, is_bound}
-use Rattle.hv_world.specs.StaticRules.{at_word_if, type_faults, head_faults, signature_arity, typed_faults, variable_faults, term_faults, terms_faults, atom_faults, formula_faults, all_formula_faults}
+use Rattle.hv_world.specs.StaticRules.{type_faults, head_faults, signature_arity, typed_faults, term_faults, terms_faults, atom_faults, formula_faults, all_formula_faults}
 use Rattle.hv_world.specs.Worlds.{World, world_of, type_of, types_of, term_in, terms_in, atom_in, formula_in, formulas_in, number_of}
 use Rattle.hv_world.specs.Values.{Formula}
 use Rattle.hv_world.specs.Bounds.{IsType, IsBoundTerm, AreBoundTerms, IsBoundAtom, IsBoundFormula, AreBoundFormulas}

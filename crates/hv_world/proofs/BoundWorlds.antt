@@ -1,7 +1,7 @@
 -- Where there is no static fault, the numbers of networks, methods and actions are those of what the world has.
-use Rattle.std.proofs.Common.{◌≡◌, ℕ, zero, suc, ◌+◌, ◌<◌, Bool, true, false, not, List, [], ◌∷◌, ◌++◌, map, filter, length, take_while, drop, get_or, Option, Some, None, option_map, nat_eq, nat_lt, if◌then◌else◌, All, refl, ap, sym, subst, ◌∙◌, arith}
+use Rattle.std.proofs.Common.{◌≡◌, ℕ, suc, ◌+◌, Bool, true, not, List, [], ◌∷◌, ◌++◌, map, filter, length, drop, Option, Some, None, option_map, nat_eq, nat_lt, All, refl, ap, sym, subst, ◌∙◌, arith}
 use Rattle.std.specs.Prelude.{MatchOption}
-use Rattle.std.specs.List.{slice_get, flat_map, prefix_len}
+use Rattle.std.specs.List.{slice_get, prefix_len}
 use Rattle.std.proofs.lemmas.Bool.Decides.{nat_tests}
 use Rattle.std.proofs.lemmas.List.{length-map}
 use Rattle.std.proofs.lemmas.Option.{get_or_from_slice_get, slice_get-map}
@@ -9,16 +9,14 @@ use Rattle.std.proofs.lemmas.List.Elements.{All-cons, All-nil, All-weaker, All-m
 use Rattle.hv_syntax.specs.Values as text
 use Rattle.hv_syntax.specs.Values.{WordAt, Typed, Domain, Problem}
 use Rattle.hv_text.specs.declared.span.Span.{Span}
-use Rattle.hv_world.specs.declared.fault.StaticKind.{StaticKind}
 use Rattle.hv_world.specs.declared.fault.StaticKind.TheVariants as kinds
 use Rattle.hv_world.specs.declared.fault.Side.{Side}
 use Rattle.hv_world.specs.declared.fault.Side.TheVariants as sides
-use Rattle.hv_world.specs.declared.fault.StaticFault.{StaticFault}
 use Rattle.hv_world.specs.Values.{Formula, TaskName, compound, primitive}
 use Rattle.hv_world.specs.Names.{names, place_in}
 use Rattle.hv_world.specs.Known.{Known, Declaration, declaration, task_declarations, action_declarations, those_before, by_place, declarations, declared_words, at_place, known_in, variables}
 use Rattle.hv_world.specs.Scopes.{Scope, parameters, size}
-use Rattle.hv_world.specs.StaticRules.{at_word_if, head_faults, declared_arity, arity_of_task, variable_faults, terms_faults, atom_faults, literals_faults, term_faults, task_faults, subtask_faults, constraints_faults, network_faults, method_faults, action_faults, htn_faults, goal_faults, IsStatic}
+use Rattle.hv_world.specs.StaticRules.{at_word_if, head_faults, declared_arity, arity_of_task, variable_faults, atom_faults, literals_faults, term_faults, task_faults, subtask_faults, network_faults, method_faults, action_faults, htn_faults, goal_faults, IsStatic}
 use Rattle.hv_world.specs.Worlds.{World, world_of, type_of, types_of, term_in, terms_in, atom_in, formula_in, task_of, task_in, constraint_in, network_in, method_in, top_in, task_by, action_in, added, deleted}
 use Rattle.hv_world.specs.Bounds.{IsType, IsBoundAtom, IsBoundFormula, TaskTakes, ActionTakes, Takes, IsBoundSubtask, IsBoundConstraint, IsBoundNetwork, IsBoundTask, IsBoundMethod, IsBoundAction, IsBoundGoal, IsBound}
 use Rattle.hv_world.proofs.StaticLemmas.{first_none, last_none, none_of_each, no_fault}

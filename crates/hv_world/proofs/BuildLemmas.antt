@@ -53,11 +53,11 @@ predicate_places places n ps xs e made = ap (λ f. f n) (e ∙ ap place_in (pred
 
 -- the names of tasks, actions and methods are those of the text
 module _ (k : Known) where
-  tasks_named : (ts : List text.Task) → task_names (map (task_by k) ts) ≡ said_task_names ts
+  pub tasks_named : (ts : List text.Task) → task_names (map (task_by k) ts) ≡ said_task_names ts
   tasks_named [] = refl
   tasks_named (t ∷ ts) = ap (λ ns. t.name.text ∷ ns) (tasks_named ts)
 
-  actions_named : (xs : List text.Action) → action_names (map (action_in k) xs) ≡ said_action_names xs
+  pub actions_named : (xs : List text.Action) → action_names (map (action_in k) xs) ≡ said_action_names xs
   actions_named [] = refl
   actions_named (x ∷ xs) = ap (λ ns. x.name.text ∷ ns) (actions_named xs)
 

@@ -12,7 +12,7 @@ use Rattle.hv_world.specs.declared.fault.Side.{Side}
 use Rattle.hv_world.specs.declared.fault.StaticFault.{StaticFault}
 use Rattle.hv_world.specs.Known.{Known, variables}
 use Rattle.hv_world.specs.declared.names.Names.{Names}
-use Rattle.hv_world.specs.Tables.{places_by}
+use Rattle.hv_world.specs.inside.Tables.{places_by}
 use Rattle.hv_world.specs.declared.fault.StaticKind.TheVariants as kinds
 use Rattle.hv_world.specs.declared.fault.Side.TheVariants as sides
 use Rattle.hv_world.specs.Names.{is_among, place_in, repeated}

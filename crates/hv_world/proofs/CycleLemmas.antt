@@ -1,10 +1,10 @@
 -- The cycles that are found are the cycles of an order.
-use Rattle.std.proofs.Common.{◌≡◌, ℕ, zero, suc, ◌+◌, ◌<◌, ◌≤◌, ◌⊎◌, inl, inr, ⊎_elim, Bool, true, false, ◌&&◌, ◌||◌, List, [], ◌∷◌, length, nat_eq, nat_lt, refl, sym, ap, ap₂, ◌∙◌, subst, arith, true≢false}
-use Rattle.std.specs.List.{list_any, range_with_len, Contains, All, Any, slice_index_or}
+use Rattle.std.proofs.Common.{◌≡◌, ℕ, zero, suc, ◌+◌, ◌<◌, ◌⊎◌, inl, inr, ⊎_elim, Bool, true, false, ◌&&◌, ◌||◌, List, length, nat_eq, nat_lt, refl, sym, ap₂, ◌∙◌, subst, arith, true≢false}
+use Rattle.std.specs.List.{list_any, range_with_len, Contains, All, slice_index_or}
 use Rattle.std.proofs.lemmas.List.FromFn.{get_or-range_with_len, length-range_with_len}
 use Rattle.std.proofs.lemmas.List.Folds.{Any-from_list_any, list_any-from_Any}
 use Rattle.std.proofs.lemmas.Bool.{cases_eq, eqb-true, eq-eqb, ltb-true, lt-ltb}
-use Rattle.hv_world.specs.Orders.{Written, IsPaired, Leads, one_step, more_steps, Before, IsCyclic}
+use Rattle.hv_world.specs.Orders.{Written, IsPaired, one_step, more_steps, Before, IsCyclic}
 use Rattle.hv_world.specs.Cycles.{is_pair, is_paired, leads, is_cyclic}
 
 plain : (i : ℕ) → 0 + i ≡ i

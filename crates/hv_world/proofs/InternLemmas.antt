@@ -1,12 +1,12 @@
 -- Lists that are changed member by member.
-use Rattle.std.proofs.Common.{◌≡◌, ℕ, ◌+◌, ◌<◌, ◌≤◌, List, [], ◌∷◌, ◌++◌, length, map, drop, get_or, Option, All, refl, ap, sym, subst, ◌∙◌, arith}
+use Rattle.std.proofs.Common.{◌≡◌, ℕ, ◌+◌, ◌<◌, ◌≤◌, List, [], ◌∷◌, ◌++◌, length, map, drop, get_or, Option, All, refl, ap, sym, subst, ◌∙◌}
 use Rattle.std.proofs.lemmas.List.{map-append, append-nil, append_assoc, drop_more, drop_all}
 use Rattle.std.proofs.lemmas.List.Elements.{All-get_or}
 use Rattle.hv_syntax.specs.Values as text
 use Rattle.hv_world.specs.Values.{Subtask, Formula, formulas_of, more_formulas}
 use Rattle.hv_world.specs.Scopes.{Scope}
 use Rattle.hv_world.specs.Known.{Known}
-use Rattle.hv_world.specs.Worlds.{Network, Method, method, formula_in, formulas_in}
+use Rattle.hv_world.specs.Worlds.{Network, method, formula_in, formulas_in}
 
 -- one more member of a list, seen and changed
 pub map_more : {X A B : Type 0} (f : A → B) (view : X → A) (xs : List X) (i : ℕ) (x : X) (front : List B) (y : B) (all : List B) → i < length xs → x ≡ get_or xs i x → y ≡ f (view x)

@@ -1,12 +1,11 @@
 -- The numbers of the subtasks that have a label.
-use Rattle.std.proofs.Common.{◌≡◌, ℕ, suc, ◌+◌, Bool, true, false, List, [], ◌∷◌, length, map, Option, Some, None, option_map, refl, ap, sym, ◌∙◌, bytes_eq, arith, if◌then◌else◌}
-use Rattle.std.specs.List.{slice_get}
+use Rattle.std.proofs.Common.{◌≡◌, ℕ, suc, ◌+◌, true, false, List, [], ◌∷◌, length, Option, Some, None, option_map, refl, ap, ◌∙◌, bytes_eq, arith, if◌then◌else◌}
 use Rattle.std.proofs.Math.Path.{fun_ext}
 use Rattle.hv_syntax.specs.Values.{Subtask, Pair}
 use Rattle.hv_world.specs.Names.{names, place_in, number_or}
 use Rattle.hv_world.specs.Known.{at_place}
 use Rattle.hv_world.specs.Networks.{labels, labelled_from, labelled, numbered_pair}
-use Rattle.hv_world.specs.LabelViews.{holders}
+use Rattle.hv_world.specs.inside.LabelViews.{holders}
 
 -- one place further, behind one more
 pub at_next : {A : Type 0} (x : A) (xs : List A) (p : Option ℕ) → at_place (x ∷ xs) (option_map suc p) ≡ at_place xs p
@@ -34,8 +33,9 @@ numbers_of_labels xs p hs n placed held counted =
     fun_ext (λ l. ap (λ q. number_or n (at_place hs (q l))) placed ∙ ap (λ ks. number_or n (at_place ks (place_in (names (labels xs)) l))) held ∙ number_of_label xs 0 n l (omega (arith, counted)))
 
 -- the two numbers of a pair
-pub pair_numbered : (f : List ℕ → ℕ) (xs ys : List Subtask) (p : Pair) (a b : ℕ) → f ≡ labelled xs → xs ≡ ys → a ≡ f p.earlier.text → b ≡ f p.later.text → (a, b) ≡ numbered_pair ys p
-pair_numbered f xs ys p a b known same e g =
-    let earlier : a ≡ labelled ys p.earlier.text = e ∙ ap (λ h. h p.earlier.text) (known ∙ ap labelled same) in
-    let later : b ≡ labelled ys p.later.text = g ∙ ap (λ h. h p.later.text) (known ∙ ap labelled same) in
+pub pair_numbered : (f : List ℕ → ℕ) (xs ys : List Subtask) (p : Pair) (l m : List ℕ) (a b : ℕ) → f ≡ labelled xs → xs ≡ ys → l ≡ p.earlier.text → m ≡ p.later.text → a ≡ f l → b ≡ f m
+    → (a, b) ≡ numbered_pair ys p
+pair_numbered f xs ys p l m a b known same before after e g =
+    let earlier : a ≡ labelled ys p.earlier.text = e ∙ ap f before ∙ ap (λ h. h p.earlier.text) (known ∙ ap labelled same) in
+    let later : b ≡ labelled ys p.later.text = g ∙ ap f after ∙ ap (λ h. h p.later.text) (known ∙ ap labelled same) in
     rw (earlier, later) refl

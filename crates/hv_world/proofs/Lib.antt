@@ -19,5 +19,6 @@ pub mod FirstFaults
 pub mod BoundLemmas
 pub mod BoundWorlds
 pub mod OnceLemmas
+pub mod PlaceLemmas
 pub mod TypeDecisions
 pub mod GroundingLemmas

@@ -13,7 +13,7 @@ use Rattle.indexmap.specs.IndexMap.{insert_entry}
 use Rattle.hv_text.specs.Names.{text_of}
 use Rattle.hv_text.specs.declared.name.Name.{Name}
 use Rattle.hv_world.specs.Names.{is_among, place_in, number_or, number_in}
-use Rattle.hv_world.specs.Tables.{place_beside, with_place}
+use Rattle.hv_world.specs.inside.Tables.{place_beside, with_place}
 
 pub same_name : (n : List ℕ) → bytes_eq n n ≡ true
 same_name n = (bytes_decides n n).1 refl
@@ -143,13 +143,13 @@ is_none None e = refl
 is_none (Some i) e = absurd (cc)
 
 -- the step of a loop that notes places
-pub places_next : {X : Type 0} (f : X → List ℕ) (xs : List X) (i : ℕ) (x : X) (old new : List ℕ → Option ℕ) → i < length xs → x ≡ get_or xs i x
-    → old ≡ place_in (map f (take i xs)) → new ≡ with_place old (f x) i → new ≡ place_in (map f (take (i + 1) xs))
-places_next f xs i x old new lt is so_far added =
+pub places_next : {X : Type 0} (f : X → List ℕ) (xs : List X) (i : ℕ) (x : X) (name : List ℕ) (old new : List ℕ → Option ℕ) → i < length xs → x ≡ get_or xs i x → name ≡ f x
+    → old ≡ place_in (map f (take i xs)) → new ≡ with_place old name i → new ≡ place_in (map f (take (i + 1) xs))
+places_next f xs i x name old new lt is said so_far added =
     let front : map f (take (i + 1) xs) ≡ map f (take i xs) ++ f x ∷ [] =
     ap (map f) (take_more xs i x lt ∙ ap (λ y. take i xs ++ y ∷ []) (sym is)) ∙ map-append f (take i xs) (x ∷ []) in
     let long : length (map f (take i xs)) ≡ i = length-map (take i xs) f ∙ length-take-le i xs (omega arith) in
-    added ∙ ap (λ places. with_place places (f x) i) so_far
+    added ∙ ap (λ n. with_place old n i) said ∙ ap (λ places. with_place places (f x) i) so_far
     ∙ ap (with_place (place_in (map f (take i xs))) (f x)) (sym long)
     ∙ sym (fun_ext (place-push (map f (take i xs)) (f x))) ∙ ap place_in (sym front)
 

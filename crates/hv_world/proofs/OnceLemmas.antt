@@ -1,11 +1,11 @@
 -- Names that stand once, and where a look-up finds them.
-use Rattle.std.proofs.Common.{◌≡◌, ◌≢◌, ℕ, zero, suc, ◌<◌, Bool, true, false, ◌||◌, List, [], ◌∷◌, ◌++◌, map, length, get_or, Option, Some, option_map, bytes_eq, codes, if◌then◌else◌, All, refl, ap, sym, subst, ◌∙◌, arith, true≢false}
-use Rattle.std.specs.List.{slice_get, flat_map}
+use Rattle.std.proofs.Common.{◌≡◌, ◌≢◌, ℕ, zero, suc, ◌<◌, Bool, true, false, ◌||◌, List, [], ◌∷◌, ◌++◌, map, length, get_or, Some, None, option_map, bytes_eq, codes, if◌then◌else◌, All, refl, ap, sym, subst, ◌∙◌, arith, true≢false}
+use Rattle.std.specs.List.{AllPairs, slice_get, flat_map}
 use Rattle.std.specs.Cmp.Lexicographic.{bytes_decides}
-use Rattle.std.proofs.lemmas.List.Elements.{All-cons, All-nil, All-map, All-weaker}
-use Rattle.std.proofs.lemmas.List.{length-map}
+use Rattle.std.proofs.lemmas.List.Elements.{All-cons, All-nil, All-head, All-tail, All-map, All-weaker}
+use Rattle.std.proofs.lemmas.List.{length-map, map-append}
 use Rattle.std.proofs.lemmas.List.Kept.{AllPairs-cons}
-use Rattle.std.proofs.lemmas.Option.{get_or_from_slice_get, slice_get_within}
+use Rattle.std.proofs.lemmas.Option.{get_or_from_slice_get, slice_get_within, slice_get-map}
 use Rattle.std.proofs.lemmas.List.Quantifiers.{all_pairs_push}
 use Rattle.hv_text.specs.Lists.{Once}
 use Rattle.hv_syntax.specs.Values.{WordAt, Domain, Problem}
@@ -16,14 +16,16 @@ use Rattle.hv_world.specs.declared.fault.Side.{Side}
 use Rattle.hv_world.specs.declared.fault.Side.TheVariants as sides
 use Rattle.hv_world.specs.Bounds.{AreNamedOnce, IsSoundNetwork, IsSound}
 use Rattle.hv_world.specs.Faults.{faults_at}
-use Rattle.hv_world.specs.Known.{Known, known_in, predicate_words, variables, both_types}
+use Rattle.hv_world.specs.Known.{Declaration, Known, known_in, by_place, task_declarations, action_declarations, declarations, declared_words, predicate_words, variables, both_types}
 use Rattle.hv_world.specs.Names.{names, is_among, place_in, with_names, repeated_after}
 use Rattle.hv_world.specs.Networks.{written_by, IsArrangeable}
 use Rattle.hv_world.specs.Scopes.{Scope, parameters}
 use Rattle.hv_world.specs.StaticRules.{IsStatic, method_words}
-use Rattle.hv_world.specs.Worlds.{world_of, said_method_names, network_in, method_in, task_in}
-use Rattle.hv_world.proofs.BuildLemmas.{predicates_named, methods_named}
+use Rattle.hv_world.specs.Values.{compound, primitive}
+use Rattle.hv_world.specs.Worlds.{World, Task, Action, world_of, task_names, action_names, said_task_names, said_action_names, said_method_names, task_by, action_in, task_named, network_in, method_in, task_in}
+use Rattle.hv_world.proofs.BuildLemmas.{of_mapped, predicates_named, tasks_named, actions_named, methods_named}
 use Rattle.hv_world.proofs.NameLemmas.{same_name}
+use Rattle.hv_world.proofs.PlaceLemmas.{pairs_nil, pairs_head, pairs_tail, pairs_front, pairs_back, pairs_cross, by_place_apart}
 use Rattle.hv_world.proofs.StaticLemmas.{first_none, last_none, among_append, methods_arrangeable, top_arrangeable, typing_in_range}
 
 pub once_none : {X : Type 0} → Once {X = X} []
@@ -75,15 +77,56 @@ methods_of : (ms : List text.Method) → names (method_words ms) ≡ said_method
 methods_of [] = refl
 methods_of (m ∷ ms) = ap (λ ns. m.name.text ∷ ns) (methods_of ms)
 
+-- of tasks and actions together
+abbrev name_of : Declaration → List ℕ
+name_of e = e.name.text
+
+abbrev Differ : Declaration → Declaration → Type 0
+Differ d e = name_of d ≢ name_of e
+
+names_differ : (ds : List Declaration) → Once (names (declared_words ds)) → AllPairs Differ ds
+names_differ [] once = pairs_nil Differ
+names_differ (d ∷ ds) once =
+    let others = pairs_head ◌≢◌ (name_of d) (names (declared_words ds)) once in
+    AllPairs-cons Differ d ds (of_mapped (λ w. name_of d ≢ w.text) (λ e. e.name) ds (of_mapped (λ n. name_of d ≢ n) (λ w. w.text) (declared_words ds) others))
+    (names_differ ds (pairs_tail ◌≢◌ (name_of d) (names (declared_words ds)) once))
+
+named_once : (ds : List Declaration) → AllPairs Differ ds → Once (map name_of ds)
+named_once [] differ = once_none
+named_once (d ∷ ds) differ =
+    AllPairs-cons ◌≢◌ (name_of d) (map name_of ds) (All-map (λ n. name_of d ≢ n) name_of ds (pairs_head Differ d ds differ)) (named_once ds (pairs_tail Differ d ds differ))
+
+tasks_said : (k : ℕ) (ts : List text.Task) → map name_of (task_declarations k ts) ≡ said_task_names ts
+tasks_said k [] = refl
+tasks_said k (t ∷ ts) = ap (λ ns. t.name.text ∷ ns) (tasks_said (suc k) ts)
+
+actions_said : (k : ℕ) (xs : List text.Action) → map name_of (action_declarations k xs) ≡ said_action_names xs
+actions_said k [] = refl
+actions_said k (x ∷ xs) = ap (λ ns. x.name.text ∷ ns) (actions_said (suc k) xs)
+
+tasks_once : (k : Known) (ts : List text.Task) (xs : List text.Action) → Once (names (declared_words (by_place (task_declarations 0 ts) (action_declarations 0 xs))))
+    → Once (task_names (map (task_by k) ts) ++ action_names (map (action_in k) xs))
+tasks_once k ts xs once =
+    let ds = task_declarations 0 ts in
+    let es = action_declarations 0 xs in
+    let apart : Once (map name_of (ds ++ es)) =
+    named_once (ds ++ es) (by_place_apart Differ (λ d e differ same. differ (sym same)) ds es (names_differ (by_place ds es) once)) in
+    let firsts : map name_of ds ≡ task_names (map (task_by k) ts) = tasks_said 0 ts ∙ sym (tasks_named k ts) in
+    let seconds : map name_of es ≡ action_names (map (action_in k) xs) = actions_said 0 xs ∙ sym (actions_named k xs) in
+    subst Once (map-append name_of ds es ∙ (λ i. firsts i ++ seconds i)) apart
+
 pub world_named : (d : Domain) (p : Problem) → IsStatic d p → AreNamedOnce (world_of d p)
 world_named d p static =
     let three = first_none _ _ (first_none _ _ static.of_domain) in
-    let repeats = first_none _ _ (first_none _ _ (first_none _ _ three)) in
+    let duplicates = first_none _ _ (first_none _ _ three) in
+    let repeats = first_none _ _ duplicates in
+    let tasks = no_words kinds.DuplicateName sides.Domain _ (last_none _ _ duplicates) in
     let predicates = no_words kinds.DuplicateName sides.Domain _ (first_none _ _ repeats) in
     let methods = no_words kinds.DuplicateName sides.Domain _ (last_none _ _ repeats) in
     record {
       types = with_once [] (codes "object" ∷ flat_map both_types d.types) once_none;
       objects = with_once [] (variables (d.constants ++ p.objects)) once_none;
+      tasks = tasks_once (known_in d p) d.tasks d.actions (once_of [] (declared_words (declarations d)) tasks).1;
       predicates = subst Once (predicates_named d.predicates) (once_of [] (predicate_words d.predicates) predicates).1;
       methods = subst Once (methods_of d.methods ∙ sym (methods_named (known_in d p) d.methods)) (once_of [] (method_words d.methods) methods).1;
     }
@@ -116,3 +159,30 @@ place_at (m ∷ ms) once (suc k) lt = by (bytes_eq (get_or ms k []) m) refl (pla
 
 pub found_at : (ns : List (List ℕ)) → Once ns → (k : ℕ) (n : List ℕ) → slice_get ns k ≡ Some n → place_in ns n ≡ Some k
 found_at ns once k n e = subst (λ m. place_in ns m ≡ Some k) (get_or_from_slice_get ns k n [] e) (place_at ns once k (slice_get_within ns k n e))
+
+-- a name that differs from all of a list has no place in it
+absent : (ns : List (List ℕ)) (n : List ℕ) → All (λ m. m ≢ n) ns → place_in ns n ≡ None
+absent [] n differ = refl
+absent (m ∷ ms) n differ = by (bytes_eq n m) refl (absent ms n (All-tail (λ x. x ≢ n) m ms differ)) where
+  by : (b : Bool) → bytes_eq n m ≡ b → place_in ms n ≡ None → (if b then Some 0 else option_map suc (place_in ms n)) ≡ None
+  by true e rest = absurd (All-head (λ x. x ≢ n) m ms differ (sym ((bytes_decides n m).0 e)))
+  by false e rest = ap (option_map suc) rest
+
+-- the tasks and actions of a world whose names stand once
+module _ (w : World) (once : Once (task_names w.tasks ++ action_names w.actions)) where
+  pub task_found : (k : ℕ) (t : Task) → slice_get w.tasks k ≡ Some t → task_named w t.name ≡ Some (compound k)
+  task_found k t e =
+      let there : slice_get (task_names w.tasks) k ≡ Some t.name = slice_get-map (λ (x : Task). x.name) w.tasks k ∙ ap (option_map (λ x. x.name)) e in
+      let place = found_at (task_names w.tasks) (pairs_front ◌≢◌ (task_names w.tasks) (action_names w.actions) once) k t.name there in
+      ap (λ o. elim o [ None ↦ option_map primitive (place_in (action_names w.actions) t.name) | Some i ↦ Some (compound i) ]) place
+
+  pub action_found : (k : ℕ) (a : Action) → slice_get w.actions k ≡ Some a → task_named w a.name ≡ Some (primitive k)
+  action_found k a e =
+      let tasks = task_names w.tasks in
+      let actions = action_names w.actions in
+      let there : slice_get actions k ≡ Some a.name = slice_get-map (λ (x : Action). x.name) w.actions k ∙ ap (option_map (λ x. x.name)) e in
+      let place = found_at actions (pairs_back ◌≢◌ tasks actions once) k a.name there in
+      let differ : All (λ m. m ≢ a.name) tasks =
+      All-weaker (λ m. All (λ n. m ≢ n) actions) (λ m. m ≢ a.name)
+      (λ m others. subst (λ n. m ≢ n) (get_or_from_slice_get actions k a.name [] there) (others k [] (slice_get_within actions k a.name there))) tasks (pairs_cross ◌≢◌ tasks actions once) in
+      ap (λ o. elim o [ None ↦ option_map primitive (place_in actions a.name) | Some i ↦ Some (compound i) ]) (absent tasks a.name differ) ∙ ap (option_map primitive) place

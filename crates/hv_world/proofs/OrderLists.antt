@@ -3,7 +3,7 @@ use Rattle.std.proofs.Common.{◌≡◌, ◌≢◌, ◌<◌, ◌++◌, ◌∷◌
 use Rattle.std.proofs.lemmas.Grind.{common_steps}
 use Rattle.std.proofs.lemmas.List.{map-set}
 use Rattle.std.specs.declared.alloc.Global.{Global}
-use Rattle.hv_world.specs.OrderWalks.{list_at, lists_of, AreEarlier}
+use Rattle.hv_world.specs.inside.OrderWalks.{list_at, lists_of, AreEarlier}
 
 -- what a list contains
 pub contains_first : {X : Type 0} (x : X) (xs : List X) → Contains (x ∷ xs) x

@@ -4,10 +4,9 @@ use Rattle.std.proofs.Math.Seq.{drop-cons}
 use Rattle.std.proofs.lemmas.List.{get_or_default, length-map}
 use Rattle.std.proofs.Common.{Vec}
 use Rattle.std.specs.declared.alloc.Global.{Global}
-use Rattle.std.proofs.Math.ListN.{get_or-eq_default}
 use Rattle.hv_world.specs.Orders.{Written, written, IsPaired, Leads, one_step, more_steps, Before, HasCycle, IsCyclic, IsRow, IsArrangement, IsDirect, AreDirect}
-use Rattle.hv_world.specs.OrderWalks.{IsListed, list_at, lists_of, AreEarlier}
-use Rattle.hv_world.specs.OrderViews.{IsAsWritten}
+use Rattle.hv_world.specs.inside.OrderWalks.{IsListed, list_at, lists_of, AreEarlier}
+use Rattle.hv_world.specs.inside.OrderViews.{IsAsWritten}
 use Rattle.hv_world.proofs.OrderLists.{contains_first, contains_cases, nothing_contained}
 use Rattle.hv_world.proofs.OrderWalk.{either, place_of, contained_at, once_from}
 

@@ -10,7 +10,7 @@ use Rattle.hv_world.specs.Orders.{Leads, one_step, more_steps, IsRow}
 use Rattle.hv_text.specs.Lists.{Once}
 use Rattle.hv_world.specs.declared.order.walk.Mark.{Mark}
 use Rattle.hv_world.specs.declared.order.walk.Mark.TheVariants as marks
-use Rattle.hv_world.specs.OrderWalks.{IsListed, list_at, mark_at, changes, EndsWith, IsWalk}
+use Rattle.hv_world.specs.inside.OrderWalks.{IsListed, list_at, mark_at, changes, EndsWith, IsWalk}
 
 -- chains of pairs
 pub led : {R : ℕ → ℕ → Type 0} {i k j : ℕ} → Leads R i k → Leads R k j → Leads R i j

@@ -63,16 +63,16 @@ module _ {X : Type 0} (view : X → WordAt) (k : StaticKind) (s : Side) where
 
 -- the word of a variable
 abbrev pub word_of : TypedText → WordAt
-word_of t = word_view t.name
+word_of t = (typed_view t).name
 
 pub typed_words_are : (vs : List TypedText) → typed_words (map typed_view vs) ≡ map word_of vs
 typed_words_are vs = map-map (λ v. v.name) typed_view vs
 
-pub variables_are : (vs : List TypedText) → variables (map typed_view vs) ≡ map (λ t. text_of t.name.name) vs
+pub variables_are : (vs : List TypedText) → variables (map typed_view vs) ≡ map (λ t. (typed_view t).name.text) vs
 variables_are vs = map-map (λ v. v.name.text) typed_view vs
 
 pub names_are : (vs : List TypedText) → names (map word_of vs) ≡ variables (map typed_view vs)
 names_are vs = map-map (λ w. w.text) word_of vs ∙ sym (variables_are vs)
 
-pub word_names : (ws : List Placed) → names (map word_view ws) ≡ map (λ w. text_of w.name) ws
+pub word_names : (ws : List Placed) → names (map word_view ws) ≡ map (λ w. (word_view w).text) ws
 word_names ws = map-map (λ w. w.text) word_view ws

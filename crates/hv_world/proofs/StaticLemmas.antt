@@ -1,5 +1,5 @@
 -- What a domain and a problem without static faults say.
-use Rattle.std.proofs.Common.{◌≡◌, ℕ, suc, ◌+◌, ◌<◌, ◌≤◌, Bool, true, false, not, ◌||◌, List, [], ◌∷◌, ◌++◌, map, length, get_or, Option, Some, None, option_map, bytes_eq, codes, if◌then◌else◌, All, refl, ap, sym, subst, ◌∙◌, arith}
+use Rattle.std.proofs.Common.{◌≡◌, ℕ, suc, ◌+◌, ◌<◌, Bool, true, false, not, ◌||◌, List, [], ◌∷◌, ◌++◌, map, length, get_or, Some, option_map, bytes_eq, codes, if◌then◌else◌, All, refl, ap, sym, subst, ◌∙◌, arith}
 use Rattle.std.specs.List.{flat_map}
 use Rattle.std.specs.Cmp.Lexicographic.{bytes_decides}
 use Rattle.std.proofs.lemmas.List.Elements.{All-cons, All-nil, All-weaker, All-map, All-append}
@@ -12,14 +12,15 @@ use Rattle.hv_world.specs.declared.fault.Side.TheVariants as sides
 use Rattle.hv_world.specs.declared.fault.StaticFault.{StaticFault}
 use Rattle.hv_world.specs.Faults.{fault_on}
 use Rattle.hv_world.specs.Names.{is_among, place_in, with_names, by_sight, number_or, number_in}
-use Rattle.hv_world.specs.Known.{Known, known_in, variables, both_types, type_names, object_names}
+use Rattle.hv_world.specs.Known.{Known, known_in, variables, both_types, type_names}
 use Rattle.hv_world.specs.Networks.{written_by, IsArrangeable}
 use Rattle.hv_world.specs.Cycles.{is_cyclic}
+use Rattle.hv_world.specs.Orders.{IsCyclic}
 use Rattle.hv_world.specs.Types.{IsInRange}
-use Rattle.hv_world.specs.StaticRules.{at_word_if, type_faults, typed_faults, label_faults, order_faults, network_faults, method_faults, htn_faults, IsStatic}
-use Rattle.hv_world.specs.Worlds.{type_of, type_pair, object_pair, typing_by}
+use Rattle.hv_world.specs.StaticRules.{at_word_if, type_faults, typed_faults, label_faults, order_faults, method_faults, htn_faults, IsStatic}
+use Rattle.hv_world.specs.Worlds.{type_pair, object_pair, typing_by}
 use Rattle.hv_world.proofs.WithinLemmas.{sound_within}
-use Rattle.hv_world.proofs.CycleLemmas.{cycle_there}
+use Rattle.hv_world.proofs.CycleLemmas.{cycle_found, cycle_there}
 
 -- where two lists are nothing together, each is
 pub first_none : {A : Type 0} (xs ys : List A) → xs ++ ys ≡ [] → xs ≡ []
@@ -56,6 +57,16 @@ module _ (k : Known) (s : Side) where
       let both = sound place (is_cyclic (written_by n)) (label_faults k s n) e in
       let within = sound_within k s n both.0 in
       record { pairs = within; acyclic = λ c. clash (is_cyclic (written_by n)) (cycle_there (written_by n) within c) both.1 }
+
+  pub cyclic_at_fault : (place : Span) (n : Network) → label_faults k s n ≡ [] → IsCyclic (written_by n) → order_faults k s place n ≡ fault_on kinds.CyclicOrdering s place ∷ []
+  cyclic_at_fault place n none cycle =
+      ap (after place (is_cyclic (written_by n))) none ∙ ap (λ b. after place b []) (cycle_there (written_by n) (sound_within k s n none) cycle)
+
+  pub acyclic_sound : (place : Span) (n : Network) → label_faults k s n ≡ [] → (IsCyclic (written_by n) → ⊥) → order_faults k s place n ≡ []
+  acyclic_sound place n none acyclic = ap (after place (is_cyclic (written_by n))) none ∙ by (is_cyclic (written_by n)) refl where
+    by : (b : Bool) → is_cyclic (written_by n) ≡ b → after place b [] ≡ []
+    by true e = absurd (acyclic (cycle_found (written_by n) e))
+    by false e = refl
 
   pub method_arrangeable : (m : Method) → method_faults k s m ≡ [] → IsArrangeable (written_by m.network)
   method_arrangeable m e = order_arrangeable m.place m.network (last_none _ _ (last_none _ _ e))

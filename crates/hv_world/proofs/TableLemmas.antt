@@ -10,11 +10,11 @@ use Rattle.hv_text.specs.Names.{text_of}
 use Rattle.hv_text.specs.declared.name.Name.{Name}
 use Rattle.hv_syntax.specs.declared.typed.TypedText.{TypedText}
 use Rattle.hv_syntax.specs.Values.{Predicate, Domain, Problem, type_name}
-use Rattle.hv_syntax.specs.Views.{typed_view, type_view}
+use Rattle.hv_syntax.specs.Views.{typed_view}
 use Rattle.hv_world.specs.declared.tables.Declared.{Declared}
 use Rattle.hv_world.specs.Names.{names, is_among, place_in, with_names}
 use Rattle.hv_world.specs.Known.{Declaration, both_types, variables, those_before, by_place, signature_at, Signature, signature, Known, known_in, at_place, type_names, object_names, predicate_words, declared_words, declarations}
-use Rattle.hv_world.specs.Tables.{declaration_view, signature_beside}
+use Rattle.hv_world.specs.inside.Tables.{declaration_view, signature_beside}
 use Rattle.hv_world.proofs.NameLemmas.{any-map}
 
 -- names with one more, unless it is among them
@@ -38,21 +38,21 @@ module _ (list : List TypedText) (i : ℕ) (x : TypedText) (lt : i < length list
   split : drop i list ≡ x ∷ drop (i + 1) list
   split = drop_more list i x lt ∙ ap (λ y. y ∷ drop (i + 1) list) (sym is)
 
-  pub names_next : (old new : List Name) (all : List (List ℕ)) → new ≡ insert_key (λ a b. bytes_eq (text_of a) (text_of b)) old x.name.name
+  pub names_next : (old new : List Name) (name : Name) (all : List (List ℕ)) → text_of name ≡ (typed_view x).name.text → new ≡ insert_key (λ a b. bytes_eq (text_of a) (text_of b)) old name
       → with_names (map text_of old) (variables (map typed_view (drop i list))) ≡ all → with_names (map text_of new) (variables (map typed_view (drop (i + 1) list))) ≡ all
-  names_next old new all grown so_far =
-      ap (λ ns. with_names ns (variables (map typed_view (drop (i + 1) list)))) (ap (map text_of) grown ∙ insert_is x.name.name old)
+  names_next old new name all said grown so_far =
+      ap (λ ns. with_names ns (variables (map typed_view (drop (i + 1) list)))) (ap (map text_of) grown ∙ insert_is name old ∙ ap (with_name (map text_of old)) said)
       ∙ ap (λ ys. with_names (map text_of old) (variables (map typed_view ys))) (sym split) ∙ so_far
 
-  pub types_next : (old between new : List Name) (parent : Name) (all : List (List ℕ)) → between ≡ insert_key (λ a b. bytes_eq (text_of a) (text_of b)) old x.name.name
-      → text_of parent ≡ type_name (type_view x.of) → new ≡ insert_key (λ a b. bytes_eq (text_of a) (text_of b)) between parent
+  pub types_next : (old between new : List Name) (child parent : Name) (all : List (List ℕ)) → text_of child ≡ (typed_view x).name.text
+      → between ≡ insert_key (λ a b. bytes_eq (text_of a) (text_of b)) old child → text_of parent ≡ type_name (typed_view x).of → new ≡ insert_key (λ a b. bytes_eq (text_of a) (text_of b)) between parent
       → with_names (map text_of old) (flat_map both_types (map typed_view (drop i list))) ≡ all
       → with_names (map text_of new) (flat_map both_types (map typed_view (drop (i + 1) list))) ≡ all
-  types_next old between new parent all grown above again so_far =
+  types_next old between new child parent all said grown above again so_far =
       let rest = flat_map both_types (map typed_view (drop (i + 1) list)) in
-      let name = text_of x.name.name in
-      let first : map text_of between ≡ with_name (map text_of old) name = ap (map text_of) grown ∙ insert_is x.name.name old in
-      let second : map text_of new ≡ with_name (with_name (map text_of old) name) (type_name (type_view x.of)) =
+      let name = (typed_view x).name.text in
+      let first : map text_of between ≡ with_name (map text_of old) name = ap (map text_of) grown ∙ insert_is child old ∙ ap (with_name (map text_of old)) said in
+      let second : map text_of new ≡ with_name (with_name (map text_of old) name) (type_name (typed_view x).of) =
       ap (map text_of) again ∙ insert_is parent between ∙ (λ j. with_name (first j) (above j)) in
       ap (λ ns. with_names ns rest) second
       ∙ ap (λ ys. with_names (map text_of old) (flat_map both_types (map typed_view ys))) (sym split) ∙ so_far

@@ -1,6 +1,6 @@
 -- Whether an object is of a type is decided.
 use Rattle.std.proofs.Common.{◌≡◌, ◌≢◌, ℕ, ◌<◌, ◌⊎◌, inl, inr, Bool, true, false, nat_lt, List, [], ◌∷◌, Contains, ap, sym, subst, refl, arith, true≢false, ltb-true, ltb-false}
-use Rattle.hv_world.specs.Orders.{Written, written, IsPaired, Leads, one_step, more_steps, Before}
+use Rattle.hv_world.specs.Orders.{written, IsPaired, one_step, more_steps, Before}
 use Rattle.hv_world.specs.Types.{Typing, IsInRange, Reaches, same, up, Of}
 use Rattle.hv_world.proofs.CycleLemmas.{before_is_decided}
 use Rattle.hv_world.proofs.OrderLists.{contains_first, contains_next, contains_cases, nothing_contained}

@@ -16,7 +16,7 @@ use Rattle.hv_world.specs.declared.id.TypeId.{TypeId}
 use Rattle.hv_world.specs.declared.id.ObjectId.{ObjectId}
 use Rattle.hv_world.specs.Types.{Typing, Reaches, same, up, Of, object_numbers}
 use Rattle.hv_text.specs.Lists.{Once}
-use Rattle.hv_world.specs.TypeLists.{list_of, type_numbers, type_lists, object_lists, AreSeconds, Climbs, stays, steps, ClimbsFrom, AscendsBelow, IsPut, IsPutAbove, AreMembersBelow}
+use Rattle.hv_world.specs.inside.TypeLists.{list_of, type_numbers, type_lists, object_lists, AreSeconds, Climbs, stays, steps, ClimbsFrom, AscendsBelow, IsPut, IsPutAbove, AreMembersBelow}
 
 -- members of lists
 pub contains_first : {X : Type 0} (x : X) (xs : List X) → Contains (x ∷ xs) x

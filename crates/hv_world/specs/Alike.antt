@@ -1,5 +1,4 @@
 -- The classes of alike subtasks of a network, and its free parameters.
-pub mod Kept
 use Rattle.std.specs.Prelude.{◌≡◌, ℕ, zero, suc, ◌+◌, Bool, true, false, not, ◌&&◌, if◌then◌else◌, nat_eq, List, [], ◌∷◌, map, filter, Option, None, Some, is_some, IsSome, Contains}
 use Rattle.std.specs.List.{range_with_len}
 use Rattle.std.specs.Str.{bytes_eq}

@@ -1,5 +1,6 @@
 -- The objects of variables, and actions with their objects.
-use Rattle.std.specs.Prelude.{ℕ, List, [], ◌∷◌, ◌++◌, map}
+use Rattle.std.specs.Prelude.{ℕ, List, [], ◌∷◌, ◌++◌, map, slice_index_or}
+use Rattle.hv_world.specs.Values.{Term, object, variable}
 use Rattle.hv_world.specs.declared.id.ObjectId.{ObjectId}
 use Rattle.hv_world.specs.declared.binding.Binding.{Binding, Given, With'}
 use Rattle.hv_world.specs.declared.grounding.GroundAction as code
@@ -13,6 +14,11 @@ object_number o = o.0
 abbrev pub objects_in : Binding → List ℕ
 objects_in (Given os) = map object_number os.now
 objects_in (With' p b o) = objects_in b ++ object_number o ∷ []
+
+-- the object of a term; a variable that has none reads as object 0
+abbrev pub object_of : List ℕ → Term → ℕ
+object_of env (object o) = o
+object_of env (variable v) = slice_index_or env v 0
 
 -- an action, and the objects of its parameters
 pub record GroundAction : Type 0 where

@@ -1,11 +1,11 @@
 -- The numbers of a world are those of what it has: types, objects, predicates, tasks, actions, and variables in scope.
-use Rattle.std.specs.Prelude.{◌≡◌, ℕ, ◌+◌, ◌<◌, List, length, Option, Some, None, All, MatchOption}
+use Rattle.std.specs.Prelude.{◌≡◌, ℕ, ◌+◌, ◌<◌, ◌++◌, List, length, Option, Some, None, All, MatchOption}
 use Rattle.std.specs.List.{slice_get}
 use Rattle.hv_world.specs.Values.{Term, object, variable, Atom, Formula, Formulas, holds, and, or, not, imply, forall, exists, equal, no_formulas, more_formulas, TaskName, compound, primitive, Subtask, Constraint}
 use Rattle.hv_world.specs.Networks.{IsArrangeable}
 use Rattle.hv_world.specs.Types.{IsInRange}
 use Rattle.hv_text.specs.Lists.{Once}
-use Rattle.hv_world.specs.Worlds.{Network, Method, Task, Action, World, method_names}
+use Rattle.hv_world.specs.Worlds.{Network, Method, Action, World, task_names, action_names, method_names}
 
 module _ (w : World) where
   abbrev pub IsType : ℕ → Type 0
@@ -81,11 +81,12 @@ module _ (w : World) where
   IsBoundGoal None = Unit {0}
   IsBoundGoal (Some f) = IsBoundFormula 0 f
 
--- the names of each kind stand once
+-- the names of each kind stand once; those of tasks and actions are one kind
 pub record AreNamedOnce (w : World) : Type 0 where
   pub types : Once w.types
   pub objects : Once w.objects
   pub predicates : Once w.predicates
+  pub tasks : Once (task_names w.tasks ++ action_names w.actions)
   pub methods : Once (method_names w.methods)
 
 -- the order of a network is that of its subtasks, and none of them comes before itself

@@ -1,7 +1,7 @@
 -- What is known of the names of a domain and a problem.
-use Rattle.std.specs.Prelude.{◌≡◌, ℕ, suc, ◌<◌, Bool, List, [], ◌∷◌, ◌++◌, map, length, take_while, drop, Option, Some, None, nat_lt, bytes_eq, codes, if◌then◌else◌}
-use Rattle.std.specs.List.{slice_get, flat_map}
-use Rattle.hv_syntax.specs.Values.{WordAt, TypeOf, type_name, Typed, Predicate, Task, Action, Domain, Problem}
+use Rattle.std.specs.Prelude.{ℕ, suc, ◌≤◌, List, [], ◌∷◌, ◌++◌, map, length, take_while, drop, Option, Some, None, nat_lt, codes}
+use Rattle.std.specs.List.{AllPairs, slice_get, flat_map}
+use Rattle.hv_syntax.specs.Values.{WordAt, type_name, Typed, Predicate, Task, Action, Domain, Problem}
 use Rattle.hv_world.specs.Values.{TaskName, compound, primitive}
 use Rattle.hv_world.specs.Names.{names, place_in, by_sight}
 
@@ -39,6 +39,10 @@ those_before d es = take_while (λ e. nat_lt e.start d.start) es
 abbrev pub by_place : List Declaration → List Declaration → List Declaration
 by_place [] es = es
 by_place (d ∷ ds) es = those_before d es ++ d ∷ by_place ds (drop (length (those_before d es)) es)
+
+-- none starts before one that stands in front of it
+abbrev pub GoByPlace : List Declaration → Type 0
+GoByPlace ds = AllPairs (λ d e. d.start ≤ e.start) ds
 
 -- the tasks and actions of a domain, as they stand in its text
 abbrev pub declarations : Domain → List Declaration

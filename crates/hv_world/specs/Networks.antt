@@ -1,5 +1,5 @@
 -- The order that a network has by its labels.
-use Rattle.std.specs.Prelude.{ℕ, ◌<◌, suc, Bool, false, All, List, [], ◌∷◌, map, length, Option, Some, None, bytes_eq, if◌then◌else◌}
+use Rattle.std.specs.Prelude.{ℕ, ◌<◌, suc, Bool, false, All, List, [], ◌∷◌, map, length, Some, None, bytes_eq, if◌then◌else◌}
 use Rattle.hv_syntax.specs.Values.{WordAt, Subtask, Pair, Network}
 use Rattle.hv_world.specs.Names.{names}
 use Rattle.hv_world.specs.Orders.{Written, written, IsCyclic}

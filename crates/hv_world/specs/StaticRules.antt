@@ -1,6 +1,6 @@
 -- The static faults of a domain and a problem: where each rule is broken, in whatever order.
-use Rattle.std.specs.Prelude.{◌≡◌, ℕ, Bool, true, not, List, [], ◌∷◌, ◌++◌, map, length, Option, Some, None, ◌⊎◌, if◌then◌else◌, nat_eq}
-use Rattle.std.specs.List.{flat_map, filter}
+use Rattle.std.specs.Prelude.{◌≡◌, ℕ, Bool, not, List, [], ◌∷◌, ◌++◌, map, length, Option, Some, None, ◌⊎◌, if◌then◌else◌, nat_eq}
+use Rattle.std.specs.List.{flat_map}
 use Rattle.std.specs.Option.{option_or}
 use Rattle.hv_text.specs.declared.span.Span.{Span}
 use Rattle.hv_world.specs.declared.fault.StaticKind.{StaticKind}
@@ -8,7 +8,7 @@ use Rattle.hv_world.specs.declared.fault.StaticKind.TheVariants as kinds
 use Rattle.hv_world.specs.declared.fault.Side.{Side}
 use Rattle.hv_world.specs.declared.fault.Side.TheVariants as sides
 use Rattle.hv_world.specs.declared.fault.StaticFault.{StaticFault}
-use Rattle.hv_syntax.specs.Values.{WordAt, Term, constant, variable, Atom, TypeOf, no_type, of_type, Typed, Formula, Formulas, holds, and, or, imply, forall, exists, equal, no_formulas, more_formulas, Literal, Subtask, Pair, Constraint, Network, Task, Method, Action, Domain, Htn, Problem}
+use Rattle.hv_syntax.specs.Values.{WordAt, Term, constant, variable, Atom, TypeOf, no_type, of_type, Typed, Formula, Formulas, holds, and, or, imply, forall, exists, equal, no_formulas, more_formulas, Literal, Subtask, Pair, Constraint, Network, Method, Action, Domain, Htn, Problem}
 use Rattle.hv_syntax.specs.Values.{not as negation}
 use Rattle.hv_world.specs.Values.{compound, primitive}
 use Rattle.hv_world.specs.Faults.{fault_on, fault_at, faults_at, IsFirst, least}

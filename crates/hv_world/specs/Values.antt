@@ -34,14 +34,6 @@ abbrev pub formulas_of : List Formula → Formulas
 formulas_of [] = no_formulas
 formulas_of (f ∷ fs) = more_formulas f (formulas_of fs)
 
--- an atom, or the negation of one
-pub record Literal : Type 0 where
-  pub is_positive : Bool
-  pub atom : Atom
-
-abbrev pub literal : Bool → Atom → Literal
-literal b a = record { is_positive = b; atom = a }
-
 -- what a subtask is to do: a task that methods decompose, or an action
 pub data TaskName : Type 0 where
   compound : ℕ → TaskName

@@ -9,10 +9,9 @@ use Rattle.hv_world.specs.declared.formula.Atom as code_atom
 use Rattle.hv_world.specs.declared.formula.Formula as code_formula
 use Rattle.hv_world.specs.declared.formula.Formula.{fold-Formula}
 use Rattle.hv_world.specs.declared.formula.Formula.TheOpen.{Formula-F}
-use Rattle.hv_world.specs.declared.formula.Literal as code_literal
 use Rattle.hv_world.specs.declared.formula.Subtask as code_subtask
 use Rattle.hv_world.specs.declared.formula.Constraint as code_constraint
-use Rattle.hv_world.specs.Values.{Term, object, variable, Atom, atom, Formula, holds, and, or, not, imply, forall, exists, equal, formulas_of, Literal, literal, TaskName, compound, primitive, Subtask, subtask, Constraint, constraint}
+use Rattle.hv_world.specs.Values.{Term, object, variable, Atom, atom, Formula, holds, and, or, not, imply, forall, exists, equal, formulas_of, TaskName, compound, primitive, Subtask, subtask, Constraint, constraint}
 
 abbrev pub type_number : TypeId → ℕ
 type_number t = t.0
@@ -41,9 +40,6 @@ formula_step (Formula-F.Equal s t) = equal (term_view s) (term_view t)
 
 abbrev pub formula_view : code_formula.Formula → Formula
 formula_view = fold-Formula Formula formula_step
-
-abbrev pub literal_view : code_literal.Literal → Literal
-literal_view l = literal l.is_positive (atom_view l.atom)
 
 abbrev pub subtask_view : code_subtask.Subtask → Subtask
 subtask_view s = subtask (name_view s.name) (map term_view s.terms.items)

@@ -1,7 +1,7 @@
 -- The world of a domain and a problem: what they say, with a number for each name.
-use Rattle.std.specs.Prelude.{ℕ, suc, Bool, not, List, [], ◌∷◌, ◌++◌, map, filter, flat_map, length, Option, Some, None, option_map}
+use Rattle.std.specs.Prelude.{ℕ, not, List, [], ◌++◌, map, filter, length, Option, Some, None, option_map}
 use Rattle.hv_syntax.specs.Values as text
-use Rattle.hv_syntax.specs.Values.{WordAt, Typed, type_name, Domain, Problem}
+use Rattle.hv_syntax.specs.Values.{Typed, type_name, Domain, Problem}
 use Rattle.hv_world.specs.Values.{Term, object, variable, Atom, atom, Formula, Formulas, holds, and, or, not as negation, imply, forall, exists, equal, no_formulas, more_formulas, TaskName, compound, primitive, Subtask, subtask, Constraint, constraint}
 use Rattle.hv_world.specs.Names.{place_in, number_or, number_in}
 use Rattle.hv_world.specs.Scopes.{Scope, parameters, inside, size, variable_in}

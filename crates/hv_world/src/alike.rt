@@ -3,7 +3,7 @@
 ghost use Rattle.std.specs.Prelude.{◌≡◌, ◌↔◌, ℕ, true, List, ◌++◌, ◌&&◌, ◌+◌, ◌<◌, ◌^◌, not, [], ◌∷◌, map, filter, length, Contains, All, AllPairs, ◌≢◌, IfOk, OnOk};
 ghost use Rattle.std.specs.List.{range_with_len};
 ghost use Rattle.hv_world.specs.Alike as alike;
-ghost use Rattle.hv_world.specs.Alike.Kept.{is_marked, is_object, kept_marks, RowsSay, counts_in, counted, key_view};
+ghost use Rattle.hv_world.specs.inside.Kept.{is_marked, is_object, kept_marks, RowsSay, counts_in, counted, key_view};
 ghost use Rattle.hv_world.specs.Values as value;
 ghost use Rattle.hv_world.specs.Views.{term_view, subtask_view};
 
@@ -24,7 +24,7 @@ struct Key {
 impl Hash for TaskName {
     ghost use Rattle.std.proofs.Common.{rules};
     ghost use Rattle.std.specs.Cmp.Rules.{hashing};
-    ghost use Rattle.hv_world.specs.Alike.Kept.{name_bytes};
+    ghost use Rattle.hv_world.specs.inside.Kept.{name_bytes};
 
     ghost hash_input = { name_bytes };
 

@@ -2,13 +2,12 @@
 
 ghost use Rattle.std.specs.Prelude.{ℕ, List, ◌≡◌, ◌⊎◌, [], Some, map, option_map, All, IfOk, IfErr};
 ghost use Rattle.hv_text.specs.Names.{text_of};
-ghost use Rattle.hv_syntax.specs.Views.{word_view};
 ghost use Rattle.hv_syntax.specs.DeclarationViews.{predicate_view as said_predicate, task_view as said_task, method_view as said_method, action_view as said_action};
 ghost use Rattle.hv_syntax.specs.DomainViews.{domain_view};
 ghost use Rattle.hv_syntax.specs.ProblemViews.{problem_view};
 ghost use Rattle.hv_world.specs.Known.{known_in, predicate_words};
 ghost use Rattle.hv_world.specs.Names.{names, place_in};
-ghost use Rattle.hv_world.specs.Tables.{known_by, places_by};
+ghost use Rattle.hv_world.specs.inside.Tables.{known_by, places_by};
 ghost use Rattle.hv_world.specs.Types.{IsInRange};
 ghost use Rattle.hv_world.specs.Faults.{memory_fault};
 ghost use Rattle.hv_world.specs.StaticRules.{IsStatic, first_fault};
@@ -19,7 +18,7 @@ ghost use Rattle.hv_world.specs.Scopes.{parameters};
 ghost use Rattle.hv_world.specs.SectionViews.{task_view, action_view};
 ghost use Rattle.hv_world.specs.Views.{atom_view, formula_view};
 ghost use Rattle.hv_world.specs.WorldViews.{world_view};
-ghost use Rattle.hv_world.specs.Parts.{world_of_parts};
+ghost use Rattle.hv_world.specs.inside.Parts.{world_of_parts};
 ghost use Rattle.hv_world.specs.Worlds.{task_by, method_in, action_in, formula_in, added, top_in, typing_by, world_by, world_of, task_names, action_names, method_names, said_task_names, said_action_names, said_method_names};
 
 use crate::action::Action;

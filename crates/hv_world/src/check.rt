@@ -5,7 +5,7 @@ ghost use Rattle.hv_syntax.specs.DomainViews.{domain_view};
 ghost use Rattle.hv_syntax.specs.ProblemViews.{problem_view};
 ghost use Rattle.hv_world.specs.Known.{known_in};
 ghost use Rattle.hv_world.specs.StaticRules.{IsStatic, first_fault};
-ghost use Rattle.hv_world.specs.Tables.{known_by};
+ghost use Rattle.hv_world.specs.inside.Tables.{known_by};
 
 mod formulas;
 mod networks;

@@ -96,7 +96,7 @@ pub(crate) fn fault_if(
         Some(StaticFault {
             kind,
             side,
-            span: word.span,
+            span: word.span(),
         })
     } else {
         None

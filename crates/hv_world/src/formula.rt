@@ -38,13 +38,6 @@ pub enum Formula {
     Equal(Term, Term),
 }
 
-/// An atom that an effect or an initial state makes true, or false.
-#[derive(Drop)]
-pub struct Literal {
-    pub is_positive: bool,
-    pub atom: Atom,
-}
-
 /// A subtask: what is to be done, and with what.
 #[derive(Drop)]
 pub struct Subtask {

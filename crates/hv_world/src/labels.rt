@@ -1,11 +1,11 @@
 //! The labels of a network.
 
-ghost use Rattle.std.specs.Prelude.{◌≡◌, ◌++◌, map, IfOk, OnOk};
+ghost use Rattle.std.specs.Prelude.{◌≡◌, map, IfOk};
 ghost use Rattle.hv_text.specs.Names.{text_of};
 ghost use Rattle.hv_syntax.specs.Views.{word_view};
 ghost use Rattle.hv_syntax.specs.NetworkViews.{subtask_view, network_view};
 ghost use Rattle.hv_world.specs.Networks.{labels, labelled, written_by};
-ghost use Rattle.hv_world.specs.LabelViews.{numbers_by, holders};
+ghost use Rattle.hv_world.specs.inside.LabelViews.{numbers_by, holders};
 
 use crate::names::Names;
 use hv_syntax::{NetworkText, Placed, SubtaskText};
@@ -30,7 +30,7 @@ pub(crate) fn label_words<'s>(
 {
     let mut words = Vec::new(alloc);
     for subtask in subtasks {
-        if let Some(label) = subtask.label {
+        if let Some(label) = subtask.label() {
             words.push(label)?;
         }
     }
@@ -43,7 +43,7 @@ fn holders(alloc: Global, subtasks: &[SubtaskText<'_>]) -> Result<Vec<usize>, Me
 {
     let mut numbers = Vec::new(alloc);
     for number in 0..subtasks.len() {
-        if subtasks[number].label.is_some() {
+        if subtasks[number].label().is_some() {
             numbers.push(number)?;
         }
     }
@@ -95,8 +95,10 @@ pub(crate) fn numbered_pairs(
     let labels = Labels::of(alloc, network.subtasks())?;
     let mut pairs = Vec::new(alloc);
     for pair in network.pairs() {
-        let earlier = labels.number(pair.earlier.name);
-        let later = labels.number(pair.later.name);
+        let before = pair.earlier().name();
+        let after = pair.later().name();
+        let earlier = labels.number(before);
+        let later = labels.number(after);
         pairs.push((earlier, later))?;
     }
     Ok(pairs)

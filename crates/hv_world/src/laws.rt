@@ -1,17 +1,23 @@
 //! Laws of the definitions. These functions do nothing: their contracts are the laws.
 
-ghost use Rattle.std.specs.Prelude.{◌≡◌, ◌<◌, ◌↔◌, ◌⊎◌, ℕ, List, true, Some, slice_get};
+ghost use Rattle.std.specs.Prelude.{◌≡◌, ◌<◌, ◌↔◌, ◌⊎◌, ◌∷◌, ◌++◌, [], ℕ, List, true, Some, slice_get, IsPermutation};
 ghost use Rattle.std.specs.List.{All};
-ghost use Rattle.hv_syntax.specs.Values.{Domain, Problem};
+ghost use Rattle.hv_syntax.specs.Values.{Network, Domain, Problem};
+ghost use Rattle.hv_text.specs.declared.span.Span.{Span};
 ghost use Rattle.hv_world.specs.declared.fault.StaticFault.{StaticFault};
+ghost use Rattle.hv_world.specs.declared.fault.StaticKind.TheVariants as kinds;
+ghost use Rattle.hv_world.specs.declared.fault.Side.{Side};
 ghost use Rattle.hv_text.specs.Lists.{Once};
-ghost use Rattle.hv_world.specs.Bounds.{IsBound};
+ghost use Rattle.hv_world.specs.Bounds.{IsBound, IsSound};
+ghost use Rattle.hv_world.specs.Faults.{fault_on};
+ghost use Rattle.hv_world.specs.Known.{Declaration, Known, by_place, GoByPlace};
 ghost use Rattle.hv_world.specs.Names.{place_in};
-ghost use Rattle.hv_world.specs.Worlds.{world_of};
-ghost use Rattle.hv_world.specs.Networks.{IsArrangeable};
+ghost use Rattle.hv_world.specs.Values.{compound, primitive};
+ghost use Rattle.hv_world.specs.Worlds.{World, Task, Action, world_of, task_named};
+ghost use Rattle.hv_world.specs.Networks.{IsArrangeable, written_by};
 ghost use Rattle.hv_world.specs.Types.{Typing, IsInRange, Of};
 ghost use Rattle.hv_world.specs.Orders.{Written, IsCyclic, Before};
-ghost use Rattle.hv_world.specs.StaticRules.{first_fault, IsStatic, IsFirstFault};
+ghost use Rattle.hv_world.specs.StaticRules.{label_faults, order_faults, first_fault, IsStatic, IsFirstFault};
 ghost use Rattle.hv_world.specs.Cycles.{is_cyclic};
 
 /// The test for a cycle finds the orders in which some subtask comes before itself.
@@ -31,9 +37,26 @@ pub fn static_worlds_are_bound()
     ensures { (d : Domain) (p : Problem) → IsStatic d p → IsBound (world_of d p) }
 {}
 
-/// A look-up of a name that stands once finds the number of the name.
+/// A look-up of a name that stands once finds the number of the name; and so, in a sound world, of
+/// the names of tasks and actions, which are looked up together.
 pub fn names_are_found()
-    ensures { (names : List (List ℕ)) → Once names → (k : ℕ) (n : List ℕ) → slice_get names k ≡ Some n → place_in names n ≡ Some k }
+    ensures names { (ns : List (List ℕ)) → Once ns → (k : ℕ) (n : List ℕ) → slice_get ns k ≡ Some n → place_in ns n ≡ Some k }
+    ensures tasks { (w : World) → IsSound w → (k : ℕ) (t : Task) → slice_get w.tasks k ≡ Some t → task_named w t.name ≡ Some (compound k) }
+    ensures actions { (w : World) → IsSound w → (k : ℕ) (a : Action) → slice_get w.actions k ≡ Some a → task_named w a.name ≡ Some (primitive k) }
+{}
+
+/// The tasks and actions of a domain in one list are those of the two lists, and they go by the
+/// places of their sections where those of each list do.
+pub fn declarations_go_by_place()
+    ensures members { (ds es : List Declaration) → IsPermutation (ds ++ es) (by_place ds es) }
+    ensures order { (ds es : List Declaration) → GoByPlace ds → GoByPlace es → GoByPlace (by_place ds es) }
+{}
+
+/// A network whose labels are sound is at fault for its order where some subtask comes before
+/// itself, and only there.
+pub fn cyclic_orders_are_faults()
+    ensures cyclic { (k : Known) (s : Side) (place : Span) (n : Network) → label_faults k s n ≡ [] → IsCyclic (written_by n) → order_faults k s place n ≡ fault_on kinds.CyclicOrdering s place ∷ [] }
+    ensures acyclic { (k : Known) (s : Side) (place : Span) (n : Network) → label_faults k s n ≡ [] → (IsCyclic (written_by n) → ⊥) → order_faults k s place n ≡ [] }
 {}
 
 /// Whether an object is of a type is decided.

@@ -32,12 +32,12 @@ pub use alike::{
 };
 pub use binding::Binding;
 pub use fault::{Side, StaticFault, StaticKind};
-pub use formula::{Atom, Constraint, Formula, Literal, Subtask, Term};
+pub use formula::{Atom, Constraint, Formula, Subtask, Term};
 pub use grounding::{GroundAction, GroundActions};
 pub use id::{ActionId, MethodId, ObjectId, PredicateId, TaskId, TaskName, TypeId};
 pub use laws::{
-    a_world_or_a_fault, cycles_are_found, names_are_found, orders_are_decided,
-    static_worlds_are_bound, types_are_decided,
+    a_world_or_a_fault, cycles_are_found, cyclic_orders_are_faults, declarations_go_by_place,
+    names_are_found, orders_are_decided, static_worlds_are_bound, types_are_decided,
 };
 pub use method::Method;
 pub use network::Network;

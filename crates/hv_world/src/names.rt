@@ -1,13 +1,15 @@
 //! Tables of names.
 
 ghost use Rattle.std.specs.Prelude.{◌≡◌, [], map, IfOk, OnOk};
+ghost use Rattle.std.specs.List.{flat_map};
 ghost use Rattle.hv_text.specs.Names.{text_of};
 ghost use Rattle.hv_syntax.specs.Views.{word_view, typed_view};
 ghost use Rattle.hv_world.specs.Names.{names, place_in, repeated};
 ghost use Rattle.hv_world.specs.Known.{variables, typed_words};
 ghost use Rattle.hv_world.specs.Scopes.{is_some};
 ghost use Rattle.hv_world.specs.Faults.{faults_at, least};
-ghost use Rattle.hv_world.specs.Tables.{places_by, with_place};
+ghost use Rattle.hv_world.specs.inside.Seeds.{start_of, written_names};
+ghost use Rattle.hv_world.specs.inside.Tables.{places_by, seed_of, with_place};
 
 use crate::fault::{Side, StaticFault, StaticKind, earlier, fault_if};
 use crate::seed::Seeded;
@@ -34,35 +36,39 @@ impl<'s> Names<'s> {
 
     /// The first places of the names of words.
     pub(crate) fn of(alloc: Global, words: &[Placed<'s>]) -> Result<Names<'s>, Memory>
-        ensures { IfOk result (λ t. places_by t ≡ place_in (names (map word_view words.now))) }
+        ensures places { IfOk result (λ t. places_by t ≡ place_in (names (map word_view words.now))) }
+        ensures seed { IfOk result (λ t. seed_of t ≡ start_of (names (map word_view words.now))) }
     {
         let mut names = Names {
             places: IndexMap::with_hasher(alloc, Seeded::new().with_words(words)),
         };
         for place in 0..words.len() {
             let word = words[place];
-            names.add(word.name, place)?;
+            names.add(word.name(), place)?;
         }
         Ok(names)
     }
 
     /// The first places of the names of variables.
     pub(crate) fn of_variables(alloc: Global, list: &[TypedText<'s>]) -> Result<Names<'s>, Memory>
-        ensures { IfOk result (λ t. places_by t ≡ place_in (variables (map typed_view list.now))) }
+        ensures places { IfOk result (λ t. places_by t ≡ place_in (variables (map typed_view list.now))) }
+        ensures seed { IfOk result (λ t. seed_of t ≡ start_of (flat_map written_names (map typed_view list.now))) }
     {
         let mut names = Names {
             places: IndexMap::with_hasher(alloc, Seeded::new().with_typed(list)),
         };
         for place in 0..list.len() {
-            let variable = list[place];
-            names.add(variable.name.name, place)?;
+            let declared = list[place];
+            let variable = declared.name();
+            names.add(variable.name(), place)?;
         }
         Ok(names)
     }
 
     // Notes a place, where the name has none.
     fn add(&mut self, name: Name<'s>, place: usize) -> Result<(), Memory>
-        ensures { OnOk result (places_by self.new ≡ with_place (places_by self.old) (text_of name.entry) place) }
+        ensures places { OnOk result (places_by self.new ≡ with_place (places_by self.old) (text_of name.entry) place) }
+        ensures seed { seed_of self.new ≡ seed_of self.old }
     {
         if !self.places.contains_key(&name) {
             self.places.insert(name, place)?;
@@ -101,7 +107,7 @@ pub(crate) fn repeated_word<'s>(
     let mut found = None;
     for place in 0..words.len() {
         let word = words[place];
-        let is_first = table.place(word.name) == Some(place);
+        let is_first = table.place(word.name()) == Some(place);
         let fault = fault_if(!is_first, kind, side, word);
         found = earlier(found, fault);
     }
@@ -114,7 +120,8 @@ pub(crate) fn place_among<'s>(list: &[TypedText<'s>], name: Name<'s>) -> Option<
 {
     for place in 0..list.len() {
         let variable = list[place];
-        if name == variable.name.name {
+        let word = variable.name();
+        if name == word.name() {
             return Some(place);
         }
     }
@@ -132,8 +139,8 @@ pub(crate) fn repeated_variable<'s>(
     let mut found = None;
     for place in 0..variables.len() {
         let variable = variables[place];
-        let word = variable.name;
-        let is_first = place_among(variables, word.name) == Some(place);
+        let word = variable.name();
+        let is_first = place_among(variables, word.name()) == Some(place);
         let fault = fault_if(!is_first, kind, side, word);
         found = earlier(found, fault);
     }
@@ -153,8 +160,8 @@ pub(crate) fn repeated_parameter<'s>(
     let mut found = None;
     for place in 0..list.len() {
         let variable = list[place];
-        let word = variable.name;
-        let is_first = table.place(word.name) == Some(place);
+        let word = variable.name();
+        let is_first = table.place(word.name()) == Some(place);
         let fault = fault_if(!is_first, kind, side, word);
         found = earlier(found, fault);
     }

@@ -35,7 +35,7 @@ impl Model for Order {
 
     ghost Value = { Written };
 
-    ghost use Rattle.hv_world.specs.OrderViews.{written_of, IsOrder};
+    ghost use Rattle.hv_world.specs.inside.OrderViews.{written_of, IsOrder};
 
     ghost view = { written_of };
 
@@ -43,7 +43,7 @@ impl Model for Order {
 }
 
 ghost use Rattle.hv_world.specs.Orders.{written, Before, IsCyclic, IsArrangement, AreDirect};
-ghost use Rattle.hv_world.specs.OrderWalks.{list_at, lists_of};
+ghost use Rattle.hv_world.specs.inside.OrderWalks.{list_at, lists_of};
 
 /// Whether each pair goes on to a subtask written later.
 fn all_go_on(pairs: &[(usize, usize)]) -> bool

@@ -4,7 +4,7 @@ ghost use Rattle.std.specs.Prelude.{◌≡◌, ◌+◌, Some, IfSome, IfOk};
 ghost use Rattle.hv_text.specs.Names.{text_of};
 ghost use Rattle.hv_world.specs.Scopes.{size, variable_in, is_bound};
 ghost use Rattle.hv_world.specs.Names.{number_or};
-ghost use Rattle.hv_world.specs.Tables.{scope_view};
+ghost use Rattle.hv_world.specs.inside.Tables.{scope_view};
 
 use crate::names::{Names, place_among};
 use hv_syntax::TypedText;

@@ -1,5 +1,13 @@
 //! Hashing from a start that the names of a table choose.
 
+ghost use Rattle.std.specs.Prelude.{◌≡◌, map, fold};
+ghost use Rattle.std.specs.List.{flat_map};
+ghost use Rattle.std.specs.Hash.DefaultHasher as sip;
+ghost use Rattle.hv_text.specs.Names.{text_of};
+ghost use Rattle.hv_syntax.specs.Views.{word_view, typed_view};
+ghost use Rattle.hv_world.specs.Names.{names};
+ghost use Rattle.hv_world.specs.inside.Seeds.{name_writes, with_taken_in, written_names};
+
 use hv_syntax::{Placed, TypeText, TypedText};
 use hv_text::Name;
 use std::hash::{BuildHasher, DefaultHasher, Hash, Hasher};
@@ -13,35 +21,43 @@ pub(crate) struct Seeded {
 
 impl Seeded {
     /// The start that has taken in no name.
-    pub(crate) fn new() -> Seeded {
+    pub(crate) fn new() -> Seeded
+        ensures { result.start ≡ sip.initial }
+    {
         Seeded {
             start: DefaultHasher::new(),
         }
     }
 
     /// The start with these words taken in.
-    pub(crate) fn with_words(self, words: &[Placed<'_>]) -> Seeded {
+    pub(crate) fn with_words(self, words: &[Placed<'_>]) -> Seeded
+        ensures { result.start ≡ with_taken_in self.start (names (map word_view words.now)) }
+    {
         let mut seed = self;
         for word in words {
-            seed.take_in(word.name);
+            seed.take_in(word.name());
         }
         seed
     }
 
     /// The start with the names of a typed list and their types taken in.
-    pub(crate) fn with_typed(self, list: &[TypedText<'_>]) -> Seeded {
+    pub(crate) fn with_typed(self, list: &[TypedText<'_>]) -> Seeded
+        ensures { result.start ≡ with_taken_in self.start (flat_map written_names (map typed_view list.now)) }
+    {
         let mut seed = self;
         for typed in list {
-            seed.take_in(typed.name.name);
-            if let TypeText::Named(word) = typed.of {
-                seed.take_in(word.name);
+            seed.take_in(typed.name().name());
+            if let TypeText::Named(word) = typed.of() {
+                seed.take_in(word.name());
             }
         }
         seed
     }
 
     // No word holds a space: it ends each name.
-    fn take_in(&mut self, name: Name<'_>) {
+    fn take_in(&mut self, name: Name<'_>)
+        ensures { self.new.start ≡ fold sip.write self.old.start (name_writes (text_of name.entry)) }
+    {
         name.hash(&mut self.start);
         self.start.write_u8(b' ');
     }

@@ -7,7 +7,7 @@ ghost use Rattle.hv_syntax.specs.DomainViews.{domain_view};
 ghost use Rattle.hv_syntax.specs.ProblemViews.{problem_view};
 ghost use Rattle.hv_world.specs.Names.{names, place_in, is_among, number_in};
 ghost use Rattle.hv_world.specs.Known.{known_in, predicate_words, declared_words, declarations};
-ghost use Rattle.hv_world.specs.Tables.{known_by, places_by, signature_view, declaration_view};
+ghost use Rattle.hv_world.specs.inside.Tables.{known_by, places_by, signature_view, declaration_view};
 
 pub(crate) mod sections;
 mod sight;

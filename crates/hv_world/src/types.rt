@@ -1,11 +1,11 @@
 //! Which objects are of which type.
 
-ghost use Rattle.std.specs.Prelude.{◌≡◌, ◌<◌, ◌≤◌, ◌+◌, ◌↔◌, ℕ, [], length, map, IsTrue, IfOk, OnOk};
+ghost use Rattle.std.specs.Prelude.{◌≡◌, ◌<◌, ◌+◌, ◌↔◌, ℕ, [], length, map, IsTrue, IfOk, OnOk};
 ghost use Rattle.std.specs.List.{All, Contains};
 ghost use Rattle.std.specs.List.Sorted.{IsStrictlyIncreasing};
 ghost use Rattle.hv_world.specs.Types.{Typing, typing, Of, object_numbers};
 ghost use Rattle.hv_text.specs.Lists.{Once};
-ghost use Rattle.hv_world.specs.TypeLists.{list_of, type_numbers, type_lists, object_lists, AreSeconds, AscendsBelow, IsPut, IsPutAbove, AreMembersBelow};
+ghost use Rattle.hv_world.specs.inside.TypeLists.{list_of, type_numbers, type_lists, object_lists, AreSeconds, AscendsBelow, IsPut, IsPutAbove, AreMembersBelow};
 
 use crate::id::{ObjectId, TypeId};
 use hv_text::Memory;

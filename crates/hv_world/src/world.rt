@@ -3,7 +3,7 @@
 ghost use Rattle.std.specs.Prelude.{◌≡◌, ℕ, List, ◌↔◌, IsTrue, map, option_map, slice_get, MatchOption};
 ghost use Rattle.hv_text.specs.Names.{text_of};
 ghost use Rattle.hv_world.specs.Names.{place_in};
-ghost use Rattle.hv_world.specs.Tables.{places_by};
+ghost use Rattle.hv_world.specs.inside.Tables.{places_by};
 ghost use Rattle.hv_world.specs.Views.{type_number, name_view, atom_view, formula_view};
 ghost use Rattle.hv_world.specs.Bindings.{object_number, ground_action, ground_action_view};
 ghost use Rattle.hv_world.specs.Groundings.{AreOf, IsGrounding};

@@ -7,7 +7,7 @@ ghost use Rattle.hv_world.specs.Known.{variables};
 ghost use Rattle.hv_world.specs.Scopes.{inside};
 ghost use Rattle.hv_world.specs.Faults.{least};
 ghost use Rattle.hv_world.specs.StaticRules.{variable_faults, formula_faults, all_formula_faults};
-ghost use Rattle.hv_world.specs.Tables.{known_by, scope_view};
+ghost use Rattle.hv_world.specs.inside.Tables.{known_by, scope_view};
 
 use crate::check::terms::{atom_fault, equality_fault};
 use crate::check::types::variable_fault;

@@ -12,7 +12,7 @@ ghost use Rattle.hv_world.specs.Cycles.{is_cyclic};
 ghost use Rattle.hv_world.specs.Faults.{least, fault_if};
 ghost use Rattle.hv_world.specs.declared.fault.StaticKind.TheVariants as kinds;
 ghost use Rattle.hv_world.specs.StaticRules.{subtask_faults, subtasks_faults, constraints_faults, pair_faults, label_faults, order_faults, network_faults};
-ghost use Rattle.hv_world.specs.Tables.{known_by, places_by, scope_view};
+ghost use Rattle.hv_world.specs.inside.Tables.{known_by, places_by, scope_view};
 
 use crate::check::terms::{application_fault, declared_arity, equality_fault};
 use crate::fault::{Side, StaticFault, StaticKind, earlier, fault_if};
@@ -34,8 +34,8 @@ fn subtask_fault<'s>(
 ) -> Option<StaticFault>
     ensures { result ≡ least (subtask_faults (known_by tables.now) side (scope_view scope.now) (subtask_view subtask.now)) }
 {
-    let task = &subtask.task;
-    let arity = declared_arity(tables, task.symbol.name);
+    let task = subtask.task();
+    let arity = declared_arity(tables, task.symbol().name());
     application_fault(tables, scope, side, StaticKind::UnknownTask, arity, task)
 }
 
@@ -67,7 +67,7 @@ fn constraints_fault<'s>(
 {
     let mut found = None;
     for constraint in constraints {
-        let fault = equality_fault(tables, scope, side, constraint.left, constraint.right);
+        let fault = equality_fault(tables, scope, side, constraint.left(), constraint.right());
         found = earlier(found, fault);
     }
     found
@@ -77,7 +77,7 @@ fn constraints_fault<'s>(
 fn unknown_label<'s>(labels: &Names<'s>, side: Side, word: Placed<'s>) -> Option<StaticFault>
     ensures { result ≡ fault_if (not (is_some (places_by labels.now (word_view word.entry).text))) kinds.UnknownLabel side (word_view word.entry) }
 {
-    let is_known = labels.has(word.name);
+    let is_known = labels.has(word.name());
     fault_if(!is_known, StaticKind::UnknownLabel, side, word)
 }
 
@@ -87,8 +87,8 @@ fn unknown_labels<'s>(labels: &Names<'s>, side: Side, pairs: &[PairText<'s>]) ->
 {
     let mut found = None;
     for pair in pairs {
-        let before = unknown_label(labels, side, pair.earlier);
-        let after = unknown_label(labels, side, pair.later);
+        let before = unknown_label(labels, side, pair.earlier());
+        let after = unknown_label(labels, side, pair.later());
         let fault = earlier(before, after);
         found = earlier(found, fault);
     }

@@ -9,7 +9,7 @@ ghost use Rattle.hv_world.specs.declared.fault.Side.TheVariants as sides;
 ghost use Rattle.hv_world.specs.Scopes.{parameters};
 ghost use Rattle.hv_world.specs.Faults.{least};
 ghost use Rattle.hv_world.specs.StaticRules.{variable_faults, method_faults, action_faults, htn_faults, goal_faults, literals_faults};
-ghost use Rattle.hv_world.specs.Tables.{known_by};
+ghost use Rattle.hv_world.specs.inside.Tables.{known_by};
 
 use crate::check::formulas::formula_fault;
 use crate::check::networks::network_fault;
@@ -73,7 +73,7 @@ fn action_fault<'s>(
     let parameters = parameter_fault(tables, &names, side, list);
     let precondition = formula_fault(tables, &scope, side, action.precondition());
     let effect = action.effect();
-    let literals = literals_fault(tables, &scope, side, &effect.literals);
+    let literals = literals_fault(tables, &scope, side, effect.literals());
     let head = earlier(parameters, precondition);
     Ok(earlier(head, literals))
 }

@@ -5,7 +5,7 @@ ghost use Rattle.hv_text.specs.Names.{text_of};
 ghost use Rattle.hv_syntax.specs.Views.{word_view, term_view, atom_view, literal_view};
 ghost use Rattle.hv_world.specs.Faults.{least};
 ghost use Rattle.hv_world.specs.StaticRules.{head_faults, signature_arity, declared_arity, arity_of_task, term_faults, terms_faults, atom_faults, task_faults, literals_faults};
-ghost use Rattle.hv_world.specs.Tables.{known_by, scope_view};
+ghost use Rattle.hv_world.specs.inside.Tables.{known_by, scope_view};
 
 use crate::fault::{Side, StaticFault, StaticKind, earlier, fault_if};
 use crate::id::TaskName;
@@ -25,11 +25,11 @@ fn term_fault<'s>(
 {
     match term {
         TermText::Constant(word) => {
-            let is_known = tables.is_object(word.name);
+            let is_known = tables.is_object(word.name());
             fault_if(!is_known, StaticKind::UnknownObject, side, word)
         }
         TermText::Variable(word) => {
-            let is_bound = scope.binds(word.name);
+            let is_bound = scope.binds(word.name());
             fault_if(!is_bound, StaticKind::UnboundVariable, side, word)
         }
     }
@@ -128,8 +128,8 @@ pub(crate) fn application_fault<'s>(
 ) -> Option<StaticFault>
     ensures { result ≡ least (head_faults kind side (atom_view atom.now).symbol arity (length (atom_view atom.now).terms) ++ terms_faults (known_by tables.now) side (scope_view scope.now) (atom_view atom.now).terms) }
 {
-    let head = head_fault(kind, side, atom.symbol, arity, atom.terms.len());
-    let terms = terms_fault(tables, scope, side, &atom.terms);
+    let head = head_fault(kind, side, atom.symbol(), arity, atom.terms().len());
+    let terms = terms_fault(tables, scope, side, atom.terms());
     earlier(head, terms)
 }
 
@@ -142,7 +142,7 @@ pub(crate) fn atom_fault<'s>(
 ) -> Option<StaticFault>
     ensures { result ≡ least (atom_faults (known_by tables.now) side (scope_view scope.now) (atom_view atom.now)) }
 {
-    let arity = predicate_arity(tables, atom.symbol.name);
+    let arity = predicate_arity(tables, atom.symbol().name());
     let kind = StaticKind::UnknownPredicate;
     application_fault(tables, scope, side, kind, arity, atom)
 }
@@ -158,7 +158,7 @@ pub(crate) fn literals_fault<'s>(
 {
     let mut found = None;
     for literal in literals {
-        let fault = atom_fault(tables, scope, side, &literal.atom);
+        let fault = atom_fault(tables, scope, side, literal.atom());
         found = earlier(found, fault);
     }
     found
@@ -173,7 +173,7 @@ pub(crate) fn task_fault<'s>(
 ) -> Option<StaticFault>
     ensures { result ≡ least (task_faults (known_by tables.now) side (scope_view scope.now) (atom_view task.now)) }
 {
-    let arity = task_arity(tables, task.symbol.name);
+    let arity = task_arity(tables, task.symbol().name());
     let kind = StaticKind::UnknownTask;
     application_fault(tables, scope, side, kind, arity, task)
 }

@@ -9,7 +9,7 @@ ghost use Rattle.hv_world.specs.declared.fault.Side.TheVariants as sides;
 ghost use Rattle.hv_world.specs.Names.{repeated};
 ghost use Rattle.hv_world.specs.Faults.{faults_at, least};
 ghost use Rattle.hv_world.specs.StaticRules.{duplicate_faults, domain_faults_by, problem_faults_by};
-ghost use Rattle.hv_world.specs.Tables.{known_by};
+ghost use Rattle.hv_world.specs.inside.Tables.{known_by};
 
 use crate::check::sections::{
     actions_fault, compounds_fault, goal_fault, htn_fault, init_fault, methods_fault,

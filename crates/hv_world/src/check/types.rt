@@ -6,7 +6,7 @@ ghost use Rattle.hv_world.specs.Names.{place_in};
 ghost use Rattle.hv_world.specs.Known.{variables};
 ghost use Rattle.hv_world.specs.Faults.{least};
 ghost use Rattle.hv_world.specs.StaticRules.{type_faults, typed_faults, variable_faults};
-ghost use Rattle.hv_world.specs.Tables.{known_by, places_by};
+ghost use Rattle.hv_world.specs.inside.Tables.{known_by, places_by};
 
 use crate::fault::{Side, StaticFault, StaticKind, earlier, fault_if};
 use crate::names::{Names, repeated_parameter, repeated_variable};
@@ -24,7 +24,7 @@ pub(crate) fn type_fault<'s>(
     match of {
         TypeText::Object => None,
         TypeText::Named(word) => {
-            let is_known = tables.is_type(word.name);
+            let is_known = tables.is_type(word.name());
             fault_if(!is_known, StaticKind::UnknownType, side, word)
         }
     }
@@ -40,7 +40,7 @@ pub(crate) fn typed_fault<'s>(
 {
     let mut found = None;
     for typed in list {
-        let fault = type_fault(tables, side, typed.of);
+        let fault = type_fault(tables, side, typed.of());
         found = earlier(found, fault);
     }
     found

@@ -3,15 +3,14 @@
 ghost use Rattle.std.specs.Prelude.{◌≡◌, map, IfOk};
 ghost use Rattle.hv_syntax.specs.Values.{formulas_of as said_formulas_of};
 ghost use Rattle.hv_syntax.specs.Views.{typed_view, formula_view as said_formula};
-ghost use Rattle.hv_world.specs.Tables.{known_by, scope_view};
+ghost use Rattle.hv_world.specs.inside.Tables.{known_by, scope_view};
 ghost use Rattle.hv_world.specs.Scopes.{inside};
 ghost use Rattle.hv_world.specs.Known.{variables};
 ghost use Rattle.hv_world.specs.Values.{formulas_of};
-ghost use Rattle.hv_world.specs.Views.{type_number, formula_view};
+ghost use Rattle.hv_world.specs.Views.{formula_view};
 ghost use Rattle.hv_world.specs.Worlds.{types_of, formula_in, formulas_in};
 
 use crate::formula::Formula;
-use crate::id::TypeId;
 use crate::intern::terms::{atom_in, term_in, types_of};
 use crate::scope::Scope;
 use crate::tables::Tables;

@@ -6,7 +6,7 @@ ghost use Rattle.hv_syntax.specs.Views.{typed_view, formula_view as said_formula
 ghost use Rattle.hv_syntax.specs.DeclarationViews.{predicate_view as said_predicate, task_view as said_task, method_view as said_method, action_view as said_action};
 ghost use Rattle.hv_world.specs.Networks.{written_by, IsArrangeable};
 ghost use Rattle.hv_world.specs.Scopes.{parameters};
-ghost use Rattle.hv_world.specs.Tables.{known_by};
+ghost use Rattle.hv_world.specs.inside.Tables.{known_by};
 ghost use Rattle.hv_world.specs.Views.{atom_view, formula_view};
 ghost use Rattle.hv_world.specs.MethodViews.{method_view};
 ghost use Rattle.hv_world.specs.SectionViews.{task_view, action_view};
@@ -40,7 +40,7 @@ pub(crate) fn type_pairs<'s>(
 {
     let mut pairs = Vec::new(alloc);
     for typed in list {
-        let number = TypeId(tables.type_number(typed.name.name));
+        let number = TypeId(tables.type_number(typed.name().name()));
         pairs.push((number, type_of(tables, *typed)))?;
     }
     Ok(pairs)
@@ -55,7 +55,7 @@ pub(crate) fn add_object_pairs<'s>(
     ensures { OnOk result (map (λ p. (p.0.0, p.1.0)) pairs.new.items ≡ map (λ p. (p.0.0, p.1.0)) pairs.old.items ++ map (object_pair (known_by tables.now)) (map typed_view list.now)) }
 {
     for typed in list {
-        let number = ObjectId(tables.object_number(typed.name.name));
+        let number = ObjectId(tables.object_number(typed.name().name()));
         pairs.push((number, type_of(tables, *typed)))?;
     }
     Ok(())
@@ -70,7 +70,8 @@ pub(crate) fn predicate_names<'s>(
 {
     let mut names = Vec::new(alloc);
     for predicate in predicates {
-        names.push(predicate.name().name)?;
+        let word = predicate.name();
+        names.push(word.name())?;
     }
     Ok(names)
 }

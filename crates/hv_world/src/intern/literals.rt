@@ -2,7 +2,7 @@
 
 ghost use Rattle.std.specs.Prelude.{◌≡◌, map, IfOk};
 ghost use Rattle.hv_syntax.specs.Views.{literal_view as said_literal};
-ghost use Rattle.hv_world.specs.Tables.{known_by, scope_view};
+ghost use Rattle.hv_world.specs.inside.Tables.{known_by, scope_view};
 ghost use Rattle.hv_world.specs.Views.{atom_view};
 ghost use Rattle.hv_world.specs.Worlds.{added, deleted};
 
@@ -29,8 +29,8 @@ pub(crate) fn added<'s>(
 {
     let mut atoms = Vec::new(alloc);
     for literal in literals {
-        if literal.is_positive {
-            atoms.push(atom_in(alloc, tables, scope, &literal.atom)?)?;
+        if literal.is_positive() {
+            atoms.push(atom_in(alloc, tables, scope, literal.atom())?)?;
         }
     }
     Ok(atoms)
@@ -51,8 +51,8 @@ pub(crate) fn deleted<'s>(
 {
     let mut atoms = Vec::new(alloc);
     for literal in literals {
-        if !literal.is_positive {
-            atoms.push(atom_in(alloc, tables, scope, &literal.atom)?)?;
+        if !literal.is_positive() {
+            atoms.push(atom_in(alloc, tables, scope, literal.atom())?)?;
         }
     }
     Ok(atoms)

@@ -3,7 +3,7 @@
 ghost use Rattle.std.specs.Prelude.{◌≡◌, map, IfOk};
 ghost use Rattle.hv_syntax.specs.Views.{atom_view as said_atom, word_view};
 ghost use Rattle.hv_syntax.specs.NetworkViews.{subtask_view as said_subtask, constraint_view as said_constraint};
-ghost use Rattle.hv_world.specs.Tables.{known_by, scope_view};
+ghost use Rattle.hv_world.specs.inside.Tables.{known_by, scope_view};
 ghost use Rattle.hv_world.specs.Views.{name_view, subtask_view, constraint_view};
 ghost use Rattle.hv_world.specs.Worlds.{task_of, task_in, subtasks_in, constraint_in, constraints_in};
 
@@ -20,7 +20,7 @@ use std::alloc::Global;
 fn task_named<'s>(tables: &Tables<'s>, symbol: Placed<'s>) -> TaskName
     ensures { name_view result ≡ task_of ((known_by tables.now).task (word_view symbol.entry).text) }
 {
-    match tables.task(symbol.name) {
+    match tables.task(symbol.name()) {
         Some(declared) => declared.what,
         None => TaskName::Compound(TaskId(0)),
     }
@@ -35,8 +35,8 @@ pub(crate) fn task_in<'s>(
 ) -> Result<Subtask, Memory>
     ensures { IfOk result (λ x. subtask_view x ≡ task_in (known_by tables.now) (scope_view scope.now) (said_atom task.now)) }
 {
-    let name = task_named(tables, task.symbol);
-    let terms = terms_in(alloc, tables, scope, &task.terms)?;
+    let name = task_named(tables, task.symbol());
+    let terms = terms_in(alloc, tables, scope, task.terms())?;
     Ok(Subtask { name, terms })
 }
 
@@ -51,7 +51,7 @@ pub(crate) fn subtasks_in<'s>(
 {
     let mut numbered = Vec::new(alloc);
     for subtask in subtasks {
-        numbered.push(task_in(alloc, tables, scope, &subtask.task)?)?;
+        numbered.push(task_in(alloc, tables, scope, subtask.task())?)?;
     }
     Ok(numbered)
 }
@@ -64,10 +64,10 @@ fn constraint_in<'s>(
 ) -> Result<Constraint, Memory>
     ensures { IfOk result (λ c. constraint_view c ≡ constraint_in (known_by tables.now) (scope_view scope.now) (said_constraint constraint.entry)) }
 {
-    let left = term_in(tables, scope, constraint.left)?;
-    let right = term_in(tables, scope, constraint.right)?;
+    let left = term_in(tables, scope, constraint.left())?;
+    let right = term_in(tables, scope, constraint.right())?;
     Ok(Constraint {
-        is_equal: constraint.is_equal,
+        is_equal: constraint.is_equal(),
         left,
         right,
     })

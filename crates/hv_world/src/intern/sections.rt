@@ -1,13 +1,11 @@
 //! Tasks, methods, actions and the initial network over numbers.
 
-ghost use Rattle.std.specs.Prelude.{◌≡◌, map, length, IfOk};
-ghost use Rattle.hv_syntax.specs.Views.{typed_view};
+ghost use Rattle.std.specs.Prelude.{◌≡◌, IfOk};
 ghost use Rattle.hv_syntax.specs.NetworkViews.{network_view as said_network};
 ghost use Rattle.hv_syntax.specs.DeclarationViews.{task_view as said_task, method_view as said_method, action_view as said_action};
 ghost use Rattle.hv_syntax.specs.ProblemViews.{htn_view as said_htn};
-ghost use Rattle.hv_world.specs.Known.{variables};
 ghost use Rattle.hv_world.specs.Networks.{written_by, IsArrangeable};
-ghost use Rattle.hv_world.specs.Tables.{known_by, scope_view};
+ghost use Rattle.hv_world.specs.inside.Tables.{known_by, scope_view};
 ghost use Rattle.hv_world.specs.Values.{and, no_formulas};
 ghost use Rattle.hv_world.specs.Views.{formula_view};
 ghost use Rattle.hv_world.specs.NetworkViews.{network_view};
@@ -74,6 +72,7 @@ pub(crate) fn method_in<'s>(
     requires { IsArrangeable (written_by (said_method method.now).network) }
     ensures { IfOk result (λ m. method_view m ≡ method_in (known_by tables.now) (said_method method.now)) }
 {
+    let word = method.name();
     let list = method.parameters();
     let names = Names::of_variables(alloc, list)?;
     let scope = Scope::Parameters(&names, list.len());
@@ -83,7 +82,7 @@ pub(crate) fn method_in<'s>(
     let network = network_in(alloc, tables, &scope, method.network())?;
     Method::new(
         alloc,
-        Some(method.name().name),
+        Some(word.name()),
         parameters,
         Some(task),
         precondition,
@@ -132,9 +131,10 @@ pub(crate) fn task_by<'s>(
 ) -> Result<Task<'s>, Memory>
     ensures { IfOk result (λ t. task_view t ≡ task_by (known_by tables.now) (said_task task.now)) }
 {
+    let word = task.name();
     let parameters = types_of(alloc, tables, task.parameters())?;
     Ok(Task {
-        name: task.name().name,
+        name: word.name(),
         parameters,
     })
 }
@@ -151,16 +151,17 @@ pub(crate) fn action_in<'s>(
 ) -> Result<Action<'s>, Memory>
     ensures { IfOk result (λ a. action_view a ≡ action_in (known_by tables.now) (said_action action.now)) }
 {
+    let word = action.name();
     let list = action.parameters();
     let names = Names::of_variables(alloc, list)?;
     let scope = Scope::Parameters(&names, list.len());
-    let literals = &action.effect().literals;
+    let literals = action.effect().literals();
     let parameters = types_of(alloc, tables, list)?;
     let precondition = formula_in(alloc, tables, &scope, action.precondition())?;
     let deletes = deleted(alloc, tables, &scope, literals)?;
     let adds = added(alloc, tables, &scope, literals)?;
     Ok(Action {
-        name: action.name().name,
+        name: word.name(),
         parameters,
         precondition,
         deletes,

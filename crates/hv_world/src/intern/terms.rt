@@ -2,7 +2,7 @@
 
 ghost use Rattle.std.specs.Prelude.{◌≡◌, map, codes, IfOk};
 ghost use Rattle.hv_syntax.specs.Views.{typed_view, term_view as said_term, atom_view as said_atom, word_view};
-ghost use Rattle.hv_world.specs.Tables.{known_by, scope_view};
+ghost use Rattle.hv_world.specs.inside.Tables.{known_by, scope_view};
 ghost use Rattle.hv_world.specs.Names.{number_in};
 ghost use Rattle.hv_world.specs.Views.{type_number, term_view, atom_view};
 ghost use Rattle.hv_world.specs.Worlds.{type_of, types_of, term_in, terms_in, atom_in, number_of};
@@ -29,9 +29,9 @@ fn object_type(tables: &Tables<'_>) -> usize
 pub(crate) fn type_of<'s>(tables: &Tables<'s>, typed: TypedText<'s>) -> TypeId
     ensures { type_number result ≡ type_of (known_by tables.now) (typed_view typed.entry) }
 {
-    match typed.of {
+    match typed.of() {
         TypeText::Object => TypeId(object_type(tables)),
-        TypeText::Named(word) => TypeId(tables.type_number(word.name)),
+        TypeText::Named(word) => TypeId(tables.type_number(word.name())),
     }
 }
 
@@ -63,8 +63,8 @@ pub(crate) fn term_in<'s>(
     ensures { IfOk result (λ x. term_view x ≡ term_in (known_by tables.now) (scope_view scope.now) (said_term term.entry)) }
 {
     match term {
-        TermText::Constant(word) => Ok(Term::Object(ObjectId(tables.object_number(word.name)))),
-        TermText::Variable(word) => Ok(Term::Variable(scope.variable(word.name)?)),
+        TermText::Constant(word) => Ok(Term::Object(ObjectId(tables.object_number(word.name())))),
+        TermText::Variable(word) => Ok(Term::Variable(scope.variable(word.name())?)),
     }
 }
 
@@ -88,7 +88,7 @@ pub(crate) fn terms_in<'s>(
 fn predicate_of<'s>(tables: &Tables<'s>, symbol: Placed<'s>) -> PredicateId
     ensures { result.0 ≡ number_of ((known_by tables.now).predicate (word_view symbol.entry).text) }
 {
-    match tables.predicate(symbol.name) {
+    match tables.predicate(symbol.name()) {
         Some(signature) => signature.predicate,
         None => PredicateId(0),
     }
@@ -103,7 +103,7 @@ pub(crate) fn atom_in<'s>(
 ) -> Result<Atom, Memory>
     ensures { IfOk result (λ a. atom_view a ≡ atom_in (known_by tables.now) (scope_view scope.now) (said_atom atom.now)) }
 {
-    let predicate = predicate_of(tables, atom.symbol);
-    let terms = terms_in(alloc, tables, scope, &atom.terms)?;
+    let predicate = predicate_of(tables, atom.symbol());
+    let terms = terms_in(alloc, tables, scope, atom.terms())?;
     Ok(Atom { predicate, terms })
 }

@@ -1,7 +1,7 @@
 //! The earlier ones of each subtask.
 
 ghost use Rattle.std.specs.Prelude.{◌≡◌, ℕ, ◌<◌, All, IfOk, length, []};
-ghost use Rattle.hv_world.specs.OrderWalks.{AreEarlier, lists_of, list_at};
+ghost use Rattle.hv_world.specs.inside.OrderWalks.{AreEarlier, lists_of, list_at};
 
 use std::alloc::{AllocError, Global};
 

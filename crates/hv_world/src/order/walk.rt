@@ -1,9 +1,9 @@
 //! A walk along the pairs, from each subtask to those before it.
 
-ghost use Rattle.std.specs.Prelude.{◌≡◌, ℕ, true, false, [], ◌<◌, ◌+◌, All, IfOk, MatchOption, MatchBool, length, slice_index};
+ghost use Rattle.std.specs.Prelude.{◌≡◌, ℕ, true, false, [], ◌<◌, IfOk, MatchOption, length, slice_index};
 ghost use Rattle.hv_world.specs.declared.order.walk.Mark.TheVariants as marks;
 ghost use Rattle.hv_world.specs.Orders.{Leads, HasCycle, IsRow};
-ghost use Rattle.hv_world.specs.OrderWalks.{IsListed, IsWalkOf, lists_of, list_at, steps_left, mark_at, EndsWith, StaySeen};
+ghost use Rattle.hv_world.specs.inside.OrderWalks.{IsListed, IsWalkOf, lists_of, list_at, steps_left, mark_at, EndsWith, StaySeen};
 
 use std::alloc::{AllocError, Global};
 

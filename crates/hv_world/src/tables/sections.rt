@@ -4,7 +4,7 @@ ghost use Rattle.std.specs.Prelude.{◌≡◌, ◌≤◌, [], ◌∷◌, ◌+◌
 ghost use Rattle.hv_syntax.specs.DeclarationViews.{task_view, action_view};
 ghost use Rattle.hv_syntax.specs.DomainViews.{domain_view};
 ghost use Rattle.hv_world.specs.Known.{task_declarations, action_declarations, those_before, by_place, declarations};
-ghost use Rattle.hv_world.specs.Tables.{declaration_view};
+ghost use Rattle.hv_world.specs.inside.Tables.{declaration_view};
 
 use crate::id::{ActionId, TaskId, TaskName};
 use crate::tables::Declared;

@@ -2,11 +2,13 @@
 
 ghost use Rattle.std.specs.Prelude.{◌≡◌, ◌∷◌, ◌++◌, map, codes, IfOk, OnOk};
 ghost use Rattle.std.specs.List.{flat_map};
+ghost use Rattle.indexmap.specs.IndexSet.{hasher_of};
 ghost use Rattle.hv_text.specs.Names.{text_of};
 ghost use Rattle.hv_syntax.specs.Values.{type_name};
 ghost use Rattle.hv_syntax.specs.Views.{type_view, typed_view};
 ghost use Rattle.hv_world.specs.Names.{with_names, by_sight};
 ghost use Rattle.hv_world.specs.Known.{both_types, variables};
+ghost use Rattle.hv_world.specs.inside.Seeds.{start_of, with_taken_in, written_names};
 
 use crate::seed::Seeded;
 use hv_syntax::{TypeText, TypedText};
@@ -30,7 +32,7 @@ fn type_name<'s>(of: TypeText<'s>) -> Name<'s>
 {
     match of {
         TypeText::Object => object(),
-        TypeText::Named(word) => word.name,
+        TypeText::Named(word) => word.name(),
     }
 }
 
@@ -39,11 +41,13 @@ fn add_types<'s>(
     names: &mut IndexSet<Name<'s>, Seeded>,
     list: &[TypedText<'s>],
 ) -> Result<(), Memory>
-    ensures { OnOk result (map text_of names.new.keys ≡ with_names (map text_of names.old.keys) (flat_map both_types (map typed_view list.now))) }
+    ensures seed { hasher_of names.new ≡ hasher_of names.old }
+    ensures keys { OnOk result (map text_of names.new.keys ≡ with_names (map text_of names.old.keys) (flat_map both_types (map typed_view list.now))) }
 {
     for typed in list {
-        names.insert(typed.name.name)?;
-        names.insert(type_name(typed.of))?;
+        let word = typed.name();
+        names.insert(word.name())?;
+        names.insert(type_name(typed.of()))?;
     }
     Ok(())
 }
@@ -53,10 +57,12 @@ fn add_names<'s>(
     names: &mut IndexSet<Name<'s>, Seeded>,
     list: &[TypedText<'s>],
 ) -> Result<(), Memory>
-    ensures { OnOk result (map text_of names.new.keys ≡ with_names (map text_of names.old.keys) (variables (map typed_view list.now))) }
+    ensures seed { hasher_of names.new ≡ hasher_of names.old }
+    ensures keys { OnOk result (map text_of names.new.keys ≡ with_names (map text_of names.old.keys) (variables (map typed_view list.now))) }
 {
     for typed in list {
-        names.insert(typed.name.name)?;
+        let word = typed.name();
+        names.insert(word.name())?;
     }
     Ok(())
 }
@@ -66,7 +72,8 @@ pub(crate) fn type_names<'s>(
     alloc: Global,
     list: &[TypedText<'s>],
 ) -> Result<IndexSet<Name<'s>, Seeded>, Memory>
-    ensures { IfOk result (λ t. map text_of t.keys ≡ by_sight (codes "object" ∷ flat_map both_types (map typed_view list.now))) }
+    ensures seed { IfOk result (λ t. (hasher_of t).start ≡ start_of (flat_map written_names (map typed_view list.now))) }
+    ensures keys { IfOk result (λ t. map text_of t.keys ≡ by_sight (codes "object" ∷ flat_map both_types (map typed_view list.now))) }
 {
     let mut names = IndexSet::with_hasher(alloc, Seeded::new().with_typed(list));
     names.insert(object())?;
@@ -80,7 +87,8 @@ pub(crate) fn object_names<'s>(
     constants: &[TypedText<'s>],
     objects: &[TypedText<'s>],
 ) -> Result<IndexSet<Name<'s>, Seeded>, Memory>
-    ensures { IfOk result (λ t. map text_of t.keys ≡ by_sight (variables (map typed_view constants.now ++ map typed_view objects.now))) }
+    ensures seed { IfOk result (λ t. (hasher_of t).start ≡ with_taken_in (start_of (flat_map written_names (map typed_view constants.now))) (flat_map written_names (map typed_view objects.now))) }
+    ensures keys { IfOk result (λ t. map text_of t.keys ≡ by_sight (variables (map typed_view constants.now ++ map typed_view objects.now))) }
 {
     let seed = Seeded::new().with_typed(constants).with_typed(objects);
     let mut names = IndexSet::with_hasher(alloc, seed);

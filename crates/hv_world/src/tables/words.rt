@@ -5,7 +5,7 @@ ghost use Rattle.hv_syntax.specs.Views.{word_view};
 ghost use Rattle.hv_syntax.specs.DeclarationViews.{predicate_view, method_view};
 ghost use Rattle.hv_world.specs.Known.{predicate_words, declared_words};
 ghost use Rattle.hv_world.specs.StaticRules.{method_words};
-ghost use Rattle.hv_world.specs.Tables.{declaration_view};
+ghost use Rattle.hv_world.specs.inside.Tables.{declaration_view};
 
 use crate::tables::Declared;
 use hv_syntax::{MethodText, Placed, PredicateText};

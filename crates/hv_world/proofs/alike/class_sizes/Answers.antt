@@ -1,7 +1,7 @@
 use Rattle.std.proofs.Common.{◌≡◌, [], ◌∷◌, ◌++◌, map, take, IfOk, sym, ap, ◌∙◌, subst, length, ◌<◌, arith, rules}
 use Rattle.std.proofs.lemmas.List.{map-append}
 use Rattle.hv_world.specs.Alike.{key, classes}
-use Rattle.hv_world.specs.Alike.Kept.{counted, counts_in}
+use Rattle.hv_world.specs.inside.Kept.{counted, counts_in}
 use Rattle.hv_world.specs.Views.{subtask_view}
 use Rattle.hv_world.proofs.AlikeLemmas.{take_more, take_whole, seen_there, classes_more, room_left, taken_within}
 use Rattle.hv_world.proofs.alike.class_sizes.Goals as goal

@@ -1,6 +1,6 @@
 use Rattle.std.proofs.Common.{◌≡◌, map, take}
 use Rattle.hv_world.specs.Alike.{key, classes}
-use Rattle.hv_world.specs.Alike.Kept.{counts_in}
+use Rattle.hv_world.specs.inside.Kept.{counts_in}
 use Rattle.hv_world.specs.Views.{subtask_view}
 use Rattle.hv_world.proofs.alike.class_sizes.Given as goal
 

@@ -1,5 +1,5 @@
 use Rattle.std.proofs.Common.{◌<◌, ◌+◌, map, unwrap_or, ap, ◌∙◌, sym, subst, arith, rules}
-use Rattle.hv_world.specs.Alike.Kept.{key_view}
+use Rattle.hv_world.specs.inside.Kept.{key_view}
 use Rattle.hv_world.proofs.AlikeLemmas.{inserted, small_there}
 use Rattle.hv_world.proofs.alike.count.Goals as goal
 

@@ -1,5 +1,5 @@
 use Rattle.std.proofs.Common.{map, take, ◌++◌, ◌∷◌, [], sym, subst, ap, ◌∙◌}
-use Rattle.hv_world.specs.Alike.Kept.{RowsSay}
+use Rattle.hv_world.specs.inside.Kept.{RowsSay}
 use Rattle.hv_world.specs.Views.{subtask_view}
 use Rattle.hv_world.proofs.AlikeLemmas.{take_more, take_whole}
 use Rattle.hv_world.proofs.alike.fixed_positions.Goals as goal

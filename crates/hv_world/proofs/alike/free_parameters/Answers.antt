@@ -1,7 +1,7 @@
 use Rattle.std.proofs.Common.{◌≡◌, ◌&&◌, not, true, IfOk, length, filter, map, replicate, ap, ◌∙◌, subst, rules}
 use Rattle.std.specs.List.{range_with_len}
 use Rattle.hv_world.specs.Alike.{has_variable, is_argument}
-use Rattle.hv_world.specs.Alike.Kept.{is_marked}
+use Rattle.hv_world.specs.inside.Kept.{is_marked}
 use Rattle.hv_world.specs.Views.{term_view, subtask_view}
 use Rattle.hv_world.proofs.AlikeLemmas.{free_left, over_whole}
 use Rattle.hv_world.proofs.alike.free_parameters.Goals as goal

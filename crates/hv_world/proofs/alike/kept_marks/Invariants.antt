@@ -1,5 +1,5 @@
 use Rattle.std.proofs.Common.{◌≡◌, ◌++◌, map, drop}
-use Rattle.hv_world.specs.Alike.Kept.{kept_marks}
+use Rattle.hv_world.specs.inside.Kept.{kept_marks}
 use Rattle.hv_world.specs.Views.{term_view}
 use Rattle.hv_world.proofs.alike.kept_marks.Given as goal
 

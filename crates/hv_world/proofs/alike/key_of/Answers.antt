@@ -3,7 +3,7 @@ use Rattle.std.specs.Option.{option_copied}
 use Rattle.std.specs.HashMap.{get}
 use Rattle.hv_world.proofs.AlikeLemmas.{fixed_objects_same, fixed_has, none_at_end, lookup_same, name_test}
 use Rattle.hv_world.specs.Alike.{key_with, is_fixed, fixed_objects}
-use Rattle.hv_world.specs.Alike.Kept.{RowSays, is_name, is_marked}
+use Rattle.hv_world.specs.inside.Kept.{RowSays, is_name, is_marked}
 use Rattle.hv_world.specs.Views.{name_view, term_view, subtask_view}
 use Rattle.hv_world.proofs.alike.key_of.Goals as goal
 use Rattle.hv_world.proofs.alike.key_of.Goals.{in-Some+in_ok-objects-in-Some, in-None}

@@ -1,5 +1,5 @@
 use Rattle.std.proofs.Common.{◌++◌, [], ◌∷◌, sym, ap, ◌∙◌}
-use Rattle.hv_world.specs.Alike.Kept.{is_marked}
+use Rattle.hv_world.specs.inside.Kept.{is_marked}
 use Rattle.hv_world.proofs.AlikeLemmas.{one_kept, none_kept}
 use Rattle.hv_world.proofs.alike.marked_numbers.Goals as goal
 use Rattle.hv_world.proofs.alike.marked_numbers.Goals.{then-mark+in_ok-push, else-mark}

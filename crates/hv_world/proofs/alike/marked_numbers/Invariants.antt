@@ -1,6 +1,6 @@
 use Rattle.std.proofs.Common.{◌≡◌, filter}
 use Rattle.std.specs.List.{range_with_len}
-use Rattle.hv_world.specs.Alike.Kept.{is_marked}
+use Rattle.hv_world.specs.inside.Kept.{is_marked}
 use Rattle.hv_world.proofs.alike.marked_numbers.Given as goal
 
 abbrev pub invariant-loop-number : goal.invariant-loop-number

@@ -1,6 +1,6 @@
 use Rattle.std.proofs.Common.{◌≡◌, ◌++◌, map, drop}
 use Rattle.hv_world.specs.Alike.{fixed_objects}
-use Rattle.hv_world.specs.Alike.Kept.{is_marked}
+use Rattle.hv_world.specs.inside.Kept.{is_marked}
 use Rattle.hv_world.specs.Views.{term_view}
 use Rattle.hv_world.proofs.alike.marked_objects.Given as goal
 

@@ -1,5 +1,5 @@
 use Rattle.std.proofs.Common.{◌∙◌}
-use Rattle.hv_world.specs.Alike.Kept.{is_marked}
+use Rattle.hv_world.specs.inside.Kept.{is_marked}
 use Rattle.hv_world.proofs.AlikeLemmas.{unmark_more}
 use Rattle.hv_world.proofs.alike.unmark.Goals as goal
 

@@ -1,6 +1,6 @@
 use Rattle.std.proofs.Common.{◌≡◌, ℕ, ◌&&◌, not, map, take, length}
 use Rattle.hv_world.specs.Alike.{has_variable}
-use Rattle.hv_world.specs.Alike.Kept.{is_marked}
+use Rattle.hv_world.specs.inside.Kept.{is_marked}
 use Rattle.hv_world.specs.Views.{term_view}
 use Rattle.hv_world.proofs.alike.unmark.Given as goal
 

@@ -1,6 +1,6 @@
 use Rattle.std.proofs.Common.{◌++◌, ◌&&◌, not, map, take, ◌∷◌, [], sym, ap, ◌∙◌}
 use Rattle.hv_world.specs.Alike.{is_argument, has_variable}
-use Rattle.hv_world.specs.Alike.Kept.{is_marked}
+use Rattle.hv_world.specs.inside.Kept.{is_marked}
 use Rattle.hv_world.specs.Views.{term_view, subtask_view}
 use Rattle.hv_world.proofs.AlikeLemmas.{take_more, argument_more, off_twice}
 use Rattle.hv_world.proofs.alike.unmark_arguments.Goals as goal

@@ -1,6 +1,6 @@
 use Rattle.std.proofs.Common.{◌≡◌, ℕ, ◌&&◌, not, map, take, length}
 use Rattle.hv_world.specs.Alike.{is_argument}
-use Rattle.hv_world.specs.Alike.Kept.{is_marked}
+use Rattle.hv_world.specs.inside.Kept.{is_marked}
 use Rattle.hv_world.specs.Views.{subtask_view}
 use Rattle.hv_world.proofs.alike.unmark_arguments.Given as goal
 

@@ -2,8 +2,8 @@ use Rattle.std.proofs.Common.{refl, sym, subst}
 use Rattle.hv_syntax.specs.DomainViews.{domain_view}
 use Rattle.hv_syntax.specs.ProblemViews.{problem_view}
 use Rattle.hv_world.specs.declared.build.Parts.{Parts}
-use Rattle.hv_world.specs.Parts.{world_of_parts}
-use Rattle.hv_world.specs.Tables.{known_by}
+use Rattle.hv_world.specs.inside.Parts.{world_of_parts}
+use Rattle.hv_world.specs.inside.Tables.{known_by}
 use Rattle.hv_world.specs.Types.{IsInRange}
 use Rattle.hv_world.specs.Worlds.{typing_by, world_by}
 use Rattle.hv_world.proofs.BuildLemmas.{world_is}

@@ -2,7 +2,7 @@ use Rattle.std.proofs.Common.{◌++◌, map, ap, sym, ◌∙◌}
 use Rattle.std.proofs.lemmas.List.{length-map}
 use Rattle.hv_text.specs.Names.{text_of}
 use Rattle.hv_syntax.specs.Views.{typed_view}
-use Rattle.hv_world.specs.Tables.{known_by}
+use Rattle.hv_world.specs.inside.Tables.{known_by}
 use Rattle.hv_world.specs.Worlds.{type_pair, object_pair}
 use Rattle.hv_world.proofs.BuildLemmas.{pairs_below, both_added}
 use Rattle.hv_world.proofs.InternLemmas.{of_both}

@@ -5,7 +5,7 @@ use Rattle.hv_syntax.specs.DomainViews.{domain_view}
 use Rattle.hv_syntax.specs.ProblemViews.{problem_view}
 use Rattle.hv_world.specs.Faults.{least}
 use Rattle.hv_world.specs.StaticRules.{problem_faults_by, IsStatic, first_fault}
-use Rattle.hv_world.specs.Tables.{known_by}
+use Rattle.hv_world.specs.inside.Tables.{known_by}
 use Rattle.hv_world.proofs.FirstFaults.{first_in_domain, first_in_problem, said}
 use Rattle.hv_world.proofs.check.first_fault.Goals as goal
 

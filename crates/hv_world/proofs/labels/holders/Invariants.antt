@@ -1,6 +1,6 @@
 use Rattle.std.proofs.Common.{◌≡◌, ◌++◌, drop, map}
 use Rattle.hv_syntax.specs.NetworkViews.{subtask_view}
-use Rattle.hv_world.specs.LabelViews.{holders}
+use Rattle.hv_world.specs.inside.LabelViews.{holders}
 use Rattle.hv_world.proofs.labels.holders.Given as goal
 
 abbrev pub invariant-loop-number : goal.invariant-loop-number

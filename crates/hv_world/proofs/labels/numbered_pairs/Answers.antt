@@ -1,4 +1,4 @@
-use Rattle.std.proofs.Common.{map, arith}
+use Rattle.std.proofs.Common.{map, ap, ◌∙◌, arith}
 use Rattle.hv_syntax.specs.NetworkViews.{subtask_view, pair_view}
 use Rattle.hv_world.specs.Networks.{numbered_pair}
 use Rattle.hv_world.proofs.InternLemmas.{map_more}
@@ -8,6 +8,7 @@ use Rattle.hv_world.proofs.labels.numbered_pairs.Goals as goal
 pub loop-pair-preserved : goal.loop-pair-preserved
 loop-pair-preserved c =
     let l = c.loop-pair in
-    let numbered = pair_numbered _ (map subtask_view c.subtasks.result.now) (map subtask_view c.args.network.now.subtasks.items) (pair_view c.pair-item.result) _ _ c.in_ok-labels.ensures c.subtasks.ensures c.number-earlier.ensures c.number-later.ensures in
+    let numbered = pair_numbered _ (map subtask_view c.subtasks.result.now) (map subtask_view c.args.network.now.subtasks.items) (pair_view c.pair-item.result) _ _ _ _ c.in_ok-labels.ensures c.subtasks.ensures
+    (c.name-before.ensures ∙ ap (λ w. w.text) c.earlier.ensures) (c.name-after.ensures ∙ ap (λ w. w.text) c.later.ensures) c.number-earlier.ensures c.number-later.ensures in
     rw c.in_ok-push.ensures.items
     (map_more (numbered_pair (map subtask_view c.args.network.now.subtasks.items)) pair_view c.pairs-pair-items.result.now l.pair-index c.pair-item.result l.pairs.items _ _ (omega arith) c.pair-item.is numbered l.invariant)

@@ -1,5 +1,5 @@
 use Rattle.std.proofs.Common.{◌≡◌, ◌++◌, drop, map}
-use Rattle.hv_syntax.specs.NetworkViews.{network_view, subtask_view, pair_view}
+use Rattle.hv_syntax.specs.NetworkViews.{network_view, pair_view}
 use Rattle.hv_world.specs.Networks.{numbered_pair}
 use Rattle.hv_world.proofs.labels.numbered_pairs.Given as goal
 

@@ -8,4 +8,4 @@ use Rattle.hv_world.proofs.names.place_among.Given as goal
 
 abbrev pub invariant-loop-place : goal.invariant-loop-place
 invariant-loop-place l =
-    position_from (bytes_eq (text_of l.name)) l.place (map (λ t. text_of t.name.name) (drop l.place l.list)) ≡ place_in (variables (map typed_view l.list)) (text_of l.name)
+    position_from (bytes_eq (text_of l.name)) l.place (map (λ t. (typed_view t).name.text) (drop l.place l.list)) ≡ place_in (variables (map typed_view l.list)) (text_of l.name)

@@ -1,6 +1,6 @@
 use Rattle.std.proofs.Common.{◌<◌, ℕ, length, refl, sym, subst}
 use Rattle.hv_world.specs.Orders.{Leads, IsRow, HasCycle}
-use Rattle.hv_world.specs.OrderWalks.{AreEarlier, IsListed, lists_of}
+use Rattle.hv_world.specs.inside.OrderWalks.{AreEarlier, IsListed, lists_of}
 use Rattle.hv_world.proofs.OrderMeanings.{listed_is_paired, listed_known, listed_cyclic, row_by_pairs, pairs_acyclic}
 use Rattle.hv_world.proofs.order.by_pairs.Goals as goal
 

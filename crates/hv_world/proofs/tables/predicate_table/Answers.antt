@@ -5,4 +5,4 @@ use Rattle.hv_world.proofs.tables.predicate_table.Goals as goal
 
 pub returns-clause-places : goal.returns-clause-places
 returns-clause-places c =
-    c.in_ok-places.ensures ∙ ap (λ ws. place_in (names ws)) (ap (map word_view) c.deref.ensures.value ∙ c.in_ok-words.ensures)
+    c.in_ok-places.ensures.places ∙ ap (λ ws. place_in (names ws)) (ap (map word_view) c.deref.ensures.value ∙ c.in_ok-words.ensures)

@@ -1,6 +1,6 @@
 use Rattle.std.proofs.Common.{◌≡◌, []}
 use Rattle.hv_world.specs.Types.{typing}
-use Rattle.hv_world.specs.TypeLists.{object_lists, AreMembersBelow}
+use Rattle.hv_world.specs.inside.TypeLists.{object_lists, AreMembersBelow}
 use Rattle.hv_world.proofs.types.members.Given as goal
 
 -- the objects so far stand in their lists

@@ -1,6 +1,6 @@
 use Rattle.std.proofs.Common.{◌≡◌, ◌<◌, ◌++◌, ◌∷◌, [], arith, length, get_or, ap, ◌∙◌, refl, map, subst}
 use Rattle.std.proofs.lemmas.List.{length-set, take_all}
-use Rattle.hv_world.specs.TypeLists.{type_lists, AreSeconds}
+use Rattle.hv_world.specs.inside.TypeLists.{type_lists, AreSeconds}
 use Rattle.hv_world.proofs.TypeLemmas.{group_none, all_empty, grouped_more}
 use Rattle.hv_world.proofs.types.parents_by_type.Goals as goal
 

@@ -1,7 +1,7 @@
 use Rattle.std.proofs.Common.{◌≡◌, ◌<◌, arith, length, ap, sym, ◌∙◌, rules}
 use Rattle.std.proofs.lemmas.List.{length-map}
 use Rattle.hv_world.specs.Types.{object_numbers}
-use Rattle.hv_world.specs.TypeLists.{type_numbers, type_lists, object_lists, list_of}
+use Rattle.hv_world.specs.inside.TypeLists.{type_numbers, type_lists, object_lists, list_of}
 use Rattle.hv_world.proofs.TypeLemmas.{climbing_begins, all_climbed, in_members, ascends_at, goes_on, passes, less_to_climb, as_much_to_climb, at_map}
 use Rattle.hv_world.proofs.types.put_above.Goals as goal
 

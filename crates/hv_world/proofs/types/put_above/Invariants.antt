@@ -1,5 +1,5 @@
 use Rattle.std.proofs.Common.{◌+◌, vec_len}
-use Rattle.hv_world.specs.TypeLists.{type_numbers, type_lists, object_lists}
+use Rattle.hv_world.specs.inside.TypeLists.{type_numbers, type_lists, object_lists}
 use Rattle.hv_world.proofs.TypeLemmas.{IsClimbing, left}
 use Rattle.hv_world.proofs.types.put_above.Given as goal
 

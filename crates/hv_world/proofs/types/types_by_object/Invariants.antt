@@ -1,5 +1,5 @@
 use Rattle.std.proofs.Common.{◌≡◌, length, map, take}
-use Rattle.hv_world.specs.TypeLists.{type_lists, AreSeconds}
+use Rattle.hv_world.specs.inside.TypeLists.{type_lists, AreSeconds}
 use Rattle.hv_world.proofs.types.types_by_object.Given as goal
 
 -- the lists have the pairs so far

@@ -3,7 +3,7 @@ use Rattle.hv_syntax.specs.Views.{typed_view, formula_view}
 use Rattle.hv_world.specs.Known.{variables}
 use Rattle.hv_world.specs.Scopes.{inside}
 use Rattle.hv_world.specs.StaticRules.{variable_faults, formula_faults}
-use Rattle.hv_world.specs.Tables.{known_by, scope_view}
+use Rattle.hv_world.specs.inside.Tables.{known_by, scope_view}
 use Rattle.hv_world.proofs.FaultLemmas.{least-both}
 use Rattle.hv_world.proofs.CheckLemmas.{formulas_next, imply_fault}
 use Rattle.hv_world.proofs.check.formulas.+check.Goals as goal

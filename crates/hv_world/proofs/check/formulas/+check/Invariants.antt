@@ -3,7 +3,7 @@ use Rattle.hv_syntax.specs.Values.{formulas_of}
 use Rattle.hv_syntax.specs.Views.{formula_view}
 use Rattle.hv_world.specs.Faults.{earlier, least}
 use Rattle.hv_world.specs.StaticRules.{all_formula_faults}
-use Rattle.hv_world.specs.Tables.{known_by, scope_view}
+use Rattle.hv_world.specs.inside.Tables.{known_by, scope_view}
 use Rattle.hv_world.proofs.check.formulas.+check.Given as goal
 
 -- the first so far, or else the first among the other formulas

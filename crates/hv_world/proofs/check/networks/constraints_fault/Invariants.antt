@@ -2,7 +2,7 @@ use Rattle.std.proofs.Common.{◌≡◌, drop, map}
 use Rattle.hv_syntax.specs.NetworkViews.{constraint_view}
 use Rattle.hv_world.specs.Faults.{earlier, least}
 use Rattle.hv_world.specs.StaticRules.{constraints_faults}
-use Rattle.hv_world.specs.Tables.{known_by, scope_view}
+use Rattle.hv_world.specs.inside.Tables.{known_by, scope_view}
 use Rattle.hv_world.proofs.check.networks.constraints_fault.Given as goal
 
 abbrev pub invariant-loop-constraint : goal.invariant-loop-constraint

@@ -7,7 +7,7 @@ use Rattle.hv_world.specs.Names.{names, place_in, repeated}
 use Rattle.hv_world.specs.Networks.{labels}
 use Rattle.hv_world.specs.Faults.{faults_at, least}
 use Rattle.hv_world.specs.StaticRules.{pair_faults}
-use Rattle.hv_world.specs.Tables.{places_by}
+use Rattle.hv_world.specs.inside.Tables.{places_by}
 use Rattle.hv_world.proofs.FaultLemmas.{least-both}
 use Rattle.hv_world.proofs.check.networks.label_fault.Goals as goal
 
@@ -18,7 +18,7 @@ returns c k =
     let words = labels network.subtasks in
     let are : map word_view c.in_ok-words.words.items ≡ words = c.in_ok-words.ensures ∙ ap labels c.subtasks.ensures in
     let places : places_by c.in_ok-labels.labels ≡ place_in (names words) =
-    c.in_ok-labels.ensures ∙ ap (λ ws. place_in (names ws)) (ap (map word_view) c.deref.ensures.value ∙ are) in
+    c.in_ok-labels.ensures.places ∙ ap (λ ws. place_in (names ws)) (ap (map word_view) c.deref.ensures.value ∙ are) in
     c.earlier.ensures
     ∙ least-both (faults_at kinds.DuplicateLabel side (repeated words)) (flat_map (pair_faults k side (names words)) network.pairs) _ _
     (c.repeated_word-repeated.ensures ∙ ap (λ ws. least (faults_at kinds.DuplicateLabel side (repeated ws))) (ap (map word_view) c.deref-2.ensures.value ∙ are))

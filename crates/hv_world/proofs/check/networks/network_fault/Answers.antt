@@ -2,7 +2,7 @@ use Rattle.std.proofs.Common.{◌++◌, ap, ◌∙◌}
 use Rattle.hv_syntax.specs.NetworkViews.{network_view}
 use Rattle.hv_world.specs.Faults.{least}
 use Rattle.hv_world.specs.StaticRules.{subtasks_faults, constraints_faults, order_faults}
-use Rattle.hv_world.specs.Tables.{known_by, scope_view}
+use Rattle.hv_world.specs.inside.Tables.{known_by, scope_view}
 use Rattle.hv_world.proofs.FaultLemmas.{least-both}
 use Rattle.hv_world.proofs.check.networks.network_fault.Goals as goal
 

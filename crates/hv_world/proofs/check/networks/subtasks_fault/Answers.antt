@@ -1,7 +1,7 @@
 use Rattle.std.proofs.Common.{arith}
 use Rattle.hv_syntax.specs.NetworkViews.{subtask_view}
 use Rattle.hv_world.specs.StaticRules.{subtask_faults}
-use Rattle.hv_world.specs.Tables.{known_by, scope_view}
+use Rattle.hv_world.specs.inside.Tables.{known_by, scope_view}
 use Rattle.hv_world.proofs.FaultLemmas.{faults_next}
 use Rattle.hv_world.proofs.check.networks.subtasks_fault.Goals as goal
 

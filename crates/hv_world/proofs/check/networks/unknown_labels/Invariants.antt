@@ -5,7 +5,7 @@ use Rattle.hv_world.specs.Names.{place_in}
 use Rattle.hv_world.specs.Known.{Known}
 use Rattle.hv_world.specs.Faults.{earlier, least}
 use Rattle.hv_world.specs.StaticRules.{pair_faults}
-use Rattle.hv_world.specs.Tables.{places_by}
+use Rattle.hv_world.specs.inside.Tables.{places_by}
 use Rattle.hv_world.proofs.check.networks.unknown_labels.Given as goal
 
 abbrev pub invariant-loop-pair : goal.invariant-loop-pair

@@ -1,12 +1,11 @@
-use Rattle.std.proofs.Common.{◌++◌, map, ap, ◌∙◌}
-use Rattle.hv_syntax.specs.Views.{literal_view}
+use Rattle.std.proofs.Common.{◌++◌, ap, ◌∙◌}
 use Rattle.hv_syntax.specs.DeclarationViews.{action_view}
 use Rattle.hv_world.specs.declared.fault.Side.TheVariants as sides
 use Rattle.hv_world.specs.Known.{variables}
 use Rattle.hv_world.specs.Scopes.{parameters}
 use Rattle.hv_world.specs.Faults.{least}
 use Rattle.hv_world.specs.StaticRules.{variable_faults, formula_faults, literals_faults}
-use Rattle.hv_world.specs.Tables.{known_by}
+use Rattle.hv_world.specs.inside.Tables.{known_by}
 use Rattle.hv_world.proofs.FaultLemmas.{least-both}
 use Rattle.hv_world.proofs.CheckLemmas.{scope_is}
 use Rattle.hv_world.proofs.check.sections.action_fault.Goals as goal
@@ -17,10 +16,10 @@ returns c =
     let s = sides.Domain in
     let action = action_view c.args.action.now in
     let scope = parameters (variables action.parameters) in
-    let bound = scope_is c.parameters-list.result.now action.parameters c.in_ok-names.names c.parameters-list.ensures c.in_ok-names.ensures in
+    let bound = scope_is c.parameters-list.result.now action.parameters c.in_ok-names.names c.parameters-list.ensures c.in_ok-names.ensures.places in
     let precondition = formula_faults k s scope action.precondition in
     let literals = literals_faults k s scope action.effect.literals in
-    let effect = ap (map literal_view) c.deref.ensures.value ∙ ap (λ e. e.literals) c.effect-effect.ensures in
+    let effect = c.literals.ensures ∙ ap (λ e. e.literals) c.effect-effect.ensures in
     let own = variable_faults k s action.parameters in
     c.earlier.ensures
     ∙ least-both (own ++ precondition) literals _ _

@@ -4,7 +4,7 @@ use Rattle.hv_syntax.specs.DeclarationViews.{task_view}
 use Rattle.hv_world.specs.declared.fault.Side.TheVariants as sides
 use Rattle.hv_world.specs.Faults.{earlier, least}
 use Rattle.hv_world.specs.StaticRules.{variable_faults}
-use Rattle.hv_world.specs.Tables.{known_by}
+use Rattle.hv_world.specs.inside.Tables.{known_by}
 use Rattle.hv_world.proofs.check.sections.compounds_fault.Given as goal
 
 abbrev pub invariant-loop-task : goal.invariant-loop-task

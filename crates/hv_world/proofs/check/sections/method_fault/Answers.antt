@@ -5,7 +5,7 @@ use Rattle.hv_world.specs.Known.{variables}
 use Rattle.hv_world.specs.Scopes.{parameters}
 use Rattle.hv_world.specs.Faults.{least}
 use Rattle.hv_world.specs.StaticRules.{variable_faults, task_faults, formula_faults, network_faults}
-use Rattle.hv_world.specs.Tables.{known_by}
+use Rattle.hv_world.specs.inside.Tables.{known_by}
 use Rattle.hv_world.proofs.FaultLemmas.{least-both}
 use Rattle.hv_world.proofs.CheckLemmas.{scope_is}
 use Rattle.hv_world.proofs.check.sections.method_fault.Goals as goal
@@ -16,7 +16,7 @@ returns c =
     let s = sides.Domain in
     let method = method_view c.args.method.now in
     let scope = parameters (variables method.parameters) in
-    let bound = scope_is c.parameters-list.result.now method.parameters c.in_ok-names.names c.parameters-list.ensures c.in_ok-names.ensures in
+    let bound = scope_is c.parameters-list.result.now method.parameters c.in_ok-names.names c.parameters-list.ensures c.in_ok-names.ensures.places in
     let task = task_faults k s scope method.task in
     let precondition = formula_faults k s scope method.precondition in
     let network = network_faults k s scope method.place method.network in

@@ -2,7 +2,7 @@ use Rattle.std.proofs.Common.{arith}
 use Rattle.hv_syntax.specs.DeclarationViews.{method_view}
 use Rattle.hv_world.specs.declared.fault.Side.TheVariants as sides
 use Rattle.hv_world.specs.StaticRules.{method_faults}
-use Rattle.hv_world.specs.Tables.{known_by}
+use Rattle.hv_world.specs.inside.Tables.{known_by}
 use Rattle.hv_world.proofs.FaultLemmas.{faults_next}
 use Rattle.hv_world.proofs.check.sections.methods_fault.Goals as goal
 

@@ -2,7 +2,7 @@ use Rattle.std.proofs.Common.{◌≡◌, drop, map}
 use Rattle.hv_syntax.specs.Views.{term_view}
 use Rattle.hv_world.specs.Faults.{earlier, least}
 use Rattle.hv_world.specs.StaticRules.{terms_faults}
-use Rattle.hv_world.specs.Tables.{known_by, scope_view}
+use Rattle.hv_world.specs.inside.Tables.{known_by, scope_view}
 use Rattle.hv_world.proofs.check.terms.terms_fault.Given as goal
 
 abbrev pub invariant-loop-term : goal.invariant-loop-term

@@ -4,7 +4,7 @@ use Rattle.hv_syntax.specs.DomainViews.{domain_view}
 use Rattle.hv_world.specs.declared.fault.Side.TheVariants as sides
 use Rattle.hv_world.specs.Faults.{least}
 use Rattle.hv_world.specs.StaticRules.{duplicate_faults, typed_faults, variable_faults, method_faults, action_faults}
-use Rattle.hv_world.specs.Tables.{known_by}
+use Rattle.hv_world.specs.inside.Tables.{known_by}
 use Rattle.hv_world.proofs.FaultLemmas.{least-both}
 use Rattle.hv_world.proofs.check.texts.domain_fault.Goals as goal
 

@@ -4,7 +4,7 @@ use Rattle.hv_syntax.specs.DomainViews.{domain_view}
 use Rattle.hv_world.specs.Known.{predicate_words, declared_words, declarations}
 use Rattle.hv_world.specs.Faults.{least}
 use Rattle.hv_world.specs.StaticRules.{method_words}
-use Rattle.hv_world.specs.Tables.{declaration_view}
+use Rattle.hv_world.specs.inside.Tables.{declaration_view}
 use Rattle.hv_world.proofs.FaultLemmas.{least-both}
 use Rattle.hv_world.proofs.CheckLemmas.{twice}
 use Rattle.hv_world.proofs.check.texts.duplicate_fault.Goals as goal

@@ -4,7 +4,7 @@ use Rattle.hv_world.specs.declared.fault.Side.TheVariants as sides
 use Rattle.hv_world.specs.Scopes.{parameters}
 use Rattle.hv_world.specs.Faults.{least}
 use Rattle.hv_world.specs.StaticRules.{typed_faults, htn_faults, literals_faults, goal_faults}
-use Rattle.hv_world.specs.Tables.{known_by}
+use Rattle.hv_world.specs.inside.Tables.{known_by}
 use Rattle.hv_world.proofs.FaultLemmas.{least-both}
 use Rattle.hv_world.proofs.check.texts.problem_fault.Goals as goal
 use Rattle.std.proofs.Common.{[]}

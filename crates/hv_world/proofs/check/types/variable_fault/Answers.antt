@@ -5,7 +5,7 @@ use Rattle.hv_world.specs.Names.{repeated}
 use Rattle.hv_world.specs.Known.{typed_words}
 use Rattle.hv_world.specs.Faults.{faults_at}
 use Rattle.hv_world.specs.StaticRules.{typed_faults}
-use Rattle.hv_world.specs.Tables.{known_by}
+use Rattle.hv_world.specs.inside.Tables.{known_by}
 use Rattle.hv_world.proofs.FaultLemmas.{least-both}
 use Rattle.hv_world.proofs.check.types.variable_fault.Goals as goal
 

@@ -1,5 +1,5 @@
-use Rattle.std.proofs.Common.{◌≡◌, ◌<◌, length, map, ◌∙◌, ap, sym, arith}
-use Rattle.std.specs.Prelude.{Some, slice_index_or}
+use Rattle.std.proofs.Common.{◌<◌, length, map, ◌∙◌, ap, sym, arith}
+use Rattle.std.specs.Prelude.{Some}
 use Rattle.hv_world.specs.Bindings.{object_number, ground_action}
 use Rattle.hv_world.proofs.GroundingLemmas.{grounded_length, grounded_at}
 use Rattle.hv_world.proofs.grounding.GroundActions.at.Goals as goal

@@ -1,4 +1,4 @@
-use Rattle.std.proofs.Common.{◌≡◌, ◌∙◌}
+use Rattle.std.proofs.Common.{◌∙◌}
 use Rattle.hv_world.specs.Bindings.{grounded}
 use Rattle.hv_world.proofs.GroundingLemmas.{grounded_pushed}
 use Rattle.hv_world.proofs.grounding.GroundActions.push.Goals as goal

@@ -1,8 +1,6 @@
 use Rattle.std.proofs.Common.{◌≡◌, ◌++◌, drop, map}
-use Rattle.hv_syntax.specs.Values.{formulas_of as said_formulas_of}
 use Rattle.hv_syntax.specs.Views.{formula_view as said_formula}
-use Rattle.hv_world.specs.Tables.{known_by, scope_view}
-use Rattle.hv_world.specs.Values.{formulas_of}
+use Rattle.hv_world.specs.inside.Tables.{known_by, scope_view}
 use Rattle.hv_world.specs.Views.{formula_view}
 use Rattle.hv_world.specs.Worlds.{formula_in}
 use Rattle.hv_world.proofs.intern.formulas.+intern.Given as goal

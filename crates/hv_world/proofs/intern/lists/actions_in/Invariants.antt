@@ -1,6 +1,6 @@
 use Rattle.std.proofs.Common.{◌≡◌, ◌++◌, drop, map}
 use Rattle.hv_syntax.specs.DeclarationViews.{action_view as said_action}
-use Rattle.hv_world.specs.Tables.{known_by}
+use Rattle.hv_world.specs.inside.Tables.{known_by}
 use Rattle.hv_world.specs.SectionViews.{action_view}
 use Rattle.hv_world.specs.Worlds.{action_in}
 use Rattle.hv_world.proofs.intern.lists.actions_in.Given as goal

@@ -1,7 +1,7 @@
 use Rattle.std.proofs.Common.{arith}
 use Rattle.hv_syntax.specs.DeclarationViews.{method_view as said_method}
 use Rattle.hv_world.specs.Networks.{written_by, IsArrangeable}
-use Rattle.hv_world.specs.Tables.{known_by}
+use Rattle.hv_world.specs.inside.Tables.{known_by}
 use Rattle.hv_world.specs.MethodViews.{method_view}
 use Rattle.hv_world.specs.Worlds.{method_in}
 use Rattle.hv_world.proofs.InternLemmas.{map_more_seen, at_member}

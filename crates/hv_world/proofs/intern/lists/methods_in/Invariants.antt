@@ -1,6 +1,6 @@
 use Rattle.std.proofs.Common.{◌≡◌, ◌++◌, drop, map}
 use Rattle.hv_syntax.specs.DeclarationViews.{method_view as said_method}
-use Rattle.hv_world.specs.Tables.{known_by}
+use Rattle.hv_world.specs.inside.Tables.{known_by}
 use Rattle.hv_world.specs.MethodViews.{method_view}
 use Rattle.hv_world.specs.Worlds.{method_in}
 use Rattle.hv_world.proofs.intern.lists.methods_in.Given as goal

@@ -1,6 +1,6 @@
 use Rattle.std.proofs.Common.{◌≡◌, ◌++◌, drop, map}
 use Rattle.hv_syntax.specs.DeclarationViews.{task_view as said_task}
-use Rattle.hv_world.specs.Tables.{known_by}
+use Rattle.hv_world.specs.inside.Tables.{known_by}
 use Rattle.hv_world.specs.SectionViews.{task_view}
 use Rattle.hv_world.specs.Worlds.{task_by}
 use Rattle.hv_world.proofs.intern.lists.tasks_in.Given as goal

@@ -1,6 +1,6 @@
 use Rattle.std.proofs.Common.{◌≡◌, ◌++◌, drop, map}
 use Rattle.hv_syntax.specs.Views.{literal_view as said_literal}
-use Rattle.hv_world.specs.Tables.{known_by, scope_view}
+use Rattle.hv_world.specs.inside.Tables.{known_by, scope_view}
 use Rattle.hv_world.specs.Views.{atom_view}
 use Rattle.hv_world.specs.Worlds.{added}
 use Rattle.hv_world.proofs.intern.literals.added.Given as goal

@@ -1,6 +1,6 @@
 use Rattle.std.proofs.Common.{◌≡◌, ◌++◌, drop, map}
 use Rattle.hv_syntax.specs.NetworkViews.{constraint_view as said_constraint}
-use Rattle.hv_world.specs.Tables.{known_by, scope_view}
+use Rattle.hv_world.specs.inside.Tables.{known_by, scope_view}
 use Rattle.hv_world.specs.Views.{constraint_view}
 use Rattle.hv_world.specs.Worlds.{constraints_in}
 use Rattle.hv_world.proofs.intern.networks.constraints_in.Given as goal

@@ -1,6 +1,6 @@
 use Rattle.std.proofs.Common.{◌≡◌, ◌++◌, drop, map}
 use Rattle.hv_syntax.specs.NetworkViews.{subtask_view as said_subtask}
-use Rattle.hv_world.specs.Tables.{known_by, scope_view}
+use Rattle.hv_world.specs.inside.Tables.{known_by, scope_view}
 use Rattle.hv_world.specs.Views.{subtask_view}
 use Rattle.hv_world.specs.Worlds.{subtasks_in}
 use Rattle.hv_world.proofs.intern.networks.subtasks_in.Given as goal

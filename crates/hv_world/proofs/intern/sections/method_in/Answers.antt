@@ -1,6 +1,6 @@
 use Rattle.std.proofs.Common.{ap, ◌∙◌, Some}
 use Rattle.std.proofs.lemmas.Result.{IfOk-weaker}
-use Rattle.hv_world.specs.Tables.{known_by}
+use Rattle.hv_world.specs.inside.Tables.{known_by}
 use Rattle.hv_world.specs.Worlds.{types_of, task_in, formula_in, network_in}
 use Rattle.hv_world.proofs.CheckLemmas.{scope_is}
 use Rattle.hv_world.proofs.InternLemmas.{method_is, of_both}
@@ -10,8 +10,8 @@ pub returns : goal.returns
 returns c =
     let k = known_by c.args.tables.now in
     let list = c.parameters-list in
-    let scope = scope_is list.result.now _ c.in_ok-names.names list.ensures c.in_ok-names.ensures in
+    let scope = scope_is list.result.now _ c.in_ok-names.names list.ensures c.in_ok-names.ensures.places in
     let parts =
-    method_is (ap (λ w. Some w.text) c.name.ensures) (c.in_ok-parameters.ensures ∙ ap (types_of k) list.ensures) (ap Some (c.in_ok-task.ensures ∙ of_both (task_in k) scope c.task.ensures))
+    method_is (ap Some (c.name.ensures ∙ ap (λ w. w.text) c.name-word.ensures)) (c.in_ok-parameters.ensures ∙ ap (types_of k) list.ensures) (ap Some (c.in_ok-task.ensures ∙ of_both (task_in k) scope c.task.ensures))
     (c.in_ok-precondition.ensures ∙ of_both (formula_in k) scope c.precondition.ensures) (c.in_ok-network.ensures ∙ of_both (network_in k) scope c.network.ensures) in
     IfOk-weaker c.new.result _ _ (λ m e. e ∙ parts) c.new.ensures

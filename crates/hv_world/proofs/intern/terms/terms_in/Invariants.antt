@@ -1,6 +1,6 @@
 use Rattle.std.proofs.Common.{◌≡◌, ◌++◌, drop, map}
 use Rattle.hv_syntax.specs.Views.{term_view as said_term}
-use Rattle.hv_world.specs.Tables.{known_by, scope_view}
+use Rattle.hv_world.specs.inside.Tables.{known_by, scope_view}
 use Rattle.hv_world.specs.Views.{term_view}
 use Rattle.hv_world.specs.Worlds.{terms_in}
 use Rattle.hv_world.proofs.intern.terms.terms_in.Given as goal

@@ -1,6 +1,6 @@
 use Rattle.std.proofs.Common.{◌≡◌, ◌++◌, drop, map}
 use Rattle.hv_syntax.specs.Views.{typed_view}
-use Rattle.hv_world.specs.Tables.{known_by}
+use Rattle.hv_world.specs.inside.Tables.{known_by}
 use Rattle.hv_world.specs.Views.{type_number}
 use Rattle.hv_world.specs.Worlds.{types_of}
 use Rattle.hv_world.proofs.intern.terms.types_of.Given as goal

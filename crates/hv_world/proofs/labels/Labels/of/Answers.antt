@@ -10,4 +10,4 @@ use Rattle.hv_world.proofs.labels.Labels.of.Goals as goal
 pub returns : goal.returns
 returns c =
     let placed : place_in (names (map word_view c.deref.result.now)) ≡ place_in (names (labels (map subtask_view c.args.subtasks.now))) = rw c.deref.ensures.value (ap (λ ws. place_in (names ws)) c.in_ok-words.ensures) in
-    numbers_of_labels (map subtask_view c.args.subtasks.now) _ _ _ (c.in_ok-places.ensures ∙ placed) c.in_ok-holders.ensures (sym (length-map c.args.subtasks.now subtask_view))
+    numbers_of_labels (map subtask_view c.args.subtasks.now) _ _ _ (c.in_ok-places.ensures.places ∙ placed) c.in_ok-holders.ensures (sym (length-map c.args.subtasks.now subtask_view))

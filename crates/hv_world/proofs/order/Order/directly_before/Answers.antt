@@ -1,7 +1,7 @@
 use Rattle.std.proofs.Common.{sym, subst}
 use Rattle.hv_world.specs.Orders.{AreDirect}
-use Rattle.hv_world.specs.OrderWalks.{lists_of, list_at}
-use Rattle.hv_world.specs.OrderViews.{written_of, AreLinks}
+use Rattle.hv_world.specs.inside.OrderWalks.{lists_of, list_at}
+use Rattle.hv_world.specs.inside.OrderViews.{written_of, AreLinks}
 use Rattle.hv_world.proofs.OrderMeanings.{row_direct, listed_direct}
 use Rattle.hv_world.proofs.order.Order.directly_before.Goals as goal
 

@@ -1,4 +1,4 @@
-use Rattle.hv_world.specs.OrderViews.{written_of}
+use Rattle.hv_world.specs.inside.OrderViews.{written_of}
 use Rattle.hv_world.proofs.CycleLemmas.{before_is_decided}
 use Rattle.hv_world.proofs.order.Order.is_decided.Goals as goal
 

@@ -1,6 +1,6 @@
 use Rattle.std.proofs.Common.{◌<◌, ◌+◌, length, drop, get_or, ◌∙◌, subst, arith, length-set}
 use Rattle.std.proofs.lemmas.List.{at_drop_more, at_drop_all, length-map}
-use Rattle.hv_world.specs.OrderWalks.{lists_of}
+use Rattle.hv_world.specs.inside.OrderWalks.{lists_of}
 use Rattle.hv_world.proofs.OrderLists.{HasRest, one_pair_more, all_listed, pushed_lists}
 use Rattle.hv_world.proofs.order.earlier.earlier_lists.Goals as goal
 

@@ -1,5 +1,5 @@
 use Rattle.std.proofs.Common.{◌≡◌, length, drop}
-use Rattle.hv_world.specs.OrderWalks.{lists_of}
+use Rattle.hv_world.specs.inside.OrderWalks.{lists_of}
 use Rattle.hv_world.proofs.OrderLists.{HasRest}
 use Rattle.hv_world.proofs.order.earlier.earlier_lists.Given as goal
 

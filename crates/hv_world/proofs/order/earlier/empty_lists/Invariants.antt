@@ -1,5 +1,5 @@
 use Rattle.std.proofs.Common.{◌≡◌, ℕ, length, []}
-use Rattle.hv_world.specs.OrderWalks.{lists_of, list_at}
+use Rattle.hv_world.specs.inside.OrderWalks.{lists_of, list_at}
 use Rattle.hv_world.proofs.order.earlier.empty_lists.Given as goal
 
 abbrev pub invariant-loop : goal.invariant-loop

@@ -1,6 +1,6 @@
 use Rattle.std.proofs.Common.{◌≡◌}
 use Rattle.hv_world.specs.declared.order.walk.Mark.TheVariants as marks
-use Rattle.hv_world.specs.OrderWalks.{lists_of, IsWalkOf, StaySeen, mark_at, steps_left}
+use Rattle.hv_world.specs.inside.OrderWalks.{lists_of, IsWalkOf, StaySeen, mark_at, steps_left}
 use Rattle.hv_world.proofs.order.walk.go.Given as goal
 
 abbrev pub invariant-loop-last : goal.invariant-loop-last

@@ -1,5 +1,5 @@
 use Rattle.std.proofs.Common.{◌≡◌, ◌<◌, ℕ, length, slice_index}
-use Rattle.hv_world.specs.OrderWalks.{lists_of, list_at}
+use Rattle.hv_world.specs.inside.OrderWalks.{lists_of, list_at}
 use Rattle.hv_world.proofs.order.walk.lengths.Given as goal
 
 abbrev pub invariant-loop-list : goal.invariant-loop-list

@@ -1,6 +1,6 @@
 use Rattle.std.proofs.Common.{◌<◌, length, arith}
 use Rattle.std.proofs.lemmas.List.{length-map}
-use Rattle.hv_world.specs.OrderWalks.{lists_of}
+use Rattle.hv_world.specs.inside.OrderWalks.{lists_of}
 use Rattle.hv_world.proofs.OrderWalk.{opened_walk}
 use Rattle.hv_world.proofs.order.walk.open.Goals as goal
 

@@ -1,6 +1,6 @@
 use Rattle.std.proofs.Common.{◌<◌, length, vec_len, subst, arith}
 use Rattle.std.proofs.lemmas.List.{length-map}
-use Rattle.hv_world.specs.OrderWalks.{lists_of, IsWalk}
+use Rattle.hv_world.specs.inside.OrderWalks.{lists_of, IsWalk}
 use Rattle.hv_world.proofs.OrderWalk.{placed_walk, popped, last_open, fewer_changes}
 use Rattle.hv_world.proofs.order.walk.place.Goals as goal
 

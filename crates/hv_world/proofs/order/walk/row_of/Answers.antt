@@ -1,7 +1,7 @@
 use Rattle.std.proofs.Common.{◌≡◌, length, subst, arith}
 use Rattle.std.proofs.lemmas.List.{length-map}
 use Rattle.hv_world.specs.Orders.{Leads, IsRow}
-use Rattle.hv_world.specs.OrderWalks.{lists_of, IsListed, IsWalk}
+use Rattle.hv_world.specs.inside.OrderWalks.{lists_of, IsListed, IsWalk}
 use Rattle.hv_world.proofs.OrderWalk.{ended_walk}
 use Rattle.hv_world.proofs.order.walk.row_of.Goals as goal
 

@@ -1,6 +1,6 @@
 use Rattle.std.proofs.Common.{◌≡◌, ◌<◌, ℕ, []}
 use Rattle.hv_world.specs.declared.order.walk.Mark.TheVariants as marks
-use Rattle.hv_world.specs.OrderWalks.{lists_of, IsWalkOf, mark_at}
+use Rattle.hv_world.specs.inside.OrderWalks.{lists_of, IsWalkOf, mark_at}
 use Rattle.hv_world.proofs.order.walk.row_of.Given as goal
 
 abbrev pub invariant-loop-root : goal.invariant-loop-root

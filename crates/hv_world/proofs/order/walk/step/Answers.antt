@@ -1,7 +1,7 @@
 use Rattle.std.proofs.Common.{◌≡◌, ◌<◌, ◌+◌, ◌-◌, length, slice_index, sym, ap, ◌∙◌, arith}
 use Rattle.std.proofs.lemmas.List.{length-map}
 use Rattle.hv_world.specs.declared.order.walk.Mark.TheVariants as marks
-use Rattle.hv_world.specs.OrderWalks.{lists_of, mark_at}
+use Rattle.hv_world.specs.inside.OrderWalks.{lists_of, mark_at}
 use Rattle.hv_world.proofs.OrderWalk.{looked_walk, before_trail, open_is_cyclic, last_within, next_listed, mark_read, left_at}
 use Rattle.hv_world.proofs.order.walk.step.Goals as goal
 

@@ -1,7 +1,7 @@
 use Rattle.std.proofs.Common.{◌≡◌, ◌++◌, drop, map}
 use Rattle.hv_syntax.specs.DeclarationViews.{action_view}
 use Rattle.hv_world.specs.Known.{action_declarations}
-use Rattle.hv_world.specs.Tables.{declaration_view}
+use Rattle.hv_world.specs.inside.Tables.{declaration_view}
 use Rattle.hv_world.proofs.tables.sections.action_declarations.Given as goal
 
 abbrev pub invariant-loop-number : goal.invariant-loop-number

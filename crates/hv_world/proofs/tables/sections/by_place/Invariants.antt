@@ -1,6 +1,6 @@
 use Rattle.std.proofs.Common.{◌≡◌, ◌≤◌, ◌++◌, length, drop, map}
 use Rattle.hv_world.specs.Known.{by_place}
-use Rattle.hv_world.specs.Tables.{declaration_view}
+use Rattle.hv_world.specs.inside.Tables.{declaration_view}
 use Rattle.hv_world.proofs.tables.sections.by_place.Given as goal
 
 abbrev pub invariant-loop-task : goal.invariant-loop-task

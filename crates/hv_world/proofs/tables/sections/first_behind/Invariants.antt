@@ -1,6 +1,6 @@
 use Rattle.std.proofs.Common.{◌≡◌, ◌+◌, drop, map}
 use Rattle.std.specs.List.{prefix_len}
-use Rattle.hv_world.specs.Tables.{declaration_view}
+use Rattle.hv_world.specs.inside.Tables.{declaration_view}
 use Rattle.hv_world.proofs.TableLemmas.{starts_before}
 use Rattle.hv_world.proofs.tables.sections.first_behind.Given as goal
 

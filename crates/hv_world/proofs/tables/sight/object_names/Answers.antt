@@ -8,11 +8,11 @@ use Rattle.hv_world.specs.Known.{variables}
 use Rattle.hv_world.proofs.TableLemmas.{with_names-append}
 use Rattle.hv_world.proofs.tables.sight.object_names.Goals as goal
 
-pub returns : goal.returns
-returns c =
+pub returns-clause-keys : goal.returns-clause-keys
+returns-clause-keys c =
     let constants = map typed_view c.args.constants.now in
     let objects = map typed_view c.args.objects.now in
-    c.in_ok-add_names-2.ensures
-    ∙ ap (λ ns. with_names ns (variables objects)) (c.in_ok-add_names.ensures ∙ ap (λ ks. with_names (map text_of ks) (variables constants)) c.with_hasher-names.ensures.empty)
+    c.in_ok-add_names-2.ensures.keys
+    ∙ ap (λ ns. with_names ns (variables objects)) (c.in_ok-add_names.ensures.keys ∙ ap (λ ks. with_names (map text_of ks) (variables constants)) c.with_hasher-names.ensures.empty)
     ∙ sym (with_names-append [] (variables constants) (variables objects))
     ∙ ap (with_names []) (sym (map-append (λ (v : Typed). v.name.text) constants objects))

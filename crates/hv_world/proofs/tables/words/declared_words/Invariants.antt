@@ -1,6 +1,6 @@
 use Rattle.std.proofs.Common.{◌≡◌, ◌++◌, drop, map}
 use Rattle.hv_syntax.specs.Views.{word_view}
-use Rattle.hv_world.specs.Tables.{declaration_view}
+use Rattle.hv_world.specs.inside.Tables.{declaration_view}
 use Rattle.hv_world.specs.Known.{declared_words}
 use Rattle.hv_world.proofs.tables.words.declared_words.Given as goal
 

@@ -1,4 +1,4 @@
-use Rattle.std.proofs.Common.{ap, sym, ◌∙◌}
+use Rattle.std.proofs.Common.{sym, ◌∙◌}
 use Rattle.hv_text.specs.Names.{text_of}
 use Rattle.hv_world.proofs.NameLemmas.{place-map}
 use Rattle.hv_world.proofs.world.World.object_named.Goals as goal

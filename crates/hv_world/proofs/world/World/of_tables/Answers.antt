@@ -2,7 +2,7 @@ use Rattle.std.proofs.Common.{refl, ap, sym, subst, ◌∙◌}
 use Rattle.hv_syntax.specs.DomainViews.{domain_view}
 use Rattle.hv_syntax.specs.ProblemViews.{problem_view}
 use Rattle.hv_world.specs.Bounds.{IsSound}
-use Rattle.hv_world.specs.Tables.{known_by, places_by}
+use Rattle.hv_world.specs.inside.Tables.{known_by, places_by}
 use Rattle.hv_world.specs.Worlds.{World, world_by}
 use Rattle.hv_world.proofs.OnceLemmas.{world_sound}
 use Rattle.hv_world.proofs.BuildLemmas.{predicate_places, task_places, action_places, method_places}

@@ -4,7 +4,7 @@ use Rattle.hv_syntax.specs.Values.{Subtask}
 use Rattle.hv_world.specs.declared.labels.Labels.{Labels}
 use Rattle.hv_world.specs.Names.{number_or}
 use Rattle.hv_world.specs.Known.{at_place}
-use Rattle.hv_world.specs.Tables.{places_by}
+use Rattle.hv_world.specs.inside.Tables.{places_by}
 
 -- the numbers of the subtasks that have a label, where the first of all has number k
 abbrev pub holders : ℕ → List Subtask → List ℕ

@@ -1,6 +1,8 @@
 -- What the tables of the code say.
 use Rattle.std.specs.Prelude.{ℕ, List, [], ◌∷◌, map, Option, Some, None, bytes_eq, if◌then◌else◌}
 use Rattle.std.specs.List.{slice_get}
+use Rattle.std.specs.declared.hash.DefaultHasher.{DefaultHasher}
+use Rattle.indexmap.specs.IndexMap.{hasher_of}
 use Rattle.hv_text.specs.Names.{text_of}
 use Rattle.hv_text.specs.declared.name.Name.{Name}
 use Rattle.hv_syntax.specs.Views.{word_view, typed_view}
@@ -21,6 +23,10 @@ place_beside (e ∷ es) n = if bytes_eq n (text_of e.0) then Some e.1 else place
 
 abbrev pub places_by : Names → List ℕ → Option ℕ
 places_by t n = place_beside t.places.entries n
+
+-- the start that its names are hashed from
+abbrev pub seed_of : Names → DefaultHasher
+seed_of t = (hasher_of t.places).start
 
 -- these places, and one for a name that has none
 abbrev pub with_place : (List ℕ → Option ℕ) → List ℕ → ℕ → List ℕ → Option ℕ

@@ -1,5 +1,5 @@
 -- How the order is found: lists of the earlier subtasks, and a walk along them.
-use Rattle.std.specs.Prelude.{ℕ, ◌≡◌, ◌<◌, ◌≤◌, ◌↔◌, ◌⊎◌, List, [], length, map, Contains, slice_index, slice_index_or, sum_by, ◌+◌, ◌-◌}
+use Rattle.std.specs.Prelude.{ℕ, ◌≡◌, ◌<◌, ◌≤◌, ◌↔◌, List, [], length, map, Contains, slice_index, slice_index_or, sum_by, ◌+◌, ◌-◌}
 use Rattle.std.specs.Global.{Vec}
 use Rattle.hv_world.specs.Orders.{Leads}
 use Rattle.hv_text.specs.Lists.{Once}

@@ -4,7 +4,7 @@ use Rattle.hv_world.specs.declared.order.Order.TheInside.{Inside}
 use Rattle.hv_world.specs.declared.order.Links.{Links}
 use Rattle.hv_world.specs.declared.order.Links.TheVariants as links
 use Rattle.hv_world.specs.Orders.{Written, written, IsPaired, Before, IsCyclic, IsArrangement}
-use Rattle.hv_world.specs.OrderWalks.{IsListed, lists_of}
+use Rattle.hv_world.specs.inside.OrderWalks.{IsListed, lists_of}
 
 abbrev pub is_as_written : Links → Bool
 is_as_written links.AsWritten = true

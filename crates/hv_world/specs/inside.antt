@@ -1,0 +1,9 @@
+-- How the code goes, step by step, for its proofs. No public clause means any of this.
+pub mod Tables
+pub mod TypeLists
+pub mod LabelViews
+pub mod OrderWalks
+pub mod OrderViews
+pub mod Parts
+pub mod Kept
+pub mod Seeds
