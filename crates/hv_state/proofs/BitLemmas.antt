@@ -6,8 +6,8 @@ use Rattle.std.proofs.lemmas.Bool.{cases_eq, cases_lt}
 use Rattle.std.proofs.lemmas.List.{get_or_default}
 use Rattle.std.proofs.lemmas.List.Elements.{Contains-push, Contains-push_cases, Contains-append_left}
 use Rattle.std.proofs.lemmas.Nat.Bits.{bit_at-zero, bit_at_set_same, bit_at_set_other, bit_at_clear_same, bit_at_clear_other}
-use Rattle.hv_state.specs.Rows.{IsBelow, Ascend}
-use Rattle.hv_state.specs.Bits.{Has, Bits, Lit, Knows}
+use Rattle.hv_state.specs.inside.Rows.{IsBelow, Ascend}
+use Rattle.hv_state.specs.inside.Bits.{Has, Bits, Lit, Knows}
 use Rattle.hv_state.proofs.RowLemmas.{below_itself, contains_cases, contains_first, contains_later, contains_none}
 
 no_bit : (k : ℕ) → bit_at 0 k ≡ 1 → ⊥

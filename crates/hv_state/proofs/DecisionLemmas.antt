@@ -3,10 +3,10 @@ use Rattle.std.proofs.Common.{◌≡◌, ◌<◌, ◌≤◌, ◌++◌, ◌⊎◌
 use Rattle.std.specs.List.{Contains}
 use Rattle.std.proofs.lemmas.Bool.{cases_eq, cases_lt}
 use Rattle.hv_world.specs.Types.{Typing, Of}
-use Rattle.hv_world.specs.Bindings.{GroundAction}
+use Rattle.hv_world.specs.Bindings.{GroundAction, object_of}
 use Rattle.hv_world.specs.Worlds.{World, Action}
 use Rattle.hv_world.specs.Values.{Formula, Formulas, holds, and, or, not, imply, forall, exists, equal, no_formulas, more_formulas}
-use Rattle.hv_state.specs.Atoms.{GroundAtom, Atoms, After, object_of, atom_under, atoms_under}
+use Rattle.hv_state.specs.Atoms.{GroundAtom, Atoms, After, atom_under, atoms_under}
 use Rattle.hv_state.specs.Truth.{IsDecided, ForEach, ForSome, True, AllTrue, SomeTrue}
 use Rattle.hv_state.specs.Plans.{Plan, AfterAction, AfterActions, Start, StateAt}
 use Rattle.hv_state.proofs.NoteLemmas.{decided}

@@ -1,6 +1,6 @@
 -- Histories with one change more.
-use Rattle.std.proofs.Common.{◌≡◌, ◌<◌, ◌≤◌, ◌-◌, ◌++◌, ◌⊎◌, inl, inr, ℕ, zero, suc, Bool, true, false, bytes_eq, List, [], ◌∷◌, length, map, set, get_or, slice_get, Some, if◌then◌else◌, refl, sym, ap, ◌∙◌, subst, arith}
-use Rattle.std.specs.List.{Contains, All}
+use Rattle.std.proofs.Common.{◌≡◌, ◌<◌, ◌≤◌, ◌-◌, ◌++◌, ◌⊎◌, inl, inr, ℕ, zero, suc, Bool, true, false, bytes_eq, nat_le, List, [], ◌∷◌, length, map, set, get_or, slice_get, Some, if◌then◌else◌, refl, sym, ap, ◌∙◌, subst, arith}
+use Rattle.std.specs.List.{All}
 use Rattle.std.specs.Cmp.Lexicographic.{bytes_decides}
 use Rattle.std.proofs.lemmas.Bool.{cases_lt}
 use Rattle.std.proofs.lemmas.List.{get_or-map, length-map, map_push}
@@ -8,12 +8,14 @@ use Rattle.std.proofs.lemmas.List.Quantifiers.{all_pairs_push}
 use Rattle.hv_state.specs.declared.changes.Change as code
 use Rattle.hv_state.specs.declared.changes.History.{History}
 use Rattle.hv_state.specs.declared.rows.Row.{Row}
-use Rattle.hv_state.specs.Rows.{rows_in, IsBelow, Ascend}
-use Rattle.hv_state.specs.Changes.{Change, Table, Rise, IsTable, beside, rows_of, change_view, history_view}
-use Rattle.hv_state.specs.Notes.{Before, grown, IsAdded}
+use Rattle.hv_state.specs.inside.Rows.{rows_in, IsBelow, Ascend}
+use Rattle.hv_state.specs.Changes.{Change, told}
+use Rattle.hv_state.specs.inside.Histories.{Table, Rise, IsTable, beside, rows_of, change_view, history_view}
+use Rattle.hv_state.specs.inside.Notes.{Before, grown, IsAdded}
 use Rattle.hv_state.proofs.RowLemmas.{below_itself}
 use Rattle.hv_state.proofs.PlanLemmas.{read_there}
-use Rattle.hv_state.proofs.HistoryLemmas.{if_true, if_false, is_row, no_row, tail_ascends, in_views, changes_beside}
+use Rattle.hv_state.proofs.ChangeLemmas.{is_from}
+use Rattle.hv_state.proofs.HistoryLemmas.{if_true, if_false, is_row, no_row, tail_ascends, in_views, last_is, changes_beside}
 
 -- one of the code's histories
 pub set_grows : (hs : List History) (i : ℕ) (h new : History) (c : code.Change) → i < length hs → h ≡ get_or hs i h → new.row ≡ h.row → new.changes.items ≡ h.changes.items ++ c ∷ [] → map history_view (set hs i new) ≡ grown (map history_view hs) i (change_view c)
@@ -57,6 +59,19 @@ module _ (cs : List code.Change) (k : ℕ) (last : code.Change) (rise : Rise (ma
       let below : (get_or (map change_view cs) (length cs - 1) (change_view last)).0 < k = all (length cs - 1) (change_view last) (omega (arith, place_is.0, length-map cs change_view)) in
       let end = last_at (change_view last) in
       omega (arith, below, end)
+
+-- the last change is told, where all are before an index
+pub last_told : (cs : List code.Change) (k : ℕ) (last : code.Change) → Some last ≡ slice_get cs (length cs - 1) → Before k (map change_view cs) → told k (map change_view cs) ≡ Some last.is_true
+last_told cs k last is room = sym (last_is cs k (length cs) (omega arith) (λ j d z lt. below j d lt, λ j d from lt. absurd (omega (arith, from, lt))) last (omega (arith, there.0))) ∙ ap (λ (c : code.Change). Some c.is_true) there.1
+  where
+    there : (length cs - 1 < length cs) × (get_or cs (length cs - 1) last ≡ last)
+    there = read_there cs (length cs - 1) last (sym is)
+
+    below : (j : ℕ) (d : code.Change) → j < length cs → nat_le (get_or cs j d).from k ≡ true
+    below j d lt =
+        let at : (get_or (map change_view cs) j (change_view d)).0 ≡ (get_or cs j d).from = ap (λ c. c.0) (get_or-map change_view cs j d (change_view d) lt) in
+        let h : (get_or (map change_view cs) j (change_view d)).0 < k = room j (change_view d) (omega (arith, lt, length-map cs change_view)) in
+        is_from (get_or cs j d).from k (omega (arith, at, h))
 
 -- one of the model's
 grown_rows : (es : Table) (i : ℕ) (c : Change) → rows_of (grown es i c) ≡ rows_of es
@@ -115,10 +130,6 @@ module _ (hs : List History) (row : List ℕ) (i : ℕ) (h : History) (table : I
           let entry_is : get_or (map history_view hs) i d ≡ history_view h = get_or-map history_view hs i h d (omega (arith, m, length-map hs history_view)) ∙ ap history_view (sym is) in
           let rise : Rise (map change_view h.changes.items) = subst (λ (x : List ℕ × List Change). Rise x.1) entry_is (table.lists i d m) in
           subst (λ (x : List ℕ × List Change). Rise (x.1 ++ c ∷ [])) (sym entry_is) (all_pairs_push (λ a b. a.0 < b.0) (map change_view h.changes.items) c rise (λ k e k_in. room k e k_in))
-
--- nothing is added where the row is not, or where the change is not behind the others
-pub not_added : (t : Table) (row : List ℕ) (c : Change) → (Contains (rows_of t) row → Before c.0 (beside t row) → ⊥) → IsAdded t row c t
-not_added t row c out = record { rows = refl; here = λ m room. absurd (out m room); others = λ r. inl refl }
 
 -- no changes yet
 empty_lists : (rows : List (List ℕ)) (i : ℕ) (d : List ℕ × List Change) → i < length (map {A = List ℕ} {B = List ℕ × List Change} (λ r. (r, [])) rows) → (get_or (map {A = List ℕ} {B = List ℕ × List Change} (λ r. (r, [])) rows) i d).1 ≡ []

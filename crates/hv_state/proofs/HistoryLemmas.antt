@@ -1,16 +1,19 @@
 -- Histories in the order of their rows.
 use Rattle.std.proofs.Common.{◌≡◌, ◌<◌, ◌≤◌, ◌-◌, ◌⊎◌, inl, inr, ℕ, zero, suc, Bool, true, false, nat_le, List, [], ◌∷◌, length, map, get_or, Option, Some, None, if◌then◌else◌, Result, Ok, Err, refl, sym, ap, ◌∙◌, subst, arith, bytes_eq}
-use Rattle.std.specs.List.{All}
+use Rattle.std.specs.List.{All, Contains}
 use Rattle.std.specs.List.Sorted.{IsNonDecreasingBy, IsSearchInRange, IsBinarySearchResult, IsPartitionPoint}
 use Rattle.std.specs.Ordering.{nat_cmp, ordering_index}
 use Rattle.std.specs.Cmp.Lexicographic.{slice_cmp, bytes_decides}
 use Rattle.std.proofs.lemmas.Bool.{cases_lt}
-use Rattle.std.proofs.lemmas.List.{get_or-map, length-map}
+use Rattle.std.proofs.lemmas.List.{get_or-map, get_or_default, length-map}
 use Rattle.hv_state.specs.declared.changes.Change as code
 use Rattle.hv_state.specs.declared.changes.History.{History}
-use Rattle.hv_state.specs.Rows.{IsBelow, Ascend, IsGap, IsPlace}
-use Rattle.hv_state.specs.Changes.{Change, Table, Rise, told_from, told, beside, rows_of, change_view, history_view}
-use Rattle.hv_state.proofs.RowLemmas.{some_of, below_itself, below_from, same_rows, step_rises}
+use Rattle.hv_state.specs.Atoms.{GroundAtom}
+use Rattle.hv_state.specs.inside.Bits.{Has}
+use Rattle.hv_state.specs.inside.Rows.{row_of, atom_of, IsBelow, Ascend, IsGap, IsPlace}
+use Rattle.hv_state.specs.Changes.{Change, told_from, told}
+use Rattle.hv_state.specs.inside.Histories.{Table, Rise, beside, rows_of, change_view, history_view, kept, AreFlagged}
+use Rattle.hv_state.proofs.RowLemmas.{some_of, below_itself, below_from, same_rows, step_rises, contains_cases, contains_none}
 
 -- what a search finds
 module _ {X : Type 0} (f : X → List ℕ) (xs : List X) (row : List ℕ) (ascend : Ascend (map f xs)) where
@@ -159,3 +162,24 @@ module _ (hs : List History) (row : List ℕ) (i : ℕ) (h : History) (ascend : 
 
 pub none_beside : (hs : List History) (row : List ℕ) (i : ℕ) → IsGap (rows_of (map history_view hs)) row i → beside (map history_view hs) row ≡ []
 none_beside hs row i gap = nothing_beside (map history_view hs) row (λ k lt e. gap_is_none (rows_of (map history_view hs)) row i gap k (omega (arith, lt, length-map (map history_view hs) (λ (e' : List ℕ × List Change). e'.0))) e)
+
+-- a predicate without its flag has no changes
+pub unflagged : (t : Table) (flags : List ℕ) → AreFlagged flags (rows_of t) → (g : GroundAtom) → (Has flags g.predicate → ⊥) → [] ≡ kept t g
+unflagged t flags all g out = sym (nothing_beside t (row_of g) (λ k lt e. out (all (row_of g) (k, within k lt, get_or_default (rows_of t) k (row_of g) [] (within k lt) ∙ e))))
+  where
+    within : (k : ℕ) → k < length t → k < length (rows_of t)
+    within k lt = omega (arith, lt, length-map t (λ (e : List ℕ × List Change). e.0))
+
+-- the rows but those that are left have their flags
+abbrev pub FlaggedBut : List ℕ → List (List ℕ) → List (List ℕ) → Type 0
+FlaggedBut flags rows left = (r : List ℕ) → Contains rows r → Has flags (atom_of r).predicate ⊎ Contains left r
+
+pub flagged_more : (old new : List ℕ) (rows left rest : List (List ℕ)) (row : List ℕ) (n : ℕ) → n ≡ (atom_of row).predicate → left ≡ row ∷ rest → ((i : ℕ) → (Has old i ⊎ (i ≡ n)) → Has new i) → FlaggedBut old rows left → FlaggedBut new rows rest
+flagged_more old new rows left rest row n is more raised before r m = by (before r m)
+  where
+    by : Has old (atom_of r).predicate ⊎ Contains left r → Has new (atom_of r).predicate ⊎ Contains rest r
+    by (inl h) = inl (raised (atom_of r).predicate (inl h))
+    by (inr l) = elim (contains_cases r row rest (subst (λ xs. Contains xs r) more l)) [ inl e ↦ inl (raised (atom_of r).predicate (inr (ap (λ x. (atom_of x).predicate) e ∙ sym is))) | inr k ↦ inr k ]
+
+pub flagged_all : (flags : List ℕ) (rows left : List (List ℕ)) → left ≡ [] → FlaggedBut flags rows left → AreFlagged flags rows
+flagged_all flags rows left none but r m = elim (but r m) [ inl h ↦ h | inr l ↦ absurd (contains_none r (subst (λ xs. Contains xs r) none l)) ]

@@ -5,8 +5,8 @@ use Rattle.hv_state.specs.declared.rows.Row.{Row}
 use Rattle.std.proofs.lemmas.List.{get_or_default, get_or-map, length-map, map_push}
 use Rattle.std.proofs.lemmas.List.Elements.{Contains-append_left, Contains-append_right}
 use Rattle.hv_state.specs.Atoms.{GroundAtom, Same, After}
-use Rattle.hv_state.specs.Rows.{row_of, rows_in, Ascend, HasSameRows, IsGap}
-use Rattle.hv_state.specs.Bits.{Has, Bits, Lit, Shown, Knows, AreBits, AreLit, AreDark, IsChanged}
+use Rattle.hv_state.specs.inside.Rows.{row_of, rows_in, Ascend, HasSameRows, IsGap}
+use Rattle.hv_state.specs.inside.Bits.{Has, Bits, Lit, Shown, Knows, AreBits, AreLit, AreDark, IsChanged}
 use Rattle.hv_state.proofs.RowLemmas.{gap_lacks}
 use Rattle.hv_state.proofs.StateLemmas.{atom_listed, row_listed}
 use Rattle.hv_state.proofs.BitLemmas.{LitBelow, one_place, lit_more, dark_more}

@@ -14,8 +14,9 @@ use Rattle.hv_state.specs.declared.changes.Change as code
 use Rattle.hv_state.specs.Atoms.{GroundAtom, Atoms}
 use Rattle.hv_state.specs.Truth.{ForSome, True}
 use Rattle.hv_state.specs.Plans.{Plan, StateAt}
-use Rattle.hv_state.specs.Changes.{Change, Rise, change_view, Stays, AreChanges, none_yet, stays, turns, Table, kept, Mentions, SomeMention, IsNext, IsNextIn, IsLeast, IsNextChange}
-use Rattle.hv_state.specs.Notes.{IsRecorded}
+use Rattle.hv_state.specs.Changes.{Change, Stays, AreChanges, none_yet, stays, turns, Mentions, SomeMention, IsNextChange, AreFalse, IsFirstTrue}
+use Rattle.hv_state.specs.inside.Histories.{Rise, change_view, Table, kept, IsNext, IsNextIn, IsLeast}
+use Rattle.hv_state.specs.inside.Notes.{IsRecorded}
 use Rattle.hv_state.proofs.RowLemmas.{some_of}
 use Rattle.hv_state.proofs.ChangeLemmas.{unchanged}
 
@@ -200,3 +201,17 @@ pub stays_until : (p : Plan) (k : ℕ) (f : _) (env : List ℕ) (j : ℕ) → Is
 stays_until p k f env j next i le lt =
     let h = unchanged p f env k (i - k) i (omega (arith, le)) (λ n g from to m. next.quiet n g from (omega (arith, to, lt)) m) in
     (h.1, h.0)
+
+-- an index at which a formula is true, behind others at which it is not
+pub first_found : (p : Plan) (f : _) (env : List ℕ) (from upto i u : ℕ) → from ≤ i → i ≤ upto → AreFalse p f env from i → True p.world.typing (StateAt p i) f env → IsNextChange p i f env u → IsFirstTrue p f env from upto i (u - 1)
+first_found p f env from upto i u after within before here next =
+    let some = next.after in
+    let whole : u ≡ u - 1 + 1 = omega (arith, some) in
+    record {
+      after = after;
+      within = within;
+      before = before;
+      order = omega (arith, some);
+      stays = λ k le le'. (stays_until p i f env u next k le (omega (arith, le', some))).1 here;
+      next = subst (IsNextChange p i f env) whole next;
+    }

@@ -10,10 +10,11 @@ use Rattle.hv_world.specs.Worlds.{World, Action}
 use Rattle.hv_world.specs.Values.{Formula}
 use Rattle.hv_state.specs.Truth.{True}
 use Rattle.hv_state.specs.Atoms.{GroundAtom, Atoms, Same, After, atoms_under}
-use Rattle.hv_state.specs.Rows.{row_of, HasSameRows}
+use Rattle.hv_state.specs.inside.Rows.{row_of, HasSameRows}
 use Rattle.hv_state.specs.Plans.{Plan, AfterAction, StateAt, IsApplicableIn, IsApplicable, StopsAt}
-use Rattle.hv_state.specs.Changes.{Change, Stays, AreChanges, none_yet, stays, turns, told, Tells, TrueAfter, Table, beside, rows_of, kept}
-use Rattle.hv_state.specs.Notes.{touched_by, touched_in, Before, IsAdded, Turns, AreNoted, IsPassed, IsRecorded}
+use Rattle.hv_state.specs.Changes.{Change, Stays, AreChanges, none_yet, stays, turns, told, Tells, TrueAfter}
+use Rattle.hv_state.specs.inside.Histories.{Table, beside, rows_of, kept}
+use Rattle.hv_state.specs.inside.Notes.{touched_by, touched_in, Before, IsAdded, Turns, Contradicts, AreNoted, IsPassed, IsRecorded}
 use Rattle.hv_state.proofs.RowLemmas.{contains_first, contains_later, contains_cases, contains_none}
 use Rattle.hv_state.proofs.StateLemmas.{same_atom, atom_listed, row_listed}
 use Rattle.hv_state.proofs.PlanLemmas.{read_there, applies, acted, applicable_same, applicable_if, only_if, same_back, same_through, after_same, next_state, push_at}
@@ -39,14 +40,17 @@ longer cs c e = let same : length (cs ++ c ∷ []) ≡ length cs = ap length e i
 only : (g h : GroundAtom) → Contains (g ∷ []) h → h ≡ g
 only g h m = elim (contains_cases h g [] m) [ inl e ↦ e | inr l ↦ absurd (contains_none h l) ]
 
--- what was told and what is so differ where the answers do
-differ : {W N : Type 0} (b c : Bool) → IsTrue b ↔ W → IsTrue c ↔ N → (b ≡ c → ⊥) → (W ↔ N) → ⊥
-differ true true was is out a = out refl
-differ true false was is out a = true≢false (sym (is.1 (a.0 (was.0 refl))))
-differ false true was is out a = true≢false (sym (was.1 (a.1 (is.0 refl))))
-differ false false was is out a = out refl
+-- whether an answer says what is so
+pub answers_agree : {W : Type 0} (b c : Bool) → IsTrue b ↔ W → b ≡ c → W ↔ IsTrue c
+answers_agree {W} b c is e = subst (λ x. W ↔ IsTrue x) e (is.1, is.0)
 
-abbrev Said : Type 0 → Option Bool → Type 0
+pub answers_differ : {W : Type 0} (b c : Bool) → IsTrue b ↔ W → (b ≡ c → ⊥) → (W ↔ IsTrue c) → ⊥
+answers_differ true true is out same = out refl
+answers_differ true false is out same = true≢false (sym (same.0 (is.0 refl)))
+answers_differ false true is out same = true≢false (sym (is.1 (same.1 refl)))
+answers_differ false false is out same = out refl
+
+abbrev pub Said : Type 0 → Option Bool → Type 0
 Said s o = elim o [ None ↦ s | Some b ↦ IsTrue b ]
 
 module _ (start now : Atoms) (from : ℕ) where
@@ -83,25 +87,28 @@ module _ (start now : Atoms) (from : ℕ) where
           by (inr (b, is, so, out)) (inl h) l = absurd (longer (kept t g) (from, b) (sym is ∙ sym h ∙ e))
           by (inr f) (inr (b, is, so, out)) l = absurd (out (agrees g (kept t g) (kept u g) f))
 
-  module _ (g : GroundAtom) (was_true is_true : Bool) (t : Table) (was : IsTrue was_true ↔ Was g (kept t g)) (is : IsTrue is_true ↔ now g) where
-    -- an atom that is as it was told
-    pub noted_same : was_true ≡ is_true → AreNoted start now from (g ∷ []) t t
-    noted_same e = record { rows = refl; steps = λ h. inl refl; all = λ h m row room f. subst (λ x. Was x (kept t x) ↔ now x) (sym (only g h m)) (λ m. is.0 (sym e ∙ was.1 m), λ m. was.0 (e ∙ is.1 m)) }
+  module _ (g : GroundAtom) (t : Table) where
+    -- an atom of which nothing is to be noted
+    pub noted_same : (Contains (rows_of t) (row_of g) → Before from (kept t g) → Was g (kept t g) ↔ now g) → AreNoted start now from (g ∷ []) t t
+    noted_same so = record { rows = refl; steps = λ h. inl refl; all = λ h m. all h (only g h m) }
+      where
+        all : (h : GroundAtom) → h ≡ g → Contains (rows_of t) (row_of h) → Before from (kept t h) → kept t h ≡ kept t h → Was h (kept t h) ↔ now h
+        all h e = subst (λ x. Contains (rows_of t) (row_of x) → Before from (kept t x) → kept t x ≡ kept t x → Was x (kept t x) ↔ now x) (sym e) (λ row room f. so row room)
 
-    -- an atom that is not
-    pub noted_added : (u : Table) → (was_true ≡ is_true → ⊥) → IsAdded t (row_of g) (from, is_true) u → AreNoted start now from (g ∷ []) t u
-    noted_added u apart added = record { rows = added.rows; steps = λ h. elim (added.others (row_of h)) [ inl e ↦ inl e | inr m ↦ inr (turn h m.0 m.1) ]; all = λ h m. all h (only g h m) }
+    -- an atom that is not as its changes say
+    pub noted_added : (b : Bool) (u : Table) → IsTrue b ↔ now g → Contradicts (start g) (from, b) (kept t g) → IsAdded t (row_of g) (from, b) u → AreNoted start now from (g ∷ []) t u
+    noted_added b u is apart added = record { rows = added.rows; steps = λ h. elim (added.others (row_of h)) [ inl e ↦ inl e | inr m ↦ inr (turn h m.0 m.1) ]; all = λ h m. all h (only g h m) }
       where
         out : (Was g (kept t g) ↔ now g) → ⊥
-        out = differ was_true is_true was is apart
+        out same = apart (λ m. is.1 (same.0 m), λ m. same.1 (is.0 m))
 
-        turn : (h : GroundAtom) → row_of h ≡ row_of g → kept u h ≡ kept t h ++ (from, is_true) ∷ [] → Turns (Was h (kept t h)) (now h) from (kept t h) (kept u h)
+        turn : (h : GroundAtom) → row_of h ≡ row_of g → kept u h ≡ kept t h ++ (from, b) ∷ [] → Turns (Was h (kept t h)) (now h) from (kept t h) (kept u h)
         turn h e f =
             let here = sym (same_atom h g e) in
-            (is_true, f, subst (λ x. IsTrue is_true ↔ now x) here is, subst (λ x. (Was x (kept t x) ↔ now x) → ⊥) here out)
+            (b, f, subst (λ x. IsTrue b ↔ now x) here is, subst (λ x. (Was x (kept t x) ↔ now x) → ⊥) here out)
 
         all : (h : GroundAtom) → h ≡ g → Contains (rows_of t) (row_of h) → Before from (kept t h) → kept u h ≡ kept t h → Was h (kept t h) ↔ now h
-        all h e = subst (λ x. Contains (rows_of t) (row_of x) → Before from (kept t x) → kept u x ≡ kept t x → Was x (kept t x) ↔ now x) (sym e) (λ row room f. absurd (longer (kept t g) (from, is_true) (sym (added.here row room) ∙ f)))
+        all h e = subst (λ x. Contains (rows_of t) (row_of x) → Before from (kept t x) → kept u x ≡ kept t x → Was x (kept t x) ↔ now x) (sym e) (λ row room f. absurd (longer (kept t g) (from, b) (sym (added.here row room) ∙ f)))
 
 -- the changes of the first n actions are before the next index
 pub before_next : (p : Plan) (g : GroundAtom) (n : ℕ) (cs : List Change) → AreChanges p g n cs → Before (suc n) cs

@@ -13,7 +13,7 @@ use Rattle.std.proofs.lemmas.List.{get_or-map, length-map, map-append, get_or_de
 use Rattle.std.proofs.lemmas.List.Edits.{length-insert, get_or-insert_below, get_or-insert_at, get_or-insert_above, length-remove, get_or-remove_below, get_or-remove_above}
 use Rattle.std.proofs.lemmas.List.Elements.{Contains-append_left, Contains-push, Contains-push_cases}
 use Rattle.std.proofs.lemmas.List.Quantifiers.{all_pairs_remove}
-use Rattle.hv_state.specs.Rows.{rows_in, IsBelow, Ascend, IsGap, IsPlace, IsWithout, IsWith}
+use Rattle.hv_state.specs.inside.Rows.{rows_in, IsBelow, Ascend, IsGap, IsPlace, IsWithout, IsWith}
 
 -- the order of rows
 pub below_itself : (x : List ℕ) → IsBelow x x → ⊥

@@ -9,7 +9,7 @@ use Rattle.std.proofs.lemmas.List.{get_or-map, length-map}
 use Rattle.std.proofs.lemmas.List.Kept.{Contains-dedup, Contains-from_dedup, IsStrictlySortedBy-dedup}
 use Rattle.std.proofs.lemmas.List.Sorted.{Contains-permutation, IsPermutation-map, IsPermutation-sym}
 use Rattle.std.proofs.lemmas.Map.Keys.{Less-from_sorted}
-use Rattle.hv_state.specs.Rows.{rows_in, Ascend, HasSameRows}
+use Rattle.hv_state.specs.inside.Rows.{rows_in, Ascend, HasSameRows}
 use Rattle.hv_state.proofs.RowLemmas.{some_of}
 
 abbrev numbers_of : Row → List ℕ

@@ -4,7 +4,7 @@ use Rattle.std.proofs.lemmas.List.{take_more, drop_more}
 use Rattle.std.specs.Simd.Lanes.{zip2}
 use Rattle.std.proofs.lemmas.Grind.{common_steps}
 use Rattle.std.specs.Int.{bit_not, w64}
-use Rattle.hv_state.specs.Bits.{next_words}
+use Rattle.hv_state.specs.Words.{next_words}
 
 pub next_words-append : (r d a rs ds as' : List ℕ) → length d ≡ length r → length a ≡ length r →
     next_words (r ++ rs) (d ++ ds) (a ++ as') ≡ next_words r d a ++ next_words rs ds as'

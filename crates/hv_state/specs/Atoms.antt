@@ -1,9 +1,9 @@
 -- Atoms without variables, and the sets of them that states are.
-use Rattle.std.specs.Prelude.{ℕ, ◌↔◌, ◌⊎◌, List, map, slice_index_or}
+use Rattle.std.specs.Prelude.{ℕ, ◌↔◌, ◌⊎◌, List, map}
 use Rattle.std.specs.List.{Contains}
-use Rattle.hv_world.specs.Values.{Term, object, variable, Atom}
+use Rattle.hv_world.specs.Values.{Atom}
 use Rattle.hv_world.specs.Views.{term_view}
-use Rattle.hv_world.specs.Bindings.{objects_in}
+use Rattle.hv_world.specs.Bindings.{objects_in, object_of}
 use Rattle.hv_state.specs.declared.atom.AtomView.{AtomView}
 use Rattle.hv_state.specs.declared.atom.Objects.{Objects}
 use Rattle.hv_state.specs.declared.atom.Objects.TheVariants.{OfTerms, Given}
@@ -23,11 +23,6 @@ Atoms = GroundAtom → Type 0
 -- two sets have the same atoms
 abbrev pub Same : Atoms → Atoms → Type 0
 Same S T = (g : GroundAtom) → S g ↔ T g
-
--- the object of a term; a variable that has none reads as object 0
-abbrev pub object_of : List ℕ → Term → ℕ
-object_of env (object o) = o
-object_of env (variable v) = slice_index_or env v 0
 
 -- an atom, with the objects that its terms stand for
 abbrev pub atom_under : List ℕ → Atom → GroundAtom

@@ -1,14 +1,10 @@
 -- When the truth of an atom changes on the way of a plan.
-use Rattle.std.specs.Prelude.{◌≡◌, ℕ, suc, map, bytes_eq, AllPairs, All, ◌+◌, ◌<◌, ◌≤◌, ◌↔◌, ◌⊎◌, Bool, IsTrue, List, [], ◌∷◌, ◌++◌, length, Option, Some, None, nat_le, if◌then◌else◌}
-use Rattle.std.specs.List.{Contains}
+use Rattle.std.specs.Prelude.{◌≡◌, ℕ, suc, ◌+◌, ◌<◌, ◌≤◌, ◌↔◌, ◌⊎◌, Bool, IsTrue, List, [], ◌∷◌, ◌++◌, length, Option, Some, None, nat_le, if◌then◌else◌}
 use Rattle.hv_world.specs.Values.{Formula, Formulas, holds, and, or, not, imply, forall, exists, equal, no_formulas, more_formulas}
 use Rattle.hv_world.specs.Types.{Typing}
 use Rattle.hv_state.specs.Atoms.{GroundAtom, Atoms, atom_under}
 use Rattle.hv_state.specs.Truth.{ForSome, True}
 use Rattle.hv_state.specs.Plans.{Plan, StateAt}
-use Rattle.hv_state.specs.Rows.{row_of, Ascend}
-use Rattle.hv_state.specs.declared.changes.Change as code_change
-use Rattle.hv_state.specs.declared.changes.History as code_history
 
 -- from this index on an atom is true, or false
 abbrev pub Change : Type 0
@@ -31,35 +27,6 @@ told_from o k (c ∷ cs) = told_from (if nat_le c.0 k then Some c.1 else o) k cs
 
 abbrev pub told : ℕ → List Change → Option Bool
 told k cs = told_from None k cs
-
--- the rows of atoms, and beside each the changes of its atom
-abbrev pub Table : Type 0
-Table = List (List ℕ × List Change)
-
-abbrev pub beside : Table → List ℕ → List Change
-beside [] row = []
-beside (e ∷ es) row = if bytes_eq row e.0 then e.1 else beside es row
-
-abbrev pub rows_of : Table → List (List ℕ)
-rows_of t = map (λ e. e.0) t
-
--- the changes of an atom, as they are kept
-abbrev pub kept : Table → GroundAtom → List Change
-kept t g = beside t (row_of g)
-
--- indices rise
-abbrev pub Rise : List Change → Type 0
-Rise cs = AllPairs (λ c d. c.0 < d.0) cs
-
-pub record IsTable (t : Table) : Type 0 where
-  pub rows : Ascend (rows_of t)
-  pub lists : All (λ e. Rise e.1) t
-
-abbrev pub change_view : code_change.Change → Change
-change_view c = (c.from, c.is_true)
-
-abbrev pub history_view : code_history.History → List ℕ × List Change
-history_view h = (h.row.numbers.value.items, map change_view h.changes.items)
 
 -- what changes say up to an index, by what was so at the start
 abbrev pub Tells : Type 0 → ℕ → List Change → Type 0
@@ -97,28 +64,12 @@ pub record IsNextChange (p : Plan) (k : ℕ) (f : Formula) (env : List ℕ) (j :
 abbrev pub AreFalse : Plan → Formula → List ℕ → ℕ → ℕ → Type 0
 AreFalse p f env from end = (k : ℕ) → from ≤ k → k < end → True p.world.typing (StateAt p k) f env → ⊥
 
--- i is the first index between two, both with, at which the formula is true, and it is so up to j
+-- i is the first index between two, both with, at which the formula is true, and j the last before an atom changes that
+-- it speaks of: up to there it is true
 pub record IsFirstTrue (p : Plan) (f : Formula) (env : List ℕ) (from upto i j : ℕ) : Type 0 where
   pub after : from ≤ i
   pub within : i ≤ upto
   pub before : AreFalse p f env from i
   pub order : i ≤ j
   pub stays : (k : ℕ) → i ≤ k → k ≤ j → True p.world.typing (StateAt p k) f env
-
--- the same of the changes of one atom
-pub record IsNextIn (cs : List Change) (k end j : ℕ) : Type 0 where
-  pub after : k < j
-  pub within : j ≤ end
-  pub quiet : (c : Change) → Contains cs c → k < c.0 → j ≤ c.0
-  pub change : j < end → (c : Change) × Contains cs c × (c.0 ≡ j)
-
--- j is the first index after k at which one of these atoms changes, or else the end
-pub record IsNext (t : Table) (k end : ℕ) (M : GroundAtom → Type 0) (j : ℕ) : Type 0 where
-  pub after : k < j
-  pub within : j ≤ end
-  pub quiet : (g : GroundAtom) → M g → (c : Change) → Contains (kept t g) c → k < c.0 → j ≤ c.0
-  pub change : j < end → (g : GroundAtom) × M g × ((c : Change) × Contains (kept t g) c × (c.0 ≡ j))
-
--- the one of two numbers that is not above the other
-abbrev pub IsLeast : ℕ → ℕ → ℕ → Type 0
-IsLeast a b c = (c ≤ a) × (c ≤ b) × ((c ≡ a) ⊎ (c ≡ b))
+  pub next : IsNextChange p i f env (j + 1)

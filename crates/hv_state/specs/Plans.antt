@@ -1,7 +1,13 @@
 -- The states that a plan passes.
 use Rattle.std.specs.Prelude.{ℕ, ◌<◌, List, [], ◌∷◌, take, length, slice_get, IsSomeAnd, MatchOption, Some, None}
 use Rattle.std.specs.List.{Contains}
-use Rattle.hv_world.specs.Bindings.{GroundAction}
+use Rattle.hv_world.specs.Bindings.{GroundAction, objects_in, ground_actions_view}
+use Rattle.hv_world.specs.Views.{formula_view}
+use Rattle.hv_world.specs.WorldViews.{world_view}
+use Rattle.hv_world.specs.declared.binding.Binding.{Binding}
+use Rattle.hv_world.specs.declared.formula.Formula as code_formula
+use Rattle.hv_world.specs.declared.grounding.GroundActions.{GroundActions}
+use Rattle.hv_world.specs.declared.world.World as code_world
 use Rattle.hv_world.specs.Worlds.{World}
 use Rattle.hv_state.specs.Atoms.{Atoms, After, atoms_under}
 use Rattle.hv_state.specs.Truth.{True}
@@ -15,6 +21,10 @@ pub record Plan : Type 0 where
 
 abbrev pub plan : World → List GroundAction → Plan
 plan w actions = record { world = w; actions = actions }
+
+-- the plan of a world and ground actions of the code
+abbrev pub plan_of : code_world.World → GroundActions → Plan
+plan_of w actions = plan (world_view w) (ground_actions_view actions)
 
 -- an action is applicable in a state: the world has it, and its precondition is true there
 abbrev pub IsApplicableIn : World → Atoms → GroundAction → Type 0
@@ -36,6 +46,10 @@ Start w = Contains (atoms_under [] w.init)
 -- what is true after the first k actions
 abbrev pub StateAt : Plan → ℕ → Atoms
 StateAt p k = AfterActions p.world (Start p.world) (take k p.actions)
+
+-- a formula of the code is true after the first k actions, where its variables have the objects of a binding
+abbrev pub IsTrueAt : Plan → ℕ → code_formula.Formula → Binding → Type 0
+IsTrueAt p k f b = True p.world.typing (StateAt p k) (formula_view f) (objects_in b)
 
 -- the action of number k, from 0, is applicable where it stands
 abbrev pub IsApplicable : Plan → ℕ → Type 0

@@ -2,7 +2,13 @@
 use Rattle.std.specs.Prelude.{◌≡◌, ℕ, ◌⊎◌, List, [], ◌∷◌, ◌++◌}
 use Rattle.hv_world.specs.Values.{Formula, Formulas, holds, and, or, not, imply, forall, exists, equal, no_formulas, more_formulas}
 use Rattle.hv_world.specs.Types.{Typing, Of}
-use Rattle.hv_state.specs.Atoms.{Atoms, object_of, atom_under}
+use Rattle.hv_world.specs.Views.{formula_view}
+use Rattle.hv_world.specs.WorldViews.{world_view}
+use Rattle.hv_world.specs.declared.binding.Binding.{Binding}
+use Rattle.hv_world.specs.declared.formula.Formula as code_formula
+use Rattle.hv_world.specs.declared.world.World as code_world
+use Rattle.hv_state.specs.Atoms.{Atoms, atom_under}
+use Rattle.hv_world.specs.Bindings.{objects_in, object_of}
 
 -- it is so, or it is not
 abbrev pub IsDecided : Type 0 → Type 0
@@ -38,3 +44,7 @@ module _ (w : Typing) (S : Atoms) where
     pub SomeTrue : Formulas → List ℕ → Type 0
     SomeTrue no_formulas env = ⊥
     SomeTrue (more_formulas f fs) env = True f env ⊎ SomeTrue fs env
+
+-- the same of a formula, a world and a binding of the code
+abbrev pub IsTrueIn : code_world.World → Atoms → code_formula.Formula → Binding → Type 0
+IsTrueIn w S f b = True (world_view w).typing S (formula_view f) (objects_in b)

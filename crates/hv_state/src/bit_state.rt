@@ -2,8 +2,8 @@
 
 ghost use Rattle.std.specs.Prelude.{ℕ, List, ◌↔◌, IfOk};
 ghost use Rattle.std.specs.List.{Contains};
-ghost use Rattle.hv_state.specs.Rows.{rows_in};
-ghost use Rattle.hv_state.specs.Bits.{Lit, Shown, Knows, AreBits, IsChanged};
+ghost use Rattle.hv_state.specs.inside.Rows.{rows_in};
+ghost use Rattle.hv_state.specs.inside.Bits.{Lit, Shown, Knows, AreBits, IsChanged};
 
 use crate::atom::AtomView;
 use crate::bits::has_bit;
@@ -28,8 +28,8 @@ pub struct BitState {
 
 impl Model for BitState {
     ghost use Rattle.std.specs.Prelude.{ℕ, List};
-    ghost use Rattle.hv_state.specs.Rows.{rows_in};
-    ghost use Rattle.hv_state.specs.Bits.{Bits, AreBits};
+    ghost use Rattle.hv_state.specs.inside.Rows.{rows_in};
+    ghost use Rattle.hv_state.specs.inside.Bits.{Bits, AreBits};
 
     ghost Value = { Bits };
 

@@ -1,7 +1,9 @@
 //! Sets of numbers as bits, 64 in a word.
 
-ghost use Rattle.std.specs.Prelude.{◌≡◌, ℕ, ◌<◌, ◌/◌, ◌↔◌, ◌⊎◌, IsTrue, length};
-ghost use Rattle.hv_state.specs.Bits.{Has};
+ghost use Rattle.std.specs.Prelude.{◌≡◌, ℕ, ◌<◌, ◌/◌, ◌↔◌, ◌⊎◌, IsTrue, IfOk, length};
+ghost use Rattle.hv_state.specs.inside.Bits.{Has};
+
+use hv_text::Memory;
 
 /// Whether the bit of a number is set. Behind the last word none is.
 pub(crate) fn has_bit(words: &[u64], number: usize) -> bool
@@ -20,6 +22,18 @@ pub(crate) fn set_bit(words: &mut Vec<u64>, number: usize)
     ensures len { length words.new.items ≡ length words.old.items }
 {
     words[number / 64] |= 1 << (number % 64);
+}
+
+/// Sets the bit of a number, for which a word is made where there is none.
+pub(crate) fn raise(words: &mut Vec<u64>, number: usize) -> Result<(), Memory>
+    ensures { IfOk result (λ _. (i : ℕ) →
+        (Has words.old.items i ⊎ (i ≡ number)) → Has words.new.items i) }
+{
+    if words.len() <= number / 64 {
+        words.resize(number / 64 + 1, 0)?;
+    }
+    set_bit(words, number);
+    Ok(())
 }
 
 /// Clears the bit of a number.

@@ -4,7 +4,7 @@ ghost use Rattle.std.specs.Prelude.{◌≡◌, ◌++◌, ◌∷◌, [], map, IfO
 ghost use Rattle.hv_world.specs.Views.{atom_view};
 ghost use Rattle.hv_world.specs.Bindings.{objects_in};
 ghost use Rattle.hv_state.specs.Atoms.{atoms_under, atom_read};
-ghost use Rattle.hv_state.specs.Rows.{row_of, rows_in};
+ghost use Rattle.hv_state.specs.inside.Rows.{row_of, rows_in};
 
 use crate::atom::AtomView;
 use crate::rows::{Row, row_of, rows_of};
@@ -22,13 +22,14 @@ pub struct GroundAtoms {
 impl Model for GroundAtoms {
     ghost use Rattle.std.specs.Prelude.{◌≡◌, List, map};
     ghost use Rattle.hv_state.specs.Atoms.{GroundAtom};
-    ghost use Rattle.hv_state.specs.Rows.{row_of, atom_of, rows_in};
+    ghost use Rattle.hv_state.specs.inside.Rows.{row_of, atom_of, rows_in};
 
     ghost Value = { List GroundAtom };
 
     ghost view = { λ a. map atom_of (rows_in a.rows.items) };
 
-    ghost invariant = { λ a. rows_in a.rows.items ≡ map row_of (map atom_of (rows_in a.rows.items)) };
+    ghost invariant = { λ a.
+        rows_in a.rows.items ≡ map row_of (map atom_of (rows_in a.rows.items)) };
 }
 
 impl GroundAtoms {
@@ -47,7 +48,8 @@ impl GroundAtoms {
     ///
     /// `Memory` where a growth was refused.
     pub fn of(alloc: Global, atoms: &[Atom], binding: &Binding<'_>) -> Result<GroundAtoms, Memory>
-        ensures { IfOk result (λ a. a ≡ atoms_under (objects_in binding.now) (map atom_view atoms.now)) }
+        ensures { IfOk result
+            (λ a. a ≡ atoms_under (objects_in binding.now) (map atom_view atoms.now)) }
     {
         let rows = rows_of(alloc, atoms, binding)?;
         Ok(GroundAtoms { rows })

@@ -2,7 +2,7 @@
 
 ghost use Rattle.std.specs.Prelude.{◌≡◌, ◌+◌, ◌≤◌, ◌++◌, length, take, drop};
 ghost use Rattle.std.specs.Simd.Lanes.{chunk};
-ghost use Rattle.hv_state.specs.Bits.{next_words};
+ghost use Rattle.hv_state.specs.Words.{next_words};
 
 use std::simd::prelude::*;
 
@@ -11,7 +11,9 @@ fn next_lanes(row: &mut [u64], deletes: &[u64], adds: &[u64], at: usize)
     requires row_in { at + 8 ≤ length row.old }
     requires deletes_in { at + 8 ≤ length deletes.now }
     requires adds_in { at + 8 ≤ length adds.now }
-    ensures { row.new ≡ take at row.old ++ (next_words (chunk at 8 row.old) (chunk at 8 deletes.now) (chunk at 8 adds.now) ++ drop (at + 8) row.old) }
+    ensures { row.new ≡ take at row.old
+        ++ (next_words (chunk at 8 row.old) (chunk at 8 deletes.now) (chunk at 8 adds.now)
+        ++ drop (at + 8) row.old) }
 {
     let now = u64x8::from_slice(&row[at..]);
     let gone = u64x8::from_slice(&deletes[at..]);

@@ -2,8 +2,9 @@
 
 ghost use Rattle.std.specs.Prelude.{◌≡◌, ℕ, ◌↔◌, ◌≤◌, ◌*◌, length, IsTrue, IfOk};
 ghost use Rattle.std.specs.List.{Contains};
-ghost use Rattle.hv_state.specs.Rows.{rows_in, Ascend};
-ghost use Rattle.hv_state.specs.Bits.{Has, Knows, AreBits, AreThoseLit, IsLit, IsDark, AreLit, AreDark};
+ghost use Rattle.hv_state.specs.inside.Rows.{rows_in, Ascend};
+ghost use Rattle.hv_state.specs.inside.Bits.{Has, Knows, AreBits, AreThoseLit};
+ghost use Rattle.hv_state.specs.inside.Bits.{IsLit, IsDark, AreLit, AreDark};
 
 use crate::bits::{clear_bit, has_bit, set_bit};
 use crate::rows::{Row, place};

@@ -1,12 +1,8 @@
 //! When the truth of a formula may change next.
 
-ghost use Rattle.std.specs.Prelude.{◌≡◌, ◌<◌, map};
-ghost use Rattle.hv_world.specs.Values.{formulas_of};
-ghost use Rattle.hv_world.specs.Views.{formula_view, type_number};
-ghost use Rattle.hv_world.specs.Bindings.{objects_in};
-ghost use Rattle.hv_world.specs.WorldViews.{world_view};
-ghost use Rattle.hv_state.specs.Truth.{ForSome};
-ghost use Rattle.hv_state.specs.Changes.{Mentions, SomeMention, IsNext};
+ghost use Rattle.std.specs.Prelude.{◌≡◌, ◌<◌};
+ghost use Rattle.hv_state.specs.inside.Parts.{SpokenOf, SpokenOfBySome, SpokenOfForSome};
+ghost use Rattle.hv_state.specs.inside.Histories.{IsNext};
 
 use crate::atom::AtomView;
 use crate::changes::{Changes, least};
@@ -23,7 +19,7 @@ pub(crate) fn next_change(
     binding: &Binding<'_>,
 ) -> usize
     requires { k < end }
-    ensures { IsNext changes.now k end (λ g. Mentions (world_view world.now).typing g (formula_view formula.now) (objects_in binding.now)) result }
+    ensures { IsNext changes.now k end (SpokenOf world.now formula.now binding.now) result }
 {
     match formula {
         Formula::Holds(atom) => changes.next(&AtomView::new(atom, &*binding), k, end),
@@ -51,7 +47,7 @@ fn next_of_parts(
     binding: &Binding<'_>,
 ) -> usize
     requires { k < end }
-    ensures { IsNext changes.now k end (λ g. SomeMention (world_view world.now).typing g (formulas_of (map formula_view parts.now)) (objects_in binding.now)) result }
+    ensures { IsNext changes.now k end (SpokenOfBySome world.now parts.now binding.now) result }
 {
     let mut until = end;
     for part in parts {
@@ -72,7 +68,8 @@ fn next_of_some(
     binding: &Binding<'_>,
 ) -> usize
     requires { k < end }
-    ensures { IsNext changes.now k end (λ g. ForSome (world_view world.now).typing (Mentions (world_view world.now).typing g (formula_view formula.now)) (map type_number of.now) (objects_in binding.now)) result }
+    ensures { IsNext changes.now k end
+        (SpokenOfForSome world.now formula.now of.now binding.now) result }
 {
     match of {
         [] => next_change(world, changes, k, end, formula, binding),

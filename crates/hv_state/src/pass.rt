@@ -1,45 +1,20 @@
 //! One action of a plan, and what it changes.
 
-ghost use Rattle.std.specs.Prelude.{◌≡◌, ◌∷◌, [], map, Bool, true, false, IfOk};
+ghost use Rattle.std.specs.Prelude.{◌≡◌, map, Bool, true, false, IfOk};
 ghost use Rattle.hv_world.specs.Bindings.{ground_action_view};
 ghost use Rattle.hv_world.specs.WorldViews.{world_view};
-ghost use Rattle.hv_state.specs.Atoms.{atom_read};
 ghost use Rattle.hv_state.specs.Plans.{IsApplicableIn};
-ghost use Rattle.hv_state.specs.Rows.{atom_of, rows_in};
-ghost use Rattle.hv_state.specs.Notes.{AreNoted, IsPassed};
+ghost use Rattle.hv_state.specs.inside.Rows.{atom_of, rows_in};
+ghost use Rattle.hv_state.specs.inside.Notes.{AreNoted, IsPassed};
 
-use crate::atom::AtomView;
-use crate::changes::{Change, Changes, Moment};
+use crate::changes::Changes;
 use crate::evaluate::truth;
-use crate::facts::Facts;
 use crate::ground::GroundAtoms;
 use crate::rows::Row;
 use crate::state::State;
 use hv_text::Memory;
 use hv_world::{Binding, GroundAction, World};
 use std::alloc::Global;
-
-// Notes how an atom is now, where its changes say otherwise.
-fn note<S: State>(
-    changes: &mut Changes,
-    first: &S,
-    state: &S,
-    from: usize,
-    atom: &AtomView<'_>,
-) -> Result<(), Memory>
-    ensures { IfOk result (λ _. AreNoted (S.atoms first.now) (S.atoms state.now) from (atom_read atom.now ∷ []) changes.old changes.new) }
-{
-    let is_true = state.holds(atom);
-    let told = Moment {
-        first,
-        changes: &*changes,
-        index: from,
-    };
-    if told.is_true(atom) != is_true {
-        changes.add(atom, Change { from, is_true })?;
-    }
-    Ok(())
-}
 
 // Notes how the atoms of rows are now.
 fn note_all<S: State>(
@@ -49,10 +24,11 @@ fn note_all<S: State>(
     from: usize,
     rows: &[Row],
 ) -> Result<(), Memory>
-    ensures { IfOk result (λ _. AreNoted (S.atoms first.now) (S.atoms state.now) from (map atom_of (rows_in rows.now)) changes.old changes.new) }
+    ensures { IfOk result (λ _. AreNoted (S.atoms first.now) (S.atoms state.now) from
+        (map atom_of (rows_in rows.now)) changes.old changes.new) }
 {
     for row in rows {
-        note(changes, first, state, from, &row.atom())?;
+        changes.note(first, state, from, &row.atom())?;
     }
     Ok(())
 }
@@ -67,8 +43,12 @@ pub(crate) fn pass<S: State>(
     changes: &mut Changes,
     from: usize,
 ) -> Result<bool, Memory>
-    ensures done { IfOk result (λ ran. ran ≡ true → IsPassed (world_view world.now) (ground_action_view step.now) (S.atoms first.now) (S.atoms state.old) (S.atoms state.new) from changes.old changes.new) }
-    ensures stopped { IfOk result (λ ran. ran ≡ false → IsApplicableIn (world_view world.now) (S.atoms state.old) (ground_action_view step.now) → ⊥) }
+    ensures done { IfOk result (λ ran. ran ≡ true →
+        IsPassed (world_view world.now) (ground_action_view step.now) (S.atoms first.now)
+        (S.atoms state.old) (S.atoms state.new) from changes.old changes.new) }
+    ensures stopped { IfOk result (λ ran. ran ≡ false →
+        IsApplicableIn (world_view world.now) (S.atoms state.old)
+        (ground_action_view step.now) → ⊥) }
 {
     let Some(action) = world.action(step.action()) else {
         return Ok(false);

@@ -1,13 +1,14 @@
-//! Sorted lists of atoms, each as a row of numbers: that of its predicate, then those of its objects.
+//! Sorted lists of atoms, each as a row of numbers: its predicate's, and then its objects'.
 
-ghost use Rattle.std.specs.Prelude.{◌≡◌, ◌+◌, ◌<◌, ◌≤◌, ◌++◌, ◌∷◌, map, length, IfOk};
+ghost use Rattle.std.specs.Prelude.{◌≡◌, ◌+◌, ◌<◌, ◌≤◌, ◌++◌, ◌∷◌, length, IfOk};
 ghost use Rattle.std.specs.Ordering.{nat_cmp};
 ghost use Rattle.std.specs.Cmp.Lexicographic.{slice_cmp};
 ghost use Rattle.std.specs.Vec.{vec_len, vec_capacity};
-ghost use Rattle.hv_world.specs.Views.{term_view, atom_view};
-ghost use Rattle.hv_world.specs.Bindings.{objects_in};
-ghost use Rattle.hv_state.specs.Atoms.{object_of, objects_read, atom_read};
-ghost use Rattle.hv_state.specs.Rows.{row_of, atom_of, rows_under, rows_in, Ascend, IsPlace, IsWithout, IsWith, IsWithoutAll, IsWithAll, HasSameRows};
+ghost use Rattle.hv_state.specs.Atoms.{objects_read, atom_read};
+ghost use Rattle.hv_state.specs.inside.Rows.{row_of, atom_of, rows_in, rows_with};
+ghost use Rattle.hv_state.specs.inside.Rows.{objects_with, HaveCome};
+ghost use Rattle.hv_state.specs.inside.Rows.{Ascend, IsPlace, HasSameRows};
+ghost use Rattle.hv_state.specs.inside.Rows.{IsWithout, IsWith, IsWithoutAll, IsWithAll};
 
 use crate::atom::{AtomView, Objects, object_of};
 use hv_text::Memory;
@@ -64,7 +65,7 @@ fn atom_in(row: &[usize]) -> AtomView<'_>
 
 // How objects stand to those of terms.
 fn compare_to_terms(objects: &[usize], terms: &[Term], binding: &Binding<'_>) -> Ordering
-    ensures { result ≡ slice_cmp nat_cmp objects.now (map (object_of (objects_in binding.now)) (map term_view terms.now)) }
+    ensures { result ≡ slice_cmp nat_cmp objects.now (objects_with binding.now terms.now) }
 {
     let mut left = terms;
     for object in objects {
@@ -139,7 +140,8 @@ fn remove(rows: &mut Vec<Row>, row: &[usize])
 pub(crate) fn remove_all(rows: &mut Vec<Row>, gone: &[Row])
     requires { Ascend (rows_in rows.old.items) }
     ensures ascend { Ascend (rows_in rows.new.items) }
-    ensures exact { IsWithoutAll (rows_in rows.old.items) (rows_in gone.now) (rows_in rows.new.items) }
+    ensures exact { IsWithoutAll
+        (rows_in rows.old.items) (rows_in gone.now) (rows_in rows.new.items) }
     ensures fewer { vec_len rows.new ≤ vec_len rows.old }
     ensures capacity { vec_capacity rows.new ≡ vec_capacity rows.old }
 {
@@ -153,7 +155,8 @@ fn put(rows: &mut Vec<Row>, row: Row)
     requires ascend { Ascend (rows_in rows.old.items) }
     requires room { vec_len rows.old < vec_capacity rows.old }
     ensures ascend { Ascend (rows_in rows.new.items) }
-    ensures exact { IsWith (rows_in rows.old.items) row.numbers.value.items (rows_in rows.new.items) }
+    ensures exact { IsWith
+        (rows_in rows.old.items) row.numbers.value.items (rows_in rows.new.items) }
     ensures more { vec_len rows.new ≤ vec_len rows.old + 1 }
     ensures capacity { vec_capacity rows.old ≤ vec_capacity rows.new }
 {
@@ -167,7 +170,8 @@ pub(crate) fn put_all(rows: &mut Vec<Row>, mut new: Vec<Row>)
     requires ascend { Ascend (rows_in rows.old.items) }
     requires room { vec_len rows.old + vec_len new ≤ vec_capacity rows.old }
     ensures ascend { Ascend (rows_in rows.new.items) }
-    ensures exact { IsWithAll (rows_in rows.old.items) (rows_in new.items) (rows_in rows.new.items) }
+    ensures exact { IsWithAll
+        (rows_in rows.old.items) (rows_in new.items) (rows_in rows.new.items) }
 {
     'puts: while let Some(row) = new.pop() {
         put(rows, row);
@@ -176,7 +180,8 @@ pub(crate) fn put_all(rows: &mut Vec<Row>, mut new: Vec<Row>)
 
 // Puts the objects of terms behind other numbers.
 fn push_objects(row: &mut Vec<usize>, terms: &[Term], binding: &Binding<'_>) -> Result<(), Memory>
-    ensures { IfOk result (λ _. row.new.items ≡ row.old.items ++ map (object_of (objects_in binding.now)) (map term_view terms.now)) }
+    ensures { IfOk result
+        (λ _. row.new.items ≡ row.old.items ++ objects_with binding.now terms.now) }
 {
     row.reserve(terms.len())?;
     for term in terms {
@@ -213,7 +218,8 @@ pub(crate) fn push_rows(
     atoms: &[Atom],
     binding: &Binding<'_>,
 ) -> Result<(), Memory>
-    ensures { IfOk result (λ _. rows_in rows.new.items ≡ rows_in rows.old.items ++ rows_under (objects_in binding.now) (map atom_view atoms.now)) }
+    ensures { IfOk result
+        (λ _. HaveCome rows.old.items (rows_with binding.now atoms.now) rows.new.items) }
 {
     for atom in atoms {
         rows.push(row_of(alloc, &AtomView::new(atom, &*binding))?)?;
@@ -227,7 +233,7 @@ pub(crate) fn rows_of(
     atoms: &[Atom],
     binding: &Binding<'_>,
 ) -> Result<Vec<Row>, Memory>
-    ensures { IfOk result (λ rows. rows_in rows.items ≡ rows_under (objects_in binding.now) (map atom_view atoms.now)) }
+    ensures { IfOk result (λ rows. rows_in rows.items ≡ rows_with binding.now atoms.now) }
 {
     let mut rows = Vec::new(alloc);
     push_rows(alloc, &mut rows, atoms, binding)?;
@@ -245,7 +251,7 @@ pub(crate) fn sort_distinct(rows: &mut Vec<Row>)
 
 /// Puts rows behind others once more, shared.
 pub(crate) fn push_copies(rows: &mut Vec<Row>, more: &[Row]) -> Result<(), Memory>
-    ensures { IfOk result (λ _. rows_in rows.new.items ≡ rows_in rows.old.items ++ rows_in more.now) }
+    ensures { IfOk result (λ _. HaveCome rows.old.items (rows_in more.now) rows.new.items) }
 {
     rows.reserve(more.len())?;
     for row in more {

@@ -1,7 +1,7 @@
 //! A state as a sorted list of its atoms.
 
 ghost use Rattle.std.specs.Prelude.{ℕ, List};
-ghost use Rattle.hv_state.specs.Rows.{rows_in, Ascend, Listed};
+ghost use Rattle.hv_state.specs.inside.Rows.{rows_in, Ascend, Listed};
 
 use crate::atom::AtomView;
 use crate::ground::GroundAtoms;

@@ -1,9 +1,9 @@
 //! States: sets of atoms without variables.
 
-ghost use Rattle.std.specs.Prelude.{◌↔◌, [], IsTrue, IfOk, OnOk, OnErr};
-ghost use Rattle.std.specs.List.{Contains};
+ghost use Rattle.std.specs.Prelude.{◌↔◌, IsTrue, IfOk, OnOk, OnErr};
 ghost use Rattle.hv_world.specs.WorldViews.{world_view};
-ghost use Rattle.hv_state.specs.Atoms.{GroundAtom, Same, After, atoms_under, atom_read};
+ghost use Rattle.hv_state.specs.Atoms.{GroundAtom, Same, After, atom_read};
+ghost use Rattle.hv_state.specs.Plans.{Start};
 
 use crate::atom::AtomView;
 use crate::ground::GroundAtoms;
@@ -21,7 +21,7 @@ pub trait State: Sized + Drop {
     ///
     /// `Memory` where a growth was refused.
     fn initial(alloc: Global, world: &World<'_>) -> Result<Self, Memory>
-        ensures { IfOk result (λ s. Same (atoms s) (Contains (atoms_under [] (world_view world.now).init))) };
+        ensures { IfOk result (λ s. Same (atoms s) (Start (world_view world.now))) };
 
     /// The state that a world begins with, made for what these actions delete and add.
     ///
@@ -33,7 +33,7 @@ pub trait State: Sized + Drop {
         world: &World<'_>,
         _actions: &GroundActions,
     ) -> Result<Self, Memory>
-        ensures { IfOk result (λ s. Same (atoms s) (Contains (atoms_under [] (world_view world.now).init))) }
+        ensures { IfOk result (λ s. Same (atoms s) (Start (world_view world.now))) }
     {
         Self::initial(alloc, world)
     }
@@ -56,6 +56,7 @@ pub trait State: Sized + Drop {
     ///
     /// `Memory` where a growth was refused; the same atoms are true then as before.
     fn apply(&mut self, deletes: &GroundAtoms, adds: &GroundAtoms) -> Result<(), Memory>
-        ensures ok { OnOk result (Same (atoms self.new) (After (atoms self.old) deletes.now adds.now)) }
+        ensures ok { OnOk result
+            (Same (atoms self.new) (After (atoms self.old) deletes.now adds.now)) }
         ensures err { OnErr result (Same (atoms self.new) (atoms self.old)) };
 }

@@ -1,10 +1,8 @@
 //! The atoms that the actions of a plan touch.
 
-ghost use Rattle.std.specs.Prelude.{◌≡◌, ◌++◌, map, IfOk};
-ghost use Rattle.hv_world.specs.Bindings.{ground_action_view, ground_actions_view};
-ghost use Rattle.hv_world.specs.WorldViews.{world_view};
-ghost use Rattle.hv_state.specs.Rows.{row_of, rows_in, Ascend, HasSameRows};
-ghost use Rattle.hv_state.specs.Notes.{touched_by, touched_in};
+ghost use Rattle.std.specs.Prelude.{IfOk};
+ghost use Rattle.hv_state.specs.inside.Rows.{rows_in, HaveCome, Ascend, HasSameRows};
+ghost use Rattle.hv_state.specs.inside.Notes.{rows_touched_by, rows_touched_in};
 
 use crate::rows::{Row, push_rows, sort_distinct};
 use hv_text::Memory;
@@ -18,7 +16,8 @@ fn push_touched(
     world: &World<'_>,
     step: &GroundAction<'_>,
 ) -> Result<(), Memory>
-    ensures { IfOk result (λ _. rows_in rows.new.items ≡ rows_in rows.old.items ++ map row_of (touched_by (world_view world.now) (ground_action_view step.now))) }
+    ensures { IfOk result
+        (λ _. HaveCome rows.old.items (rows_touched_by world.now step.now) rows.new.items) }
 {
     if let Some(action) = world.action(step.action()) {
         let objects = Binding::Given(step.objects());
@@ -28,15 +27,16 @@ fn push_touched(
     Ok(())
 }
 
-/// The rows of all atoms that some of these actions deletes or adds, in order and each once. What is
-/// kept on the way is at most twice as long, and what one action touches.
+/// The rows of all atoms that some of these actions deletes or adds, in order and each once. What
+/// is kept on the way is at most twice as long, and what one action touches.
 pub(crate) fn touched(
     alloc: Global,
     world: &World<'_>,
     actions: &GroundActions,
 ) -> Result<Vec<Row>, Memory>
     ensures ascend { IfOk result (λ rows. Ascend (rows_in rows.items)) }
-    ensures exact { IfOk result (λ rows. HasSameRows (map row_of (touched_in (world_view world.now) (ground_actions_view actions.now))) (rows_in rows.items)) }
+    ensures exact { IfOk result
+        (λ rows. HasSameRows (rows_touched_in world.now actions.now) (rows_in rows.items)) }
 {
     let mut rows = Vec::new(alloc);
     let mut distinct = 0;

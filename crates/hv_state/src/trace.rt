@@ -1,11 +1,10 @@
 //! The states that a plan passes.
 
-ghost use Rattle.std.specs.Prelude.{◌≡◌, ◌≤◌, ◌<◌, ◌↔◌, ◌+◌, ℕ, length, IsTrue, IfOk, IfErr, MatchOption};
+ghost use Rattle.std.specs.Prelude.{◌≡◌, ◌≤◌, ◌<◌, ◌↔◌, ◌+◌, ℕ, length};
+ghost use Rattle.std.specs.Prelude.{IsTrue, IfOk, IfErr, MatchOption};
 ghost use Rattle.hv_world.specs.Views.{formula_view};
-ghost use Rattle.hv_world.specs.Bindings.{objects_in, ground_actions_view};
-ghost use Rattle.hv_world.specs.WorldViews.{world_view};
-ghost use Rattle.hv_state.specs.Truth.{True};
-ghost use Rattle.hv_state.specs.Plans.{Plan, plan, StateAt, CanRun, IsStop, GoalHolds};
+ghost use Rattle.hv_world.specs.Bindings.{objects_in};
+ghost use Rattle.hv_state.specs.Plans.{Plan, plan_of, IsTrueAt, CanRun, IsStop, GoalHolds};
 ghost use Rattle.hv_state.specs.Changes.{IsNextChange, AreFalse, IsFirstTrue};
 
 use crate::changes::{Changes, Moment};
@@ -49,19 +48,18 @@ pub struct Trace<'a, 's, S: State> {
 
 impl<'a, 's, S: State> Model for Trace<'a, 's, S> {
     ghost use Rattle.std.specs.Coded.{codes};
-    ghost use Rattle.hv_world.specs.Bindings.{ground_actions_view};
-    ghost use Rattle.hv_world.specs.WorldViews.{world_view};
-    ghost use Rattle.hv_state.specs.Codes.{formula_code};
-    ghost use Rattle.hv_state.specs.Plans.{Plan, plan};
-    ghost use Rattle.hv_state.specs.Notes.{IsRecorded};
+    ghost use Rattle.hv_state.specs.inside.Codes.{formula_code};
+    ghost use Rattle.hv_state.specs.Plans.{Plan, plan_of};
+    ghost use Rattle.hv_state.specs.inside.Notes.{IsRecorded};
 
     ghost Value = { Plan };
 
     ghost coded = { Prim.hlevel (codes, formula_code) };
 
-    ghost view = { λ t. plan (world_view t.world.now) (ground_actions_view t.actions.now) };
+    ghost view = { λ t. plan_of t.world.now t.actions.now };
 
-    ghost invariant = { λ t. IsRecorded (plan (world_view t.world.now) (ground_actions_view t.actions.now)) (S.atoms t.first) t.changes };
+    ghost invariant = { λ t.
+        IsRecorded (plan_of t.world.now t.actions.now) (S.atoms t.first) t.changes };
 }
 
 impl<'a, 's, S: State> Trace<'a, 's, S> {
@@ -76,9 +74,9 @@ impl<'a, 's, S: State> Trace<'a, 's, S> {
         world: &'a World<'s>,
         actions: &'a GroundActions,
     ) -> Result<Trace<'a, 's, S>, Stop>
-        ensures plan { IfOk result (λ t. t ≡ plan (world_view world.now) (ground_actions_view actions.now)) }
-        ensures ran { IfOk result (λ _. CanRun (plan (world_view world.now) (ground_actions_view actions.now))) }
-        ensures stop { IfErr result (IsStop (plan (world_view world.now) (ground_actions_view actions.now))) }
+        ensures plan { IfOk result (λ t. t ≡ plan_of world.now actions.now) }
+        ensures ran { IfOk result (λ _. CanRun (plan_of world.now actions.now)) }
+        ensures stop { IfErr result (IsStop (plan_of world.now actions.now)) }
     {
         let first = S::initial_for(alloc, world, actions)?;
         let mut state = first.copy(alloc)?;
@@ -107,7 +105,7 @@ impl<'a, 's, S: State> Trace<'a, 's, S> {
     /// Whether a formula is true after the first `k` actions.
     pub fn holds_at(&self, k: usize, formula: &Formula, binding: &Binding<'_>) -> bool
         requires { k ≤ length self.now.actions }
-        ensures { IsTrue result ↔ True self.now.world.typing (StateAt self.now k) (formula_view formula.now) (objects_in binding.now) }
+        ensures { IsTrue result ↔ IsTrueAt self.now k formula.now binding.now }
     {
         let moment = Moment {
             first: &self.first,
@@ -121,8 +119,10 @@ impl<'a, 's, S: State> Trace<'a, 's, S> {
     /// last. Until there the formula stays as it is after `k` actions.
     pub fn unchanged_until(&self, k: usize, formula: &Formula, binding: &Binding<'_>) -> usize
         requires { k ≤ length self.now.actions }
-        ensures next { IsNextChange self.now k (formula_view formula.now) (objects_in binding.now) result }
-        ensures same { (j : ℕ) → k ≤ j → j < result → True self.now.world.typing (StateAt self.now j) (formula_view formula.now) (objects_in binding.now) ↔ True self.now.world.typing (StateAt self.now k) (formula_view formula.now) (objects_in binding.now) }
+        ensures next { IsNextChange self.now k
+            (formula_view formula.now) (objects_in binding.now) result }
+        ensures same { (j : ℕ) → k ≤ j → j < result → IsTrueAt self.now j formula.now binding.now
+            ↔ IsTrueAt self.now k formula.now binding.now }
     {
         next_change(
             self.world,
@@ -144,7 +144,10 @@ impl<'a, 's, S: State> Trace<'a, 's, S> {
         binding: &Binding<'_>,
     ) -> Option<(usize, usize)>
         requires { upto ≤ length self.now.actions }
-        ensures { MatchOption result (AreFalse self.now (formula_view formula.now) (objects_in binding.now) from (upto + 1)) (λ r. IsFirstTrue self.now (formula_view formula.now) (objects_in binding.now) from upto r.0 r.1) }
+        ensures { MatchOption result
+            (AreFalse self.now (formula_view formula.now) (objects_in binding.now) from (upto + 1))
+            (λ r. IsFirstTrue self.now (formula_view formula.now) (objects_in binding.now)
+            from upto r.0 r.1) }
     {
         let mut at = from;
         while at <= upto {

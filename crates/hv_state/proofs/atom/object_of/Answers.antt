@@ -1,7 +1,6 @@
 use Rattle.std.proofs.Common.{◌≡◌, slice_index_or, ap, sym, ◌∙◌}
-use Rattle.hv_world.specs.Bindings.{objects_in}
+use Rattle.hv_world.specs.Bindings.{objects_in, object_of}
 use Rattle.hv_world.specs.Views.{term_view}
-use Rattle.hv_state.specs.Atoms.{object_of}
 use Rattle.hv_state.proofs.TermLemmas.{object_past}
 use Rattle.hv_state.proofs.atom.object_of.Goals as goal
 

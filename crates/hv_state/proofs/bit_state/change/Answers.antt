@@ -1,4 +1,4 @@
-use Rattle.hv_state.specs.Rows.{rows_in}
+use Rattle.hv_state.specs.inside.Rows.{rows_in}
 use Rattle.hv_state.proofs.LitLemmas.{changed}
 use Rattle.hv_state.proofs.bit_state.change.Goals as goal
 

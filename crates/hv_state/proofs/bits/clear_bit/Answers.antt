@@ -1,7 +1,7 @@
 use Rattle.std.proofs.Common.{◌≡◌, ℕ, ◌/◌, ◌%◌, ◌*◌, ◌^◌, ◌↔◌, w64, bit_and, set, subst, sym}
 use Rattle.std.proofs.lemmas.List.{get_or_read}
 use Rattle.std.specs.Int.{bit_not}
-use Rattle.hv_state.specs.Bits.{Has}
+use Rattle.hv_state.specs.inside.Bits.{Has}
 use Rattle.hv_state.proofs.BitLemmas.{bit_cleared}
 use Rattle.hv_state.proofs.bits.clear_bit.Goals as goal
 

@@ -1,6 +1,6 @@
 use Rattle.std.proofs.Common.{◌≡◌, ℕ, ◌/◌, ◌%◌, ◌*◌, ◌^◌, ◌↔◌, ◌⊎◌, bit_or, set, subst, sym}
 use Rattle.std.proofs.lemmas.List.{get_or_read}
-use Rattle.hv_state.specs.Bits.{Has}
+use Rattle.hv_state.specs.inside.Bits.{Has}
 use Rattle.hv_state.proofs.BitLemmas.{bit_set}
 use Rattle.hv_state.proofs.bits.set_bit.Goals as goal
 

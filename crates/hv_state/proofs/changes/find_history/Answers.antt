@@ -3,7 +3,7 @@ use Rattle.std.specs.Ordering.{nat_cmp}
 use Rattle.std.specs.Cmp.Lexicographic.{slice_cmp}
 use Rattle.std.proofs.lemmas.Fn.{answers_by}
 use Rattle.hv_state.specs.Atoms.{atom_read}
-use Rattle.hv_state.specs.Rows.{row_of, Ascend, IsPlace}
+use Rattle.hv_state.specs.inside.Rows.{row_of, Ascend, IsPlace}
 use Rattle.hv_state.specs.declared.changes.History.{History}
 use Rattle.hv_state.proofs.HistoryLemmas.{searched, rows_are}
 use Rattle.hv_state.proofs.changes.find_history.Goals as goal

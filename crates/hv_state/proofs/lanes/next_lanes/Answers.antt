@@ -2,7 +2,7 @@ use Rattle.std.proofs.Common.{◌≡◌, ◌≤◌, ◌+◌, length, take, drop,
 use Rattle.std.specs.Simd.Lanes.{put_chunk}
 use Rattle.std.proofs.lemmas.Simd.{put_chunk_is}
 use Rattle.std.proofs.lemmas.Grind.{common_steps}
-use Rattle.hv_state.specs.Bits.{next_words}
+use Rattle.hv_state.specs.Words.{next_words}
 use Rattle.hv_state.proofs.WordLemmas.{lanes_are, length-next_words}
 use Rattle.hv_state.proofs.lanes.next_lanes.Goals as goal
 

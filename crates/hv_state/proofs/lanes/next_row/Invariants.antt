@@ -1,5 +1,5 @@
 use Rattle.std.proofs.Common.{◌≡◌, ◌≤◌, ◌++◌, ◌-◌, length, take, drop}
-use Rattle.hv_state.specs.Bits.{next_words}
+use Rattle.hv_state.specs.Words.{next_words}
 use Rattle.hv_state.proofs.lanes.next_row.Given as goal
 
 -- the words so far are the next ones, and the others are as they were

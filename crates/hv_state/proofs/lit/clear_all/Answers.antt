@@ -1,7 +1,7 @@
 use Rattle.std.proofs.Common.{◌↔◌, List, ℕ, drop, ◌+◌, subst, ◌∙◌}
 use Rattle.std.specs.List.{Contains}
-use Rattle.hv_state.specs.Rows.{rows_in}
-use Rattle.hv_state.specs.Bits.{Lit, IsDark}
+use Rattle.hv_state.specs.inside.Rows.{rows_in}
+use Rattle.hv_state.specs.inside.Bits.{Lit, IsDark}
 use Rattle.hv_state.proofs.RowLemmas.{rows_left, no_rows_left}
 use Rattle.hv_state.proofs.BitLemmas.{cleared_more, all_cleared}
 use Rattle.hv_state.proofs.lit.clear_all.Goals as goal

@@ -1,4 +1,4 @@
-use Rattle.hv_state.specs.Rows.{rows_in}
+use Rattle.hv_state.specs.inside.Rows.{rows_in}
 use Rattle.hv_state.proofs.RowLemmas.{place_tells}
 use Rattle.hv_state.proofs.lit.has_row.Goals as goal
 

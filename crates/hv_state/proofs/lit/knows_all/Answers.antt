@@ -1,7 +1,7 @@
 use Rattle.std.proofs.Common.{drop, ◌+◌, sym, subst}
 use Rattle.std.specs.List.{Contains}
-use Rattle.hv_state.specs.Rows.{rows_in}
-use Rattle.hv_state.specs.Bits.{Knows}
+use Rattle.hv_state.specs.inside.Rows.{rows_in}
+use Rattle.hv_state.specs.inside.Bits.{Knows}
 use Rattle.hv_state.proofs.RowLemmas.{rows_left, no_rows_left, contains_none}
 use Rattle.hv_state.proofs.BitLemmas.{knows_more}
 use Rattle.hv_state.proofs.lit.knows_all.Goals as goal

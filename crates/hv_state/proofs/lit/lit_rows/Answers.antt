@@ -1,6 +1,6 @@
 use Rattle.std.proofs.Common.{true≢false, sym, ap, ◌∙◌, arith}
 use Rattle.std.proofs.lemmas.List.{length-map}
-use Rattle.hv_state.specs.Rows.{rows_in}
+use Rattle.hv_state.specs.inside.Rows.{rows_in}
 use Rattle.hv_state.specs.declared.rows.Row.{Row}
 use Rattle.hv_state.proofs.LitLemmas.{push_lit, skip_dark, lit_of_all}
 use Rattle.hv_state.proofs.lit.lit_rows.Goals as goal

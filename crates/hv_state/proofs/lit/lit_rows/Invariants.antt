@@ -1,6 +1,6 @@
 use Rattle.std.proofs.Common.{◌↔◌, List, ℕ}
 use Rattle.std.specs.List.{Contains}
-use Rattle.hv_state.specs.Rows.{rows_in}
+use Rattle.hv_state.specs.inside.Rows.{rows_in}
 use Rattle.hv_state.proofs.BitLemmas.{LitBelow}
 use Rattle.hv_state.proofs.lit.lit_rows.Given as goal
 

@@ -1,4 +1,4 @@
-use Rattle.hv_state.specs.Rows.{rows_in}
+use Rattle.hv_state.specs.inside.Rows.{rows_in}
 use Rattle.hv_state.proofs.RowLemmas.{gap_lacks}
 use Rattle.hv_state.proofs.BitLemmas.{row_set}
 use Rattle.hv_state.proofs.lit.set.Goals as goal

@@ -1,7 +1,7 @@
 use Rattle.std.proofs.Common.{◌↔◌, ◌⊎◌, List, ℕ, drop, ◌+◌, sym, subst, ◌∙◌}
 use Rattle.std.specs.List.{Contains}
-use Rattle.hv_state.specs.Rows.{rows_in}
-use Rattle.hv_state.specs.Bits.{Lit, IsLit}
+use Rattle.hv_state.specs.inside.Rows.{rows_in}
+use Rattle.hv_state.specs.inside.Bits.{Lit, IsLit}
 use Rattle.hv_state.proofs.RowLemmas.{rows_left, no_rows_left, contains_later}
 use Rattle.hv_state.proofs.BitLemmas.{set_more, all_set}
 use Rattle.hv_state.proofs.lit.set_all.Goals as goal

@@ -1,7 +1,7 @@
 use Rattle.std.proofs.Common.{◌≡◌, ◌↔◌, ◌⊎◌, List, ℕ, length, drop}
 use Rattle.std.specs.List.{Contains}
-use Rattle.hv_state.specs.Rows.{rows_in}
-use Rattle.hv_state.specs.Bits.{Lit, Knows}
+use Rattle.hv_state.specs.inside.Rows.{rows_in}
+use Rattle.hv_state.specs.inside.Bits.{Lit, Knows}
 use Rattle.hv_state.proofs.lit.set_all.Given as goal
 
 -- what is left to set

@@ -5,7 +5,8 @@ use Rattle.hv_world.specs.Values.{formulas_of}
 use Rattle.hv_world.specs.Views.{formula_view, type_number}
 use Rattle.hv_state.specs.Atoms.{GroundAtom}
 use Rattle.hv_state.specs.Truth.{ForSome}
-use Rattle.hv_state.specs.Changes.{Mentions, SomeMention, IsNext}
+use Rattle.hv_state.specs.Changes.{Mentions, SomeMention}
+use Rattle.hv_state.specs.inside.Histories.{IsNext}
 use Rattle.hv_state.proofs.Levels.{levels, most_levels}
 use Rattle.hv_state.proofs.FormulaLemmas.{view-Forall, view-Exists, part_below}
 use Rattle.hv_state.proofs.Chosen.{front}

@@ -4,7 +4,8 @@ use Rattle.hv_world.specs.Views.{formula_view, type_number}
 use Rattle.hv_world.specs.Bindings.{objects_in}
 use Rattle.hv_world.specs.WorldViews.{world_view}
 use Rattle.hv_state.specs.Truth.{ForSome}
-use Rattle.hv_state.specs.Changes.{Mentions, IsNext}
+use Rattle.hv_state.specs.Changes.{Mentions}
+use Rattle.hv_state.specs.inside.Histories.{IsNext}
 use Rattle.hv_state.proofs.Levels.{levels, most_levels}
 use Rattle.hv_state.proofs.NextLemmas.{SomeOf}
 use Rattle.hv_state.proofs.next.+next_change.Given as goal

@@ -1,6 +1,6 @@
 use Rattle.std.proofs.Common.{◌∷◌, ◌+◌, [], drop, map, sym, subst}
-use Rattle.hv_state.specs.Rows.{atom_of, rows_in}
-use Rattle.hv_state.specs.Notes.{AreNoted}
+use Rattle.hv_state.specs.inside.Rows.{atom_of, rows_in}
+use Rattle.hv_state.specs.inside.Notes.{AreNoted}
 use Rattle.hv_state.proofs.RowLemmas.{rows_left, no_rows_left}
 use Rattle.hv_state.proofs.NoteLemmas.{noted_both, noted_nothing}
 use Rattle.hv_state.proofs.pass.note_all.Goals as goal
@@ -13,8 +13,8 @@ loop-row-preserved g c = λ t m.
     let rows = c.args.rows.now in
     let i = c.loop-row.row-index in
     let first = atom_of c.row-item.result.numbers.value.items in
-    let one = subst (λ x. AreNoted start now from (x ∷ []) c.loop-row.changes c.note.new.changes) c.atom.ensures c.in_ok-note.ensures in
-    let both = noted_both start now from (first ∷ []) (map atom_of (rows_in (drop (i + 1) rows))) c.loop-row.changes c.note.new.changes t one m in
+    let one = subst (λ x. AreNoted start now from (x ∷ []) c.loop-row.changes c.note.new.self) c.atom.ensures c.in_ok-note.ensures in
+    let both = noted_both start now from (first ∷ []) (map atom_of (rows_in (drop (i + 1) rows))) c.loop-row.changes c.note.new.self t one m in
     c.loop-row.invariant t (subst (λ xs. AreNoted start now from (map atom_of xs) c.loop-row.changes t) (sym (rows_left rows i c.row-item.result c.loop-row-test.true c.row-item.is)) both)
 
 pub returns : goal.returns

@@ -1,7 +1,7 @@
 use Rattle.std.proofs.Common.{drop, map}
-use Rattle.hv_state.specs.Changes.{Table}
-use Rattle.hv_state.specs.Rows.{atom_of, rows_in}
-use Rattle.hv_state.specs.Notes.{AreNoted}
+use Rattle.hv_state.specs.inside.Histories.{Table}
+use Rattle.hv_state.specs.inside.Rows.{atom_of, rows_in}
+use Rattle.hv_state.specs.inside.Notes.{AreNoted}
 use Rattle.hv_state.proofs.pass.note_all.Given as goal
 
 -- what is left, once noted, makes all noted

@@ -3,7 +3,7 @@ use Rattle.hv_world.specs.Bindings.{object_number, ground_action_view}
 use Rattle.hv_world.specs.SectionViews.{action_view}
 use Rattle.hv_world.specs.WorldViews.{world_view}
 use Rattle.hv_state.specs.Atoms.{atoms_under}
-use Rattle.hv_state.specs.Notes.{AreNoted}
+use Rattle.hv_state.specs.inside.Notes.{AreNoted}
 use Rattle.hv_state.proofs.StateLemmas.{atoms_are}
 use Rattle.hv_state.proofs.NoteLemmas.{passed}
 use Rattle.hv_state.proofs.pass.pass.Goals as goal

@@ -1,7 +1,6 @@
 use Rattle.std.proofs.Common.{sym, ◌∙◌}
-use Rattle.hv_world.specs.Bindings.{objects_in}
+use Rattle.hv_world.specs.Bindings.{objects_in, object_of}
 use Rattle.hv_world.specs.Views.{term_view}
-use Rattle.hv_state.specs.Atoms.{object_of}
 use Rattle.hv_state.proofs.TermLemmas.{more_objects}
 use Rattle.hv_state.proofs.rows.compare_to_terms.Goals as goal
 

@@ -2,8 +2,7 @@ use Rattle.std.proofs.Common.{◌≡◌, drop, map}
 use Rattle.std.specs.Ordering.{nat_cmp}
 use Rattle.std.specs.Cmp.Lexicographic.{slice_cmp}
 use Rattle.hv_world.specs.Views.{term_view}
-use Rattle.hv_world.specs.Bindings.{objects_in}
-use Rattle.hv_state.specs.Atoms.{object_of}
+use Rattle.hv_world.specs.Bindings.{objects_in, object_of}
 use Rattle.hv_state.proofs.rows.compare_to_terms.Given as goal
 
 -- what is left decides

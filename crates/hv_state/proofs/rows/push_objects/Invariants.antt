@@ -1,7 +1,6 @@
 use Rattle.std.proofs.Common.{◌≡◌, ◌++◌, drop, map}
 use Rattle.hv_world.specs.Views.{term_view}
-use Rattle.hv_world.specs.Bindings.{objects_in}
-use Rattle.hv_state.specs.Atoms.{object_of}
+use Rattle.hv_world.specs.Bindings.{objects_in, object_of}
 use Rattle.hv_state.proofs.rows.push_objects.Given as goal
 
 -- the numbers so far, and what is left

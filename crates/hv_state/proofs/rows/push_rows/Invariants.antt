@@ -1,7 +1,7 @@
 use Rattle.std.proofs.Common.{◌≡◌, ◌++◌, drop, map}
 use Rattle.hv_world.specs.Views.{atom_view}
 use Rattle.hv_world.specs.Bindings.{objects_in}
-use Rattle.hv_state.specs.Rows.{rows_in, rows_under}
+use Rattle.hv_state.specs.inside.Rows.{rows_in, rows_under}
 use Rattle.hv_state.proofs.rows.push_rows.Given as goal
 
 -- the rows so far, and what is left

@@ -1,5 +1,5 @@
 use Rattle.std.proofs.Common.{◌≡◌, subst, ap, ◌∙◌, Err}
-use Rattle.hv_state.specs.Rows.{rows_in, IsPlace}
+use Rattle.hv_state.specs.inside.Rows.{rows_in, IsPlace}
 use Rattle.hv_state.proofs.RowLemmas.{insert_ascends, insert_with, put_there}
 use Rattle.hv_state.proofs.rows.put.Goals as goal
 

@@ -1,7 +1,7 @@
 use Rattle.std.proofs.Common.{◌≡◌, ◌⊎◌, List, ℕ, length, rules, arith, ap, sym, ◌∙◌}
 use Rattle.std.specs.Vec.{vec_len}
 use Rattle.std.specs.List.{Contains}
-use Rattle.hv_state.specs.Rows.{rows_in}
+use Rattle.hv_state.specs.inside.Rows.{rows_in}
 use Rattle.hv_state.proofs.RowLemmas.{put_in_more, put_in, none_left}
 use Rattle.hv_state.proofs.rows.put_all.Goals as goal
 

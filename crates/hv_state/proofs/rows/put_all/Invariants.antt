@@ -1,7 +1,7 @@
 use Rattle.std.proofs.Common.{◌+◌, ◌≤◌, ◌↔◌, ◌⊎◌, List, ℕ}
 use Rattle.std.specs.Vec.{vec_len, vec_capacity}
 use Rattle.std.specs.List.{Contains}
-use Rattle.hv_state.specs.Rows.{rows_in, Ascend}
+use Rattle.hv_state.specs.inside.Rows.{rows_in, Ascend}
 use Rattle.hv_state.proofs.rows.put_all.Given as goal
 
 -- what is left to put in

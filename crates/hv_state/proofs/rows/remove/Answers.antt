@@ -1,5 +1,5 @@
 use Rattle.std.proofs.Common.{subst, Ok, Err}
-use Rattle.hv_state.specs.Rows.{rows_in, IsPlace}
+use Rattle.hv_state.specs.inside.Rows.{rows_in, IsPlace}
 use Rattle.hv_state.proofs.RowLemmas.{remove_ascends, remove_without, gap_without}
 use Rattle.hv_state.proofs.rows.remove.Goals as goal
 

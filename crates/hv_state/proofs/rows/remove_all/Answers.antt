@@ -1,6 +1,6 @@
 use Rattle.std.proofs.Common.{◌≡◌, ◌↔◌, List, ℕ, subst, ap, arith, ◌∙◌}
 use Rattle.std.specs.List.{Contains}
-use Rattle.hv_state.specs.Rows.{rows_in, IsWithout}
+use Rattle.hv_state.specs.inside.Rows.{rows_in, IsWithout}
 use Rattle.hv_state.proofs.RowLemmas.{rows_left, no_rows_left, take_out_more, taken_out}
 use Rattle.hv_state.proofs.rows.remove_all.Goals as goal
 

@@ -3,8 +3,8 @@ use Rattle.std.specs.List.{Contains}
 use Rattle.std.proofs.lemmas.List.{at_drop_all}
 use Rattle.hv_world.specs.Bindings.{ground_action_view, ground_actions_view}
 use Rattle.hv_world.specs.WorldViews.{world_view}
-use Rattle.hv_state.specs.Rows.{row_of, rows_in, HasSameRows}
-use Rattle.hv_state.specs.Notes.{touched_in}
+use Rattle.hv_state.specs.inside.Rows.{row_of, rows_in, HasSameRows}
+use Rattle.hv_state.specs.inside.Notes.{touched_in}
 use Rattle.hv_state.proofs.RowLemmas.{put_in}
 use Rattle.hv_state.proofs.NoteLemmas.{actions_left, touched_more}
 use Rattle.hv_state.proofs.touched.touched.Goals.{then-len-distinct, else-len-distinct}

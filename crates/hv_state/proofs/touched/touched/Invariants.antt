@@ -2,8 +2,8 @@ use Rattle.std.proofs.Common.{◌↔◌, ◌⊎◌, List, ℕ, drop, map}
 use Rattle.std.specs.List.{Contains}
 use Rattle.hv_world.specs.Bindings.{ground_actions_view}
 use Rattle.hv_world.specs.WorldViews.{world_view}
-use Rattle.hv_state.specs.Rows.{row_of, rows_in}
-use Rattle.hv_state.specs.Notes.{touched_in}
+use Rattle.hv_state.specs.inside.Rows.{row_of, rows_in}
+use Rattle.hv_state.specs.inside.Notes.{touched_in}
 use Rattle.hv_state.proofs.touched.touched.Given as goal
 
 -- the rows so far, and those of what is left

@@ -1,6 +1,6 @@
 use Rattle.std.proofs.Common.{◌↔◌, List, ℕ, sym, subst, ap, ◌∙◌}
-use Rattle.hv_state.specs.Rows.{rows_in}
-use Rattle.hv_state.specs.Bits.{Bits, Lit, Knows}
+use Rattle.hv_state.specs.inside.Rows.{rows_in}
+use Rattle.hv_state.specs.inside.Bits.{Bits, Lit, Knows}
 use Rattle.hv_state.proofs.bit_state.BitState.know_all.Goals as goal
 
 pub returns-in_ok-self-inside-clause-known : goal.returns-in_ok-self-inside-clause-known

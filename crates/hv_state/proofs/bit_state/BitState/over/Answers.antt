@@ -1,7 +1,7 @@
 use Rattle.std.proofs.Common.{◌↔◌, List, ℕ, sym, subst, ap, ◌∙◌}
 use Rattle.std.specs.List.{Contains}
-use Rattle.hv_state.specs.Rows.{rows_in}
-use Rattle.hv_state.specs.Bits.{Lit, Knows}
+use Rattle.hv_state.specs.inside.Rows.{rows_in}
+use Rattle.hv_state.specs.inside.Bits.{Lit, Knows}
 use Rattle.hv_state.proofs.LitLemmas.{knows_first, knows_second, lit_alone}
 use Rattle.hv_state.proofs.bit_state.BitState.over.Goals as goal
 

@@ -1,5 +1,5 @@
 use Rattle.std.proofs.Common.{ap, ◌∙◌}
-use Rattle.hv_state.specs.Rows.{rows_in}
+use Rattle.hv_state.specs.inside.Rows.{rows_in}
 use Rattle.hv_state.proofs.LitLemmas.{shown_same, pair_is}
 use Rattle.hv_state.proofs.bit_state.BitStateState.copy.Goals as goal
 

@@ -1,7 +1,7 @@
 use Rattle.std.proofs.Common.{◌↔◌, Ok, Err, IsTrue, true≢false, sym, subst, ap, ◌∙◌}
 use Rattle.hv_state.specs.Atoms.{atom_read}
-use Rattle.hv_state.specs.Rows.{row_of, rows_in, IsPlace}
-use Rattle.hv_state.specs.Bits.{Has, Lit}
+use Rattle.hv_state.specs.inside.Rows.{row_of, rows_in, IsPlace}
+use Rattle.hv_state.specs.inside.Bits.{Has, Lit}
 use Rattle.hv_state.proofs.LitLemmas.{found_lit, lacking_dark, both_ways}
 use Rattle.hv_state.proofs.bit_state.BitStateState.holds.Goals as goal
 

@@ -2,8 +2,8 @@ use Rattle.std.proofs.Common.{[], map, ap, ◌∙◌}
 use Rattle.std.specs.List.{Contains}
 use Rattle.hv_world.specs.WorldViews.{world_view}
 use Rattle.hv_state.specs.Atoms.{Same, atoms_under}
-use Rattle.hv_state.specs.Rows.{row_of, rows_in}
-use Rattle.hv_state.specs.Bits.{Shown}
+use Rattle.hv_state.specs.inside.Rows.{row_of, rows_in}
+use Rattle.hv_state.specs.inside.Bits.{Shown}
 use Rattle.hv_state.proofs.LitLemmas.{shown_begun, if_ok}
 use Rattle.hv_state.proofs.bit_state.BitStateState.initial_for.Goals as goal
 

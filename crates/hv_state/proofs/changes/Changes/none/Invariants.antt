@@ -1,6 +1,6 @@
 use Rattle.std.proofs.Common.{◌≡◌, [], map}
-use Rattle.hv_state.specs.Rows.{rows_in}
-use Rattle.hv_state.specs.Changes.{history_view}
+use Rattle.hv_state.specs.inside.Rows.{rows_in}
+use Rattle.hv_state.specs.inside.Histories.{history_view}
 use Rattle.hv_state.proofs.changes.Changes.none.Given as goal
 
 -- the rows so far

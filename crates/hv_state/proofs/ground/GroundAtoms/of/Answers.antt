@@ -2,7 +2,7 @@ use Rattle.std.proofs.Common.{map}
 use Rattle.hv_world.specs.Views.{atom_view}
 use Rattle.hv_world.specs.Bindings.{objects_in}
 use Rattle.hv_state.specs.Atoms.{atoms_under}
-use Rattle.hv_state.specs.Rows.{rows_in}
+use Rattle.hv_state.specs.inside.Rows.{rows_in}
 use Rattle.hv_state.proofs.StateLemmas.{atoms_are, rows_are}
 use Rattle.hv_state.proofs.ground.GroundAtoms.of.Goals as goal
 

@@ -1,5 +1,5 @@
 use Rattle.std.proofs.Common.{◌≡◌, subst, ap, ◌∙◌}
-use Rattle.hv_state.specs.Rows.{rows_in, IsWithoutAll}
+use Rattle.hv_state.specs.inside.Rows.{rows_in, IsWithoutAll}
 use Rattle.hv_state.proofs.StateLemmas.{same_if, on_err, applied}
 use Rattle.hv_state.proofs.sorted.SortedStateState.apply.Goals as goal
 

@@ -1,7 +1,7 @@
 use Rattle.std.proofs.Common.{[], ap, ◌∙◌}
 use Rattle.hv_world.specs.WorldViews.{world_view}
 use Rattle.hv_state.specs.Atoms.{atoms_under}
-use Rattle.hv_state.specs.Rows.{rows_in, rows_under}
+use Rattle.hv_state.specs.inside.Rows.{rows_in, rows_under}
 use Rattle.hv_state.proofs.StateLemmas.{begun}
 use Rattle.hv_state.proofs.sorted.SortedStateState.initial.Goals as goal
 

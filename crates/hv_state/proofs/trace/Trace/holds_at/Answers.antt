@@ -4,7 +4,8 @@ use Rattle.hv_world.specs.Views.{formula_view}
 use Rattle.hv_world.specs.WorldViews.{world_view}
 use Rattle.hv_state.specs.Truth.{True}
 use Rattle.hv_state.specs.Plans.{StateAt, plan}
-use Rattle.hv_state.specs.Changes.{TrueAfter, kept}
+use Rattle.hv_state.specs.Changes.{TrueAfter}
+use Rattle.hv_state.specs.inside.Histories.{kept}
 use Rattle.hv_state.proofs.PlanLemmas.{true_same}
 use Rattle.hv_state.proofs.NoteLemmas.{moment_is}
 use Rattle.hv_state.proofs.trace.Trace.holds_at.Goals as goal

@@ -2,7 +2,7 @@ use Rattle.std.proofs.Common.{◌≡◌, arith, false}
 use Rattle.hv_world.specs.Bindings.{ground_action_view, ground_actions_view}
 use Rattle.hv_world.specs.WorldViews.{world_view}
 use Rattle.hv_state.specs.Plans.{plan}
-use Rattle.hv_state.specs.Rows.{rows_in}
+use Rattle.hv_state.specs.inside.Rows.{rows_in}
 use Rattle.hv_state.proofs.NoteLemmas.{so_far_begun, so_far_more, so_far_stops}
 use Rattle.hv_state.proofs.trace.Trace.run.Goals as goal
 

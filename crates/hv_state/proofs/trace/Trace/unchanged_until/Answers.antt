@@ -4,7 +4,8 @@ use Rattle.hv_world.specs.Views.{formula_view}
 use Rattle.hv_world.specs.WorldViews.{world_view}
 use Rattle.hv_world.proofs.GroundingLemmas.{grounded_length}
 use Rattle.hv_state.specs.Plans.{plan}
-use Rattle.hv_state.specs.Changes.{Mentions, IsNext, IsNextChange}
+use Rattle.hv_state.specs.Changes.{Mentions, IsNextChange}
+use Rattle.hv_state.specs.inside.Histories.{IsNext}
 use Rattle.hv_state.proofs.NextLemmas.{next_change_is, stays_until}
 use Rattle.hv_state.proofs.trace.Trace.unchanged_until.Goals as goal
 

@@ -1,10 +1,15 @@
 -- Atoms as rows of numbers, in order.
-use Rattle.std.specs.Prelude.{◌≡◌, ℕ, ◌<◌, ◌≤◌, ◌↔◌, ◌⊎◌, List, [], ◌∷◌, map, length, Result, Ok, Err, slice_index_or}
+use Rattle.std.specs.Prelude.{◌≡◌, ℕ, ◌<◌, ◌≤◌, ◌↔◌, ◌⊎◌, List, [], ◌∷◌, ◌++◌, map, length, Result, Ok, Err, slice_index_or}
 use Rattle.std.specs.List.{AllPairs, Contains}
 use Rattle.std.specs.Ordering.{nat_cmp}
 use Rattle.std.specs.Cmp.Lexicographic.{slice_cmp}
 use Rattle.std.specs.declared.cmp.Ordering.TheVariants.{Less}
 use Rattle.hv_world.specs.Values.{Atom}
+use Rattle.hv_world.specs.Bindings.{objects_in, object_of}
+use Rattle.hv_world.specs.Views.{term_view, atom_view}
+use Rattle.hv_world.specs.declared.binding.Binding.{Binding}
+use Rattle.hv_world.specs.declared.formula.Atom as code_atom
+use Rattle.hv_world.specs.declared.formula.Term as code_term
 use Rattle.hv_state.specs.declared.rows.Row.{Row}
 use Rattle.hv_state.specs.Atoms.{GroundAtom, ground_atom, Atoms, atoms_under}
 
@@ -23,6 +28,17 @@ rows_under env xs = map row_of (atoms_under env xs)
 -- the rows that the code keeps
 abbrev pub rows_in : List Row → List (List ℕ)
 rows_in rs = map (λ r. r.numbers.value.items) rs
+
+-- these rows have come behind the old ones
+abbrev pub HaveCome : List Row → List (List ℕ) → List Row → Type 0
+HaveCome old more new = rows_in new ≡ rows_in old ++ more
+
+-- the rows of the atoms of the code, and the objects of its terms, where variables have those of a binding
+abbrev pub rows_with : Binding → List code_atom.Atom → List (List ℕ)
+rows_with b atoms = rows_under (objects_in b) (map atom_view atoms)
+
+abbrev pub objects_with : Binding → List code_term.Term → List ℕ
+objects_with b terms = map (object_of (objects_in b)) (map term_view terms)
 
 -- the atoms whose rows are listed
 abbrev pub Listed : List (List ℕ) → Atoms

@@ -1,9 +1,9 @@
 -- Sets of atoms as rows of bits.
-use Rattle.std.specs.Prelude.{◌≡◌, ℕ, ◌≤◌, ◌*◌, ◌/◌, ◌%◌, ◌↔◌, ◌⊎◌, List, [], ◌∷◌, length, slice_index, bit_and, bit_or}
+use Rattle.std.specs.Prelude.{◌≡◌, ℕ, ◌≤◌, ◌*◌, ◌/◌, ◌%◌, ◌↔◌, ◌⊎◌, List, length, slice_index}
 use Rattle.std.specs.List.{Contains}
-use Rattle.std.specs.Int.{bit_at, bit_not, w64}
+use Rattle.std.specs.Int.{bit_at}
 use Rattle.hv_state.specs.Atoms.{Atoms}
-use Rattle.hv_state.specs.Rows.{row_of, Ascend}
+use Rattle.hv_state.specs.inside.Rows.{row_of, Ascend}
 
 -- the bit of i is set; 64 bits stand in a word, and behind the last word none is set
 abbrev pub Has : List ℕ → ℕ → Type 0
@@ -49,8 +49,3 @@ Knows rows more = (r : List ℕ) → Contains more r → Contains rows r
 pub record AreBits (rows : List (List ℕ)) (words : List ℕ) : Type 0 where
   pub order : Ascend rows
   pub room : length rows ≤ 64 * length words
-
--- the words after deletes and then adds, for lists of one length
-abbrev pub next_words : List ℕ → List ℕ → List ℕ → List ℕ
-next_words (r ∷ row) (d ∷ deletes) (a ∷ adds) = bit_or (bit_and r (bit_not w64 d)) a ∷ next_words row deletes adds
-next_words _ _ _ = []

@@ -1,0 +1,7 @@
+-- How the code keeps states and changes, step by step, for its proofs. No public clause means any of this.
+pub mod Rows
+pub mod Histories
+pub mod Notes
+pub mod Bits
+pub mod Codes
+pub mod Parts

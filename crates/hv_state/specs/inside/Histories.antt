@@ -1,0 +1,60 @@
+-- The changes of atoms as the code keeps them, and the next of them.
+use Rattle.std.specs.Prelude.{◌≡◌, ℕ, ◌<◌, ◌≤◌, ◌⊎◌, List, [], ◌∷◌, map, bytes_eq, AllPairs, All, if◌then◌else◌}
+use Rattle.std.specs.List.{Contains}
+use Rattle.hv_state.specs.Atoms.{GroundAtom}
+use Rattle.hv_state.specs.Changes.{Change}
+use Rattle.hv_state.specs.inside.Bits.{Has}
+use Rattle.hv_state.specs.inside.Rows.{row_of, atom_of, Ascend}
+use Rattle.hv_state.specs.declared.changes.Change as code_change
+use Rattle.hv_state.specs.declared.changes.History as code_history
+
+-- the rows of atoms, and beside each the changes of its atom
+abbrev pub Table : Type 0
+Table = List (List ℕ × List Change)
+
+abbrev pub beside : Table → List ℕ → List Change
+beside [] row = []
+beside (e ∷ es) row = if bytes_eq row e.0 then e.1 else beside es row
+
+abbrev pub rows_of : Table → List (List ℕ)
+rows_of t = map (λ e. e.0) t
+
+-- the changes of an atom, as they are kept
+abbrev pub kept : Table → GroundAtom → List Change
+kept t g = beside t (row_of g)
+
+-- indices rise
+abbrev pub Rise : List Change → Type 0
+Rise cs = AllPairs (λ c d. c.0 < d.0) cs
+
+pub record IsTable (t : Table) : Type 0 where
+  pub rows : Ascend (rows_of t)
+  pub lists : All (λ e. Rise e.1) t
+
+abbrev pub change_view : code_change.Change → Change
+change_view c = (c.from, c.is_true)
+
+abbrev pub history_view : code_history.History → List ℕ × List Change
+history_view h = (h.row.numbers.value.items, map change_view h.changes.items)
+
+-- each predicate of these rows has its bit
+abbrev pub AreFlagged : List ℕ → List (List ℕ) → Type 0
+AreFlagged flags rows = (r : List ℕ) → Contains rows r → Has flags (atom_of r).predicate
+
+-- j is the first index after k at which one of these changes is, or else the end
+pub record IsNextIn (cs : List Change) (k end j : ℕ) : Type 0 where
+  pub after : k < j
+  pub within : j ≤ end
+  pub quiet : (c : Change) → Contains cs c → k < c.0 → j ≤ c.0
+  pub change : j < end → (c : Change) × Contains cs c × (c.0 ≡ j)
+
+-- the same of the changes of all these atoms
+pub record IsNext (t : Table) (k end : ℕ) (M : GroundAtom → Type 0) (j : ℕ) : Type 0 where
+  pub after : k < j
+  pub within : j ≤ end
+  pub quiet : (g : GroundAtom) → M g → (c : Change) → Contains (kept t g) c → k < c.0 → j ≤ c.0
+  pub change : j < end → (g : GroundAtom) × M g × ((c : Change) × Contains (kept t g) c × (c.0 ≡ j))
+
+-- the one of two numbers that is not above the other
+abbrev pub IsLeast : ℕ → ℕ → ℕ → Type 0
+IsLeast a b c = (c ≤ a) × (c ≤ b) × ((c ≡ a) ⊎ (c ≡ b))

@@ -1,0 +1,37 @@
+-- Truth, and what is spoken of, for what a formula of the code has for parts.
+use Rattle.std.specs.Prelude.{List, map}
+use Rattle.hv_world.specs.Bindings.{objects_in}
+use Rattle.hv_world.specs.Values.{formulas_of}
+use Rattle.hv_world.specs.Views.{formula_view, type_number}
+use Rattle.hv_world.specs.WorldViews.{world_view}
+use Rattle.hv_world.specs.declared.binding.Binding.{Binding}
+use Rattle.hv_world.specs.declared.formula.Formula.{Formula}
+use Rattle.hv_world.specs.declared.id.TypeId.{TypeId}
+use Rattle.hv_world.specs.declared.world.World.{World}
+use Rattle.hv_state.specs.Atoms.{GroundAtom, Atoms}
+use Rattle.hv_state.specs.Truth.{True, AllTrue, SomeTrue, ForEach, ForSome}
+use Rattle.hv_state.specs.Changes.{Mentions, SomeMention}
+
+-- all of the formulas are true, or some of them
+abbrev pub AreAllTrueIn : World → Atoms → List Formula → Binding → Type 0
+AreAllTrueIn w S fs b = AllTrue (world_view w).typing S (formulas_of (map formula_view fs)) (objects_in b)
+
+abbrev pub IsSomeTrueIn : World → Atoms → List Formula → Binding → Type 0
+IsSomeTrueIn w S fs b = SomeTrue (world_view w).typing S (formulas_of (map formula_view fs)) (objects_in b)
+
+-- the formula is true whichever objects of these types the next variables have, or for some of them
+abbrev pub IsTrueForEach : World → Atoms → Formula → List TypeId → Binding → Type 0
+IsTrueForEach w S f ts b = ForEach (world_view w).typing (True (world_view w).typing S (formula_view f)) (map type_number ts) (objects_in b)
+
+abbrev pub IsTrueForSome : World → Atoms → Formula → List TypeId → Binding → Type 0
+IsTrueForSome w S f ts b = ForSome (world_view w).typing (True (world_view w).typing S (formula_view f)) (map type_number ts) (objects_in b)
+
+-- the atoms that the formula speaks of, or some of the formulas, or it where the next variables have objects of these types
+abbrev pub SpokenOf : World → Formula → Binding → GroundAtom → Type 0
+SpokenOf w f b g = Mentions (world_view w).typing g (formula_view f) (objects_in b)
+
+abbrev pub SpokenOfBySome : World → List Formula → Binding → GroundAtom → Type 0
+SpokenOfBySome w fs b g = SomeMention (world_view w).typing g (formulas_of (map formula_view fs)) (objects_in b)
+
+abbrev pub SpokenOfForSome : World → Formula → List TypeId → Binding → GroundAtom → Type 0
+SpokenOfForSome w f ts b g = ForSome (world_view w).typing (Mentions (world_view w).typing g (formula_view f)) (map type_number ts) (objects_in b)
