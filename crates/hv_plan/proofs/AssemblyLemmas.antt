@@ -1,5 +1,5 @@
 -- The tree of a plan's shape and of what its lines say is the tree of the plan.
-use Rattle.std.proofs.Common.{◌≢◌, AllPairs, Contains, ◌≡◌, ℕ, zero, suc, ◌+◌, ◌-◌, ◌<◌, ◌≤◌, inl, inr, List, [], ◌∷◌, map, length, slice_get, Option, Some, None, refl, ap, sym, subst, ◌∙◌, arith}
+use Rattle.std.proofs.Common.{Contains, ◌≡◌, ℕ, zero, suc, ◌+◌, ◌-◌, ◌<◌, ◌≤◌, inl, inr, List, [], ◌∷◌, map, length, slice_get, Option, Some, None, refl, ap, sym, subst, ◌∙◌, arith}
 use Rattle.std.specs.Prelude.{get_or, option_and_then, MatchOption}
 use Rattle.std.specs.List.{AllZip}
 use Rattle.std.proofs.Math.Path.{fun_ext}
@@ -8,13 +8,13 @@ use Rattle.hv_world.specs.Bindings.{GroundAction}
 use Rattle.hv_text.specs.Lists.{Once}
 use Rattle.hv_world.specs.Worlds.{World}
 use Rattle.hv_plan.specs.Values.{Decomposition, Plan}
-use Rattle.hv_plan.specs.Trees.{Item, Act, Task, Pre, Reached, IsTree, HasActions}
-use Rattle.hv_plan.specs.PlanTrees.{Node, PlanTree, children_of, children_at, child_nodes, countdown, StandsFor, IsActionOf, IsNodeOf, IsRootOf, NodeIs, IsTreeOf}
+use Rattle.hv_plan.specs.Trees.{Item, Act, Task, Pre}
+use Rattle.hv_plan.specs.PlanTrees.{Node, PlanTree, children_of, children_at, StandsFor, IsActionOf, IsNodeOf, IsRootOf, NodeIs, IsNumberedTree, IsTreeOf}
 use Rattle.hv_plan.specs.PlanTrees as trees
-use Rattle.hv_plan.specs.ShapeViews.{Shape, Stands, line_id, IsShape, children_of_node, items_in, root_node, shape_tree}
-use Rattle.hv_plan.specs.FitViews.{IsDecomposed}
-use Rattle.hv_plan.specs.NodeViews.{node_of, node_of_line, node_of_root, nodes_from, nodes_of}
-use Rattle.hv_plan.specs.FitViews.{Decomposed}
+use Rattle.hv_plan.specs.inside.ShapeViews.{Shape, Stands, line_id, IsShape, children_of_node, items_in, root_node, shape_tree}
+use Rattle.hv_plan.specs.inside.FitViews.{IsDecomposed}
+use Rattle.hv_plan.specs.inside.NodeViews.{node_of, node_of_line, node_of_root, nodes_from, nodes_of}
+use Rattle.hv_plan.specs.inside.FitViews.{Decomposed}
 use Rattle.hv_plan.proofs.FitLemmas.{contains_first, contains_rest, less_or_more, member_at}
 use Rattle.hv_plan.proofs.ChildLemmas.{contains_at, mapped_at, paired_at, within_here}
 
@@ -198,11 +198,8 @@ module _ (w : World) (p : Plan) (s : Shape) (is : IsShape p s) (as' : List Groun
       of_root : length s.lines ≡ v → Contains (length s.lines ∷ s.numbers) v
       of_root e = subst (Contains (length s.lines ∷ s.numbers)) e (contains_first (length s.lines) s.numbers)
 
-  numbers : child_nodes (children_at nodes) (length nodes) ≡ countdown (length s.lines)
-  numbers =
-      let all : children_at nodes ≡ children_of_node s = fun_ext same_children in
-      let many : length nodes ≡ suc (length p.decompositions) = omega (arith, as_long, is.as_many_lines) in
-      (λ i. child_nodes (all i) (many i)) ∙ is.in_order ∙ ap countdown (sym is.as_many_lines)
+  numbered : IsNumberedTree (trees.tree_of tree) (length s.lines) (length p.actions)
+  numbered = subst (λ n. IsNumberedTree (trees.tree_of tree) n (length p.actions)) (sym is.as_many_lines) (subst (λ t. IsNumberedTree t (length p.decompositions) (length p.actions)) same_tree is.shape)
 
   -- the tree of the plan
   pub is_tree_of : IsTreeOf w p tree
@@ -218,9 +215,5 @@ module _ (w : World) (p : Plan) (s : Shape) (is : IsShape p s) (as' : List Groun
     every = every;
     root_node = is_root;
     line_nodes = zip_at (λ d v. NodeIs tree (IsNodeOf w tree d) v) p.decompositions s.numbers (sym is.as_many_numbers) is_node;
-    tree = subst IsTree same_tree is.tree;
-    child_once = λ v. let P : List Item → Type 0 = λ xs. AllPairs ◌≢◌ xs in subst P (sym (same_children v)) (is.child_once v);
-    numbers = numbers;
-    reached_lines = λ v lt. subst (λ t. Reached t (Task v)) same_tree (is.reached_lines v (omega (arith, lt, is.as_many_lines)));
-    reached_actions = subst (λ t. HasActions t (length p.actions)) same_tree is.reached_actions;
+    shape = numbered;
   }

@@ -11,16 +11,16 @@ use Rattle.hv_plan.specs.Values.{Plan}
 use Rattle.hv_plan.specs.Shapes.{head, Parent, line_parent, FormTree}
 use Rattle.hv_plan.specs.Fits.{IsNamed, multiplicity, names_of, method_of}
 use Rattle.hv_plan.specs.Causes.{number}
-use Rattle.hv_plan.specs.LineFaults.{IsEarliest}
-use Rattle.hv_plan.specs.ChildFaults.{IsChildFault, ChildFaultIn, IsMethodCause, IsSaid, AreSizes, AreNumbered, said_name}
-use Rattle.hv_plan.specs.ShapeViews.{Shape, Stands, line_id, IsShape, children_of_node, items_in}
-use Rattle.hv_plan.specs.FitViews.{Decomposed}
+use Rattle.hv_plan.specs.inside.LineFaults.{IsEarliest}
+use Rattle.hv_plan.specs.inside.ChildFaults.{IsChildFault, ChildFaultIn, IsMethodCause, IsSaid, AreSizes, AreNumbered, said_name}
+use Rattle.hv_plan.specs.inside.ShapeViews.{Shape, Stands, line_id, IsShape, children_of_node, items_in}
+use Rattle.hv_plan.specs.inside.FitViews.{Decomposed}
 use Rattle.std.specs.Prelude.{get_or, Result, Ok, Err, IfOk}
 use Rattle.hv_plan.proofs.FitLemmas.{method_of_name, member_at}
 use Rattle.hv_world.specs.Worlds.{method_named}
 use Rattle.hv_plan.specs.Trees.{Item, Act, Task, Pre}
 use Rattle.hv_plan.specs.Forms.{every}
-use Rattle.hv_plan.specs.FitViews.{decomposed_lines, IsDecomposed}
+use Rattle.hv_plan.specs.inside.FitViews.{decomposed_lines, IsDecomposed}
 use Rattle.hv_plan.specs.PlanTrees.{IsActionOf}
 use Rattle.hv_plan.specs.declared.subtasks.names.Said.{Said}
 use Rattle.hv_world.specs.Bindings.{ground_actions_view}
@@ -29,14 +29,14 @@ use Rattle.std.proofs.lemmas.Bool.{ltb-false}
 use Rattle.std.specs.Prelude.{nat_lt, if◌then◌else◌, slice_index_or}
 use Rattle.hv_plan.specs.TreeViews.{child_view}
 use Rattle.hv_plan.specs.declared.tree.Child.{Child}
-use Rattle.hv_plan.specs.Tallies.{number_in}
-use Rattle.hv_plan.specs.Tallies.{HaveSameNames, IsNamesFault, count, names}
+use Rattle.hv_plan.specs.inside.Tallies.{number_in}
+use Rattle.hv_plan.specs.inside.Tallies.{HaveSameNames, IsNamesFault, count, names}
 use Rattle.hv_plan.specs.declared.cause.CauseKind.{CauseKind}
 use Rattle.hv_plan.specs.declared.cause.CauseKind.TheVariants as kinds
 use Rattle.hv_plan.specs.declared.cause.Cause.{Cause}
 use Rattle.hv_plan.proofs.FitLemmas.{same_length, contains_first, contains_rest, place_within}
 use Rattle.hv_plan.proofs.EarliestLemmas.{earliest_at, earliest_at_none, earliest_of_lists}
-use Rattle.hv_plan.specs.LineFaults.{earlier}
+use Rattle.hv_plan.specs.inside.LineFaults.{earlier}
 use Rattle.std.proofs.lemmas.List.{map-append}
 use Rattle.hv_plan.proofs.HeadLists.{taken_at}
 use Rattle.std.proofs.Common.{take}

@@ -1,21 +1,22 @@
 -- Which of several causes is reported.
-use Rattle.std.proofs.Common.{◌≡◌, ℕ, ◌+◌, ◌<◌, ◌≤◌, ◌⊎◌, inl, inr, nat_eq, nat_lt, nat_le, Bool, true, false, ◌&&◌, ◌||◌, List, [], ◌∷◌, ◌++◌, map, Option, Some, None, refl, ap, sym, subst, ◌∙◌, arith, take, slice_get, if◌then◌else◌}
+use Rattle.std.proofs.Common.{◌≡◌, ℕ, ◌+◌, ◌<◌, ◌≤◌, ◌⊎◌, inl, inr, nat_eq, nat_lt, nat_le, Bool, true, false, ◌&&◌, ◌||◌, List, [], ◌∷◌, ◌++◌, map, Option, Some, None, refl, ap, sym, subst, ◌∙◌, arith, if◌then◌else◌}
 use Rattle.std.specs.Prelude.{Contains, Result, Ok, Err, MatchResult}
 use Rattle.std.specs.List.{AllZip}
-use Rattle.std.proofs.lemmas.List.{map-append}
+use Rattle.std.proofs.lemmas.List.{append-nil, append_assoc, map-append}
 use Rattle.std.proofs.lemmas.List.Elements.{Contains-append_cases, Contains-append_left, Contains-append_right}
 use Rattle.std.proofs.lemmas.Bool.{ltb-true, ltb-false, leb-true, leb-false, eqb-true, eqb-false}
 use Rattle.hv_world.specs.Worlds.{World}
 use Rattle.hv_plan.specs.Causes.{number}
-use Rattle.hv_plan.specs.LineFaults.{Entry, line_entry, IsAtFault, IsSmallest, ComesBefore, comes_before, earlier, IsEarliest, FaultIn}
-use Rattle.hv_plan.specs.FitViews.{kept, cause_at, AreFitted, IsDecomposed}
+use Rattle.hv_plan.specs.inside.LineFaults.{Entry, line_entry, IsAtFault, IsLineFault, IsSmallest, ComesBefore, comes_before, earlier, IsEarliest, FaultIn}
+use Rattle.hv_plan.specs.inside.FitViews.{kept, cause_at, AreFitted, IsDecomposed, IsTold}
+use Rattle.hv_plan.specs.declared.fit.LineFault.{LineFault}
+use Rattle.hv_plan.specs.declared.fit.LineFault.TheVariants as faults
 use Rattle.hv_plan.specs.declared.cause.CauseKind.{CauseKind}
 use Rattle.hv_plan.specs.declared.cause.Cause.{Cause}
-use Rattle.hv_plan.specs.FitViews.{Decomposed, decomposed_view}
+use Rattle.hv_plan.specs.inside.FitViews.{Decomposed, decomposed_view}
 use Rattle.hv_plan.specs.declared.fit.Decomposed as code
 use Rattle.hv_plan.specs.Values.{Decomposition}
 use Rattle.hv_plan.proofs.FitLemmas.{contains_cons, contains_first, decomposed_has_no_fault, less_or_more, less_or_same}
-use Rattle.hv_plan.proofs.HeadLists.{taken_at}
 
 -- what the test of two causes says
 module _ (m n a b : ℕ) where
@@ -129,7 +130,7 @@ paired_more R [] (z ∷ ys) x y all r = absurd all
 paired_more R (z ∷ xs) [] x y all r = absurd all
 paired_more R (z ∷ xs) (u ∷ ys) x y (first, all) r = (first, paired_more R xs ys x y all r)
 
-earlier_none : (c d : Option Cause) → earlier c d ≡ None → (c ≡ None) × (d ≡ None)
+pub earlier_none : (c d : Option Cause) → earlier c d ≡ None → (c ≡ None) × (d ≡ None)
 earlier_none None None e = (refl, refl)
 earlier_none None (Some d) e = cc
 earlier_none (Some c) None e = cc
@@ -139,20 +140,27 @@ earlier_none (Some c) (Some d) e = go (comes_before c d) e
     go true e = cc
     go false e = cc
 
+-- what was found of the first of the lines, where these are left
+pub record AreFittedBefore {D N : Type 0} (w : World) (entry : D → Entry) (Is : D → N → Type 0) (all left : List D) (ns : List N) (c : Option Cause) : Type 0 where
+  pub front : List D
+  pub split : front ++ left ≡ all
+  pub fitted : AreFitted w entry Is front ns c
+
 -- a line more
 module _ {D N : Type 0} (w : World) (entry : D → Entry) (Is : D → N → Type 0) (sound : (d : D) (n : N) → Is d n → (k : CauseKind) → IsAtFault w (entry d) k → ⊥) where
   pub none_fitted : AreFitted w entry Is [] [] None
   none_fitted = record { cause = λ k l (e, (n, lt, same), f, is). omega arith; said = λ e. tt }
 
-  pub fitted_more : {Y : Type 0} (view : Y → N) (ds : List D) (ns : List N) (c : Option Cause) (d : D) (r : Result Y CauseKind)
-      → AreFitted w entry Is ds ns c → MatchResult r (λ y. Is d (view y)) (IsSmallest w (entry d))
+  pub fitted_more : {Y : Type 0} (view : Y → N) (ds : List D) (ns : List N) (c : Option Cause) (d : D) (r : Result Y LineFault)
+      → AreFitted w entry Is ds ns c → MatchResult r (λ y. Is d (view y)) (IsLineFault (IsSmallest w (entry d))) → IsTold r
       → AreFitted w entry Is (ds ++ d ∷ []) (ns ++ map view (kept r)) (earlier c (cause_at r (entry d).said.line))
-  fitted_more view ds ns c d (Ok y) before is =
+  fitted_more view ds ns c d (Ok y) before is told =
       record {
         cause = rw (map-append entry ds (d ∷ [])) (earliest_of_both w (map entry ds) (entry d ∷ []) c None before.cause (earliest_of_none w (entry d) (sound d (view y) is)));
         said = λ e. paired_more Is ds ns d (view y) (before.said (earlier_none c None e).0) is;
       }
-  fitted_more view ds ns c d (Err k) before is =
+  fitted_more view ds ns c d (Err faults.Memory) before is told = absurd told
+  fitted_more view ds ns c d (Err (faults.Cause k)) before is told =
       record {
         cause = rw (map-append entry ds (d ∷ [])) (earliest_of_both w (map entry ds) (entry d ∷ []) c (Some (record { kind = k; line = (entry d).said.line })) before.cause (earliest_of_one w (entry d) k is));
         said = λ e. absurd (no_cause (earlier_none c (Some (record { kind = k; line = (entry d).said.line })) e).1);
@@ -162,13 +170,27 @@ module _ {D N : Type 0} (w : World) (entry : D → Entry) (Is : D → N → Type
       no_cause e = cc
 
   -- the step of a loop over lines
-  pub fitted_step : {Y : Type 0} (view : Y → N) (ds : List D) (i : ℕ) (d : D) (items items' : List N) (c c' : Option Cause) (r : Result Y CauseKind)
-      → slice_get ds i ≡ Some d → AreFitted w entry Is (take i ds) items c
-      → MatchResult r (λ y. Is d (view y)) (IsSmallest w (entry d)) → items' ≡ items ++ map view (kept r)
-      → c' ≡ earlier c (cause_at r (entry d).said.line) → AreFitted w entry Is (take (i + 1) ds) items' c'
-  fitted_step view ds i d items items' c c' r there before fits more next =
-      let own : take (i + 1) ds ≡ take i ds ++ d ∷ [] = taken_at ds i d there in
-      let step = fitted_more view (take i ds) items c d r before fits in
-      subst (λ z. AreFitted w entry Is (take (i + 1) ds) items' z) (sym next)
-      (subst (λ ns. AreFitted w entry Is (take (i + 1) ds) ns (earlier c (cause_at r (entry d).said.line))) (sym more)
-      (subst (λ xs. AreFitted w entry Is xs (items ++ map view (kept r)) (earlier c (cause_at r (entry d).said.line))) (sym own) step))
+  pub fitted_item : {Y : Type 0} (view : Y → N) (all left rest : List D) (d : D) (items items' : List N) (c c' : Option Cause) (r : Result Y LineFault)
+      → left ≡ d ∷ rest → AreFittedBefore w entry Is all left items c
+      → MatchResult r (λ y. Is d (view y)) (IsLineFault (IsSmallest w (entry d))) → IsTold r → items' ≡ items ++ map view (kept r)
+      → c' ≡ earlier c (cause_at r (entry d).said.line) → AreFittedBefore w entry Is all rest items' c'
+  fitted_item view all left rest d items items' c c' r next before fits told more now =
+      let step = fitted_more view before.front items c d r before.fitted fits told in
+      record {
+        front = before.front ++ d ∷ [];
+        split = append_assoc before.front (d ∷ []) rest ∙ ap (λ ds. before.front ++ ds) (sym next) ∙ before.split;
+        fitted = subst (λ z. AreFitted w entry Is (before.front ++ d ∷ []) items' z) (sym now)
+            (subst (λ ns. AreFitted w entry Is (before.front ++ d ∷ []) ns (earlier c (cause_at r (entry d).said.line))) (sym more) step);
+      }
+
+  pub fitted_first : (all left : List D) (ns : List N) (c : Option Cause) → left ≡ all → ns ≡ [] → c ≡ None → AreFittedBefore w entry Is all left ns c
+  fitted_first all left ns c same none no_cause =
+      record {
+        front = [];
+        split = same;
+        fitted = subst (λ z. AreFitted w entry Is [] ns z) (sym no_cause) (subst (λ xs. AreFitted w entry Is [] xs None) (sym none) none_fitted);
+      }
+
+  pub fitted_all : (all left : List D) (ns : List N) (c : Option Cause) → left ≡ [] → AreFittedBefore w entry Is all left ns c → AreFitted w entry Is all ns c
+  fitted_all all left ns c none before =
+      subst (λ ds. AreFitted w entry Is ds ns c) (sym (append-nil before.front) ∙ ap (λ ds. before.front ++ ds) (sym none) ∙ before.split) before.fitted

@@ -2,7 +2,7 @@
 use Rattle.std.proofs.Common.{◌≡◌, ◌≢◌, ◌+◌, ◌<◌, ◌≤◌, ◌⊎◌, inl, inr, ℕ, Bool, true, false, List, Option, Some, None, min, max, nat_eq, nat_lt, refl, sym, ap, ◌∙◌, subst, arith, slice_index, eqb-true, eq-eqb, ltb-true, ltb-false, true≢false}
 use Rattle.std.specs.Map.{update}
 use Rattle.std.proofs.lemmas.Map.{update_here, update_apart}
-use Rattle.hv_plan.specs.Shaping.{first_of, again_of, earlier, line_unless, IsFirst, IsRepeat, IsMissed}
+use Rattle.hv_plan.specs.inside.Shaping.{first_of, again_of, earlier, line_unless, IsFirst, IsRepeat, IsMissed}
 
 pub either : (i j : ℕ) → (i ≡ j) ⊎ (i ≢ j)
 either i j = by (nat_eq i j) refl where

@@ -18,11 +18,14 @@ use Rattle.hv_plan.specs.Values as text
 use Rattle.hv_plan.specs.Forms.{every, both}
 use Rattle.hv_plan.specs.Shapes.{head}
 use Rattle.hv_world.specs.Bindings.{object_number}
-use Rattle.hv_plan.specs.FitViews.{IsDecomposed}
-use Rattle.hv_plan.specs.FitViews.{Decomposed}
-use Rattle.hv_plan.specs.Fits.{parameters_of, AreObjects, AreOf, IsForTask, Says, method_of}
+use Rattle.hv_plan.specs.inside.FitViews.{IsDecomposed}
+use Rattle.hv_plan.specs.inside.FitViews.{Decomposed}
+use Rattle.hv_plan.specs.Fits.{parameters_of, AreObjects, IsForTask, Says, method_of}
+use Rattle.hv_world.specs.Groundings.{AreOf}
 use Rattle.hv_plan.specs.Causes.{number}
-use Rattle.hv_plan.specs.LineFaults.{Entry, action_entry, line_entry, IsAtFault, IsSmallest, IsObjectFault, count, type, IsArgumentFault, unknown, objects}
+use Rattle.hv_plan.specs.inside.LineFaults.{Entry, action_entry, line_entry, IsAtFault, IsSmallest, IsObjectFault, count, type, IsArgumentFault, IsLineFault, unknown, objects}
+use Rattle.hv_plan.specs.declared.fit.LineFault.{LineFault}
+use Rattle.hv_plan.specs.declared.fit.LineFault.TheVariants as faults
 use Rattle.hv_plan.specs.declared.cause.CauseKind.{CauseKind}
 use Rattle.hv_plan.specs.declared.cause.CauseKind.TheVariants as kinds
 
@@ -184,12 +187,12 @@ module _ (w : World) (e : Entry) where
           below_58 : NoneBelow 58
           below_58 = none_below_next kinds.ArgumentCount below_57 arguments_are_as_many
 
-          module _ (typed : AreOf w os (parameters_of w t)) where
+          module _ (typed : AreOf w.typing os (parameters_of w t)) where
             arguments_are_typed : IsAtFault w e kinds.ArgumentType → ⊥
             arguments_are_typed (u, ps, names, found', untyped) =
                 let same : t ≡ u = cc in
                 let objects : os ≡ ps = same_partners (place_in w.objects) e.said.arguments os ps found found' in
-                untyped (subst (λ v. AreOf w ps (parameters_of w v)) same (subst (λ xs. AreOf w xs (parameters_of w t)) objects typed))
+                untyped (subst (λ v. AreOf w.typing ps (parameters_of w v)) same (subst (λ xs. AreOf w.typing xs (parameters_of w t)) objects typed))
 
             below_59 : NoneBelow 59
             below_59 = none_below_next kinds.ArgumentType below_58 arguments_are_typed
@@ -231,13 +234,18 @@ module _ (w : World) (e : Entry) where
       among _ (type same untyped) =
           record { applies = (t, os, named, found, untyped); smallest = below_58 t named known os found (lengths ∙ same) }
 
+-- another fault, where each cause is one of another
+pub other_fault : (P Q : CauseKind → Type 0) → ((k : CauseKind) → P k → Q k) → (f : LineFault) → IsLineFault P f → IsLineFault Q f
+other_fault P Q each (faults.Cause k) is = each k is
+other_fault P Q each faults.Memory is = tt
+
 -- an action line has no method
 pub has_no_method : (w : World) (a : text.Action) → IsAtFault w (action_entry a) kinds.UnknownMethod → ⊥
 has_no_method w a (n, is, none) = cc
 
 -- an action line that names a task
 pub names_task : (w : World) (a : text.Action) (t : ℕ) (os : List ℕ) → task_named w a.name ≡ Some (compound t) → AreObjects w a.arguments os
-    → AreOf w os (parameters_of w (compound t)) → IsSmallest w (action_entry a) kinds.NotPrimitive
+    → AreOf w.typing os (parameters_of w (compound t)) → IsSmallest w (action_entry a) kinds.NotPrimitive
 names_task w a t os named found typed =
     record {
       applies = (t, refl, named);
@@ -278,7 +286,7 @@ method_known w d v named (n, is, none) =
 
 -- a decomposition line that names an action
 pub names_action : (w : World) (d : text.Decomposition) (n v : ℕ) (os : List ℕ) → task_named w d.name ≡ Some (primitive n)
-    → method_named w d.method ≡ Some v → AreObjects w d.arguments os → AreOf w os (parameters_of w (primitive n))
+    → method_named w d.method ≡ Some v → AreObjects w d.arguments os → AreOf w.typing os (parameters_of w (primitive n))
     → IsSmallest w (line_entry d) kinds.NotAbstract
 names_action w d n v os named method found typed =
     record {
@@ -292,7 +300,7 @@ names_action w d n v os named method found typed =
 
 -- a decomposition line of a method that is for another task
 pub method_of_other : (w : World) (d : text.Decomposition) (t v : ℕ) (m : Method) (os : List ℕ) → task_named w d.name ≡ Some (compound t)
-    → method_named w d.method ≡ Some v → slice_get w.methods v ≡ Some m → AreObjects w d.arguments os → AreOf w os (parameters_of w (compound t))
+    → method_named w d.method ≡ Some v → slice_get w.methods v ≡ Some m → AreObjects w d.arguments os → AreOf w.typing os (parameters_of w (compound t))
     → (IsForTask m.task t → ⊥) → IsSmallest w (line_entry d) kinds.OtherTask
 method_of_other w d t v m os named method numbered found typed other =
     record {
@@ -335,7 +343,7 @@ line_has_no_fault w d t v m os says method numbered is_for =
         other (subst (λ y. IsForTask y.task u) method' (subst (λ u. IsForTask m.task u) task is_for))
 
 -- an object that is not of its type
-pub one_not_of : (w : World) (os ts : List ℕ) (i : ℕ) (d e : ℕ) → i < length os → (Of w.typing (get_or os i d) (get_or ts i e) → ⊥) → AreOf w os ts → ⊥
+pub one_not_of : (w : World) (os ts : List ℕ) (i : ℕ) (d e : ℕ) → i < length os → (Of w.typing (get_or os i d) (get_or ts i e) → ⊥) → AreOf w.typing os ts → ⊥
 one_not_of w os ts i d e lt not all = not (AllZip-get_or (λ o t. Of w.typing o t) os ts i d e all lt)
 
 pub not_true : (b : Bool) → b ≡ false → b ≡ true → ⊥
@@ -364,7 +372,7 @@ method_of_name w n v e = member_at w.methods v (subst (λ k. v < k) (length-map 
 
 -- a decomposition line of a method that was found not to be for the task
 pub not_for_task : (w : World) (d : text.Decomposition) (t v : ℕ) (os : List ℕ) → task_named w d.name ≡ Some (compound t)
-    → method_named w d.method ≡ Some v → AreObjects w d.arguments os → AreOf w os (parameters_of w (compound t))
+    → method_named w d.method ≡ Some v → AreObjects w d.arguments os → AreOf w.typing os (parameters_of w (compound t))
     → (MatchOption (slice_get w.methods v) ⊥ (λ m. IsForTask m.task t) → ⊥) → IsSmallest w (line_entry d) kinds.OtherTask
 not_for_task w d t v os named method found typed not =
     let (m, numbered) = method_of_name w d.method v method in
@@ -377,7 +385,7 @@ decomposed_has_no_fault w d x says =
 
 -- an object that is not of its type, where objects and types are the code's
 pub one_not_of_type : (w : World) (xs : List ObjectId) (ts : List TypeId) (i : ℕ) (d : ObjectId) (e : TypeId) → i < length xs → length xs ≡ length ts
-    → (Of w.typing (get_or xs i d).0 (get_or ts i e).0 → ⊥) → AreOf w (map object_number xs) (map type_number ts) → ⊥
+    → (Of w.typing (get_or xs i d).0 (get_or ts i e).0 → ⊥) → AreOf w.typing (map object_number xs) (map type_number ts) → ⊥
 one_not_of_type w xs ts i d e lt same not all =
     let lt' : i < length ts = omega arith in
     let inside : i < length (map object_number xs) = rw (length-map xs object_number) lt in

@@ -11,12 +11,12 @@ use Rattle.hv_plan.specs.Values as text
 use Rattle.hv_plan.specs.Values.{Plan}
 use Rattle.hv_plan.specs.Shapes.{head, heads, ids, Parent, root_parent, line_parent, parents, FormTree}
 use Rattle.hv_plan.specs.Fits.{FitsAction, FitsDecomposition, FitsSubtasks, FitWorld, IsNamed, multiplicity, names_of, method_of}
-use Rattle.hv_plan.specs.FitViews.{IsDecomposed}
-use Rattle.hv_plan.specs.LineFaults.{IsEarliest}
-use Rattle.hv_plan.specs.ChildFaults.{ChildFaultIn}
+use Rattle.hv_plan.specs.inside.FitViews.{IsDecomposed}
+use Rattle.hv_plan.specs.inside.LineFaults.{IsEarliest}
+use Rattle.hv_plan.specs.inside.ChildFaults.{ChildFaultIn}
 use Rattle.hv_plan.specs.PlanTrees.{IsActionOf}
 use Rattle.hv_plan.specs.declared.cause.CauseKind.TheVariants as kinds
-use Rattle.hv_plan.specs.FitViews.{Decomposed}
+use Rattle.hv_plan.specs.inside.FitViews.{Decomposed}
 use Rattle.hv_plan.proofs.FitLemmas.{contains_cons, contains_first, contains_rest, partner, method_of_name}
 use Rattle.hv_plan.proofs.FormLaws.{contains_of_map, contains_flat}
 
@@ -25,7 +25,7 @@ all_by : {X : Type 0} (P : X → Type 0) (xs : List X) → ((x : X) → Contains
 all_by P xs h = λ k d lt. h (get_or xs k d) (Contains-get_or xs k d lt)
 
 -- numbers that can't differ are the same
-same_unless : (m n : ℕ) → ((m ≡ n → ⊥) → ⊥) → m ≡ n
+pub same_unless : (m n : ℕ) → ((m ≡ n → ⊥) → ⊥) → m ≡ n
 same_unless m n not = go (nat_eq m n) refl
   where
     go : (b : Bool) → nat_eq m n ≡ b → m ≡ n
@@ -70,7 +70,7 @@ module _ (w : World) (p : Plan) (form : FormTree p) (gs : List GroundAction) (xs
       let (n, name) = head_is_named a begins in
       (n, record { line = a; begins = begins; id = same; name = name })
 
-  names_for : (is : List ℕ) → ((i : ℕ) → Contains is i → Contains (ids p) i) → (ns : List TaskName) × AllZip (IsNamed w p) is ns
+  pub names_for : (is : List ℕ) → ((i : ℕ) → Contains is i → Contains (ids p) i) → (ns : List TaskName) × AllZip (IsNamed w p) is ns
   names_for [] begin = ([], tt)
   names_for (i ∷ is) begin =
       let (n, named) = id_is_named i (begin i (contains_first i is)) in
@@ -78,7 +78,7 @@ module _ (w : World) (p : Plan) (form : FormTree p) (gs : List GroundAction) (xs
       (n ∷ ns, (named, all))
 
   -- a line that names children has a method
-  has_method : (q : Parent) → Contains (parents p) q → (m : Method) × (method_of w q.method ≡ Some m)
+  pub has_method : (q : Parent) → Contains (parents p) q → (m : Method) × (method_of w q.method ≡ Some m)
   has_method q x = elim (contains_cons (root_parent p.root) (map line_parent p.decompositions) q x) [ inl same ↦ of_root same | inr y ↦ of_line (contains_of_map line_parent p.decompositions q y) ]
     where
       of_root : root_parent p.root ≡ q → (m : Method) × (method_of w q.method ≡ Some m)

@@ -13,7 +13,7 @@ use Rattle.hv_plan.specs.Values.{Plan}
 use Rattle.hv_plan.specs.Shapes.{head, heads, parents, FormTree}
 use Rattle.hv_plan.specs.Fits.{parameters_of, AreObjects, FitsAction, FitsDecomposition, FitsSubtasks, FitWorld, IsNamed, multiplicity, names_of, method_of}
 use Rattle.hv_plan.specs.Causes.{number, Qualifies, repeated_id, unknown_child, child_before, child_twice, unreached, unknown_task, unknown_method, unknown_object, argument_count, argument_type, not_primitive, not_abstract, other_task, child_count, child_names, IsCause}
-use Rattle.hv_plan.specs.LineFaults.{Entry, action_entry, line_entry, entries, IsAtFault, IsEarliest, FaultIn}
+use Rattle.hv_plan.specs.inside.LineFaults.{Entry, action_entry, line_entry, entries, IsAtFault, IsEarliest, FaultIn}
 use Rattle.hv_plan.specs.declared.cause.CauseKind.{CauseKind}
 use Rattle.hv_plan.specs.declared.cause.CauseKind.TheVariants as kinds
 use Rattle.hv_plan.specs.declared.cause.Cause.{Cause}

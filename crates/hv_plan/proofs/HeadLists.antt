@@ -3,7 +3,7 @@ use Rattle.std.proofs.Common.{◌≡◌, ◌+◌, ◌<◌, ℕ, zero, suc, List,
 use Rattle.std.proofs.lemmas.List.{map-append, append_assoc, drop_more, take_more}
 use Rattle.hv_plan.specs.Values.{Action, Decomposition, Plan}
 use Rattle.hv_plan.specs.Shapes.{head, ids}
-use Rattle.hv_plan.specs.Shaping.{lines_of_heads}
+use Rattle.hv_plan.specs.inside.Shaping.{lines_of_heads}
 
 -- the ids of actions, and those of decomposition lines behind them; and so with their numbers
 abbrev pub action_ids : Plan → List ℕ
@@ -33,15 +33,6 @@ push_next f xs i old new all lt pushed so_far =
     ap (λ ys. ys ++ map f (drop (i + 1) xs)) pushed ∙ append_assoc old (f (slice_index xs i) ∷ []) (map f (drop (i + 1) xs))
     ∙ ap (λ ys. old ++ map f ys) (sym (drop_more xs i 0 lt)) ∙ so_far
 
--- the step of a loop that appends a list for each
-pub append_next : {X Y : Type 0} (f : List X → List Y) (g : X → List Y) → ((x : X) (xs : List X) → f (x ∷ xs) ≡ g x ++ f xs)
-    → (xs : List X) (i : ℕ) (x : X) (old new all : List Y) → i < length xs → x ≡ get_or xs i x → new ≡ old ++ g x
-    → old ++ f (drop i xs) ≡ all → new ++ f (drop (i + 1) xs) ≡ all
-append_next f g cons xs i x old new all lt is appended so_far =
-    ap (λ ys. ys ++ f (drop (i + 1) xs)) appended ∙ append_assoc old (g x) (f (drop (i + 1) xs))
-    ∙ ap (λ ys. old ++ ys) (sym (cons x (drop (i + 1) xs)))
-    ∙ ap (λ ys. old ++ f ys) (sym (drop_more xs i x lt ∙ ap (λ y. y ∷ drop (i + 1) xs) (sym is))) ∙ so_far
-
 -- what stands at a place, by an index
 stands_at : {X : Type 0} (xs : List X) (i : ℕ) (x : X) → slice_get xs i ≡ Some x → (i < length xs) × (x ≡ get_or xs i x)
 stands_at [] zero x e = cc
@@ -55,10 +46,14 @@ taken_at xs i x there =
     let (lt, is) = stands_at xs i x there in
     take_more xs i x lt ∙ ap (λ z. take i xs ++ z ∷ []) (sym is)
 
--- the step of a loop over places that appends a list for each
-pub append_at : {X Y : Type 0} (f : List X → List Y) (g : X → List Y) → ((x : X) (xs : List X) → f (x ∷ xs) ≡ g x ++ f xs)
-    → (xs : List X) (i : ℕ) (x : X) (old new all : List Y) → slice_get xs i ≡ Some x → new ≡ old ++ g x
-    → old ++ f (drop i xs) ≡ all → new ++ f (drop (i + 1) xs) ≡ all
-append_at f g cons xs i x old new all there appended so_far =
+-- what is left at a place: what stands there, and what is left behind it
+pub left_at : {X : Type 0} (xs : List X) (i : ℕ) (x : X) → slice_get xs i ≡ Some x → drop i xs ≡ x ∷ drop (i + 1) xs
+left_at xs i x there =
     let (lt, is) = stands_at xs i x there in
-    append_next f g cons xs i x old new all lt is appended so_far
+    drop_more xs i x lt ∙ ap (λ y. y ∷ drop (i + 1) xs) (sym is)
+
+-- the step of a loop over items that appends a list for each
+pub append_item : {X Y : Type 0} (f : List X → List Y) (g : X → List Y) → ((x : X) (xs : List X) → f (x ∷ xs) ≡ g x ++ f xs)
+    → (x : X) (left rest : List X) (old new all : List Y) → left ≡ x ∷ rest → new ≡ old ++ g x → old ++ f left ≡ all → new ++ f rest ≡ all
+append_item f g cons x left rest old new all next appended so_far =
+    ap (λ ys. ys ++ f rest) appended ∙ append_assoc old (g x) (f rest) ∙ ap (λ ys. old ++ ys) (sym (cons x rest)) ∙ ap (λ ys. old ++ f ys) (sym next) ∙ so_far

@@ -15,8 +15,8 @@ use Rattle.hv_text.specs.declared.words.Word.{Word}
 use Rattle.hv_plan.specs.Lines.{NumberedLine, lines, numbered, with_byte, is_end, before_end}
 use Rattle.hv_plan.specs.Plans.{fault_from, IsBodyFault}
 use Rattle.hv_plan.specs.Values.{Root}
-use Rattle.hv_plan.specs.Forms.{Parts, behind, inside, with_front, is_id, said, is_digits, id_of, value_from}
-use Rattle.hv_plan.specs.Views.{as_number, as_id, IsLineFault, Found, too_large, no_ids, as_ids}
+use Rattle.hv_plan.specs.Forms.{Parts, behind, inside, with_front, is_id, said, is_digits, id_of, value_from, as_number}
+use Rattle.hv_plan.specs.inside.Views.{as_id, IsLineFault, Found, too_large, no_ids, as_ids}
 use Rattle.hv_plan.specs.declared.fault.PlanFault.{PlanFault}
 use Rattle.hv_plan.specs.declared.fault.PlanFault.TheVariants as faults
 use Rattle.hv_plan.specs.declared.id.Id.TheVariants as ids

@@ -25,6 +25,8 @@ pub mod WorldLaws
 pub mod AssemblyLemmas
 pub mod OneTree
 pub mod NodeLaws
+pub mod FormFound
+pub mod FitFound
 pub mod OneCause
 pub mod SmallPlans
 pub mod FitWorldLemmas

@@ -1,19 +1,15 @@
 -- Each node of a plan's tree but the last is that of a decomposition line, and so a child that is a node has a task.
-use Rattle.std.proofs.Common.{◌≡◌, ◌+◌, ◌-◌, ◌<◌, ◌≤◌, inl, inr, ℕ, List, [], ◌∷◌, Option, Some, None, slice_get, refl, sym, ap, ◌∙◌, subst, arith, length, Contains}
+use Rattle.std.proofs.Common.{◌≡◌, ◌+◌, ◌-◌, ◌<◌, ◌≤◌, inl, inr, ℕ, ◌∷◌, Option, Some, None, slice_get, refl, ap, ◌∙◌, subst, arith, length, Contains}
 use Rattle.std.specs.Prelude.{MatchOption, IsSome, is_some}
 use Rattle.std.specs.List.{AllZip}
 use Rattle.std.proofs.lemmas.Option.{slice_get-get_or, slice_get_within}
 use Rattle.hv_world.specs.Worlds.{World}
 use Rattle.hv_plan.specs.Values.{Decomposition, Plan}
-use Rattle.hv_plan.specs.Trees.{Item, Task, Mem}
+use Rattle.hv_plan.specs.Trees.{Item, Task}
 use Rattle.hv_plan.specs.PlanTrees.{Node, PlanTree, children_of, children_at, IsNodeOf, NodeIs, IsTreeOf}
 use Rattle.hv_plan.proofs.FitLemmas.{contains_cons}
 use Rattle.hv_plan.proofs.ChildLemmas.{contains_at}
 use Rattle.hv_plan.proofs.OneTree.{zip_back}
-
-member : (x : Item) (xs : List Item) → Contains xs x → Mem x xs
-member x [] h = let lt : h.0 < 0 = h.1 in absurd (omega (arith, lt))
-member x (y ∷ ys) h = elim (contains_cons y ys x h) [ inl e ↦ inl (sym e) | inr g ↦ inr (member x ys g) ]
 
 module _ (w : World) (p : Plan) (t : PlanTree) (is : IsTreeOf w p t) where
   pub line_of : (v : ℕ) → v + 1 < length t.nodes → (d : Decomposition) × Contains p.decompositions d × NodeIs t (IsNodeOf w t d) v
@@ -37,7 +33,7 @@ module _ (w : World) (p : Plan) (t : PlanTree) (is : IsTreeOf w p t) where
 
   pub task_of_child : (v u : ℕ) → Contains (children_at t.nodes v) (Task u) → NodeIs t (λ n. IsSome n.task) u
   task_of_child v u h =
-      let below : u < v = is.tree.lower v u (member (Task u) (children_at t.nodes v) h) in
+      let below : u < v = is.shape.tree.lower v u h in
       let within : v < length t.nodes = has_node v (Task u) h in
       let (d, in_plan, node) = line_of u (omega (arith, below, within)) in
       by (slice_get t.nodes u) d node

@@ -16,7 +16,7 @@ use Rattle.hv_world.specs.Worlds.{World, task_named}
 use Rattle.hv_plan.specs.Values.{Action, Decomposition, Plan}
 use Rattle.hv_plan.specs.Shapes.{ids, FormTree}
 use Rattle.hv_plan.specs.Fits.{Says}
-use Rattle.hv_plan.specs.Trees.{Item, Act, Task, Pre, Mem, IsTree}
+use Rattle.hv_plan.specs.Trees.{Item, Act, Task, Pre, IsTree}
 use Rattle.hv_plan.specs.PlanTrees.{Node, PlanTree, children_of, children_at, node_numbers, child_nodes, countdown, StandsFor, IsActionOf, IsNodeOf, IsRootOf, NodeIs, IsTreeOf}
 use Rattle.hv_plan.proofs.FirstLines.{either, either_side}
 use Rattle.hv_plan.proofs.FitLemmas.{contains_cons, contains_first, contains_rest, same_partners, same_length, member_at}
@@ -89,14 +89,14 @@ upper_split f n (suc k) =
     ap (child_nodes f) e ∙ ap (λ xs. flat_map node_numbers (f (n + k)) ++ xs) (upper_split f n k) ∙ sym (append_assoc (flat_map node_numbers (f (n + k))) (upper f n k) (child_nodes f n))
 
 -- the nodes among items are tasks of theirs
-task_of : (xs : List Item) (u : ℕ) → Contains (flat_map node_numbers xs) u → Mem (Task u) xs
+task_of : (xs : List Item) (u : ℕ) → Contains (flat_map node_numbers xs) u → Contains xs (Task u)
 task_of [] u c = let w : c.0 < 0 = c.1 in absurd (omega (arith, w))
-task_of (Act k ∷ xs) u c = inr (task_of xs u c)
-task_of (Task v ∷ xs) u c = elim (contains_cons v (flat_map node_numbers xs) u c) [ inl q ↦ inl (ap Task (sym q)) | inr d ↦ inr (task_of xs u d) ]
-task_of (Pre k ∷ xs) u c = inr (task_of xs u c)
+task_of (Act k ∷ xs) u c = contains_rest (Act k) xs (Task u) (task_of xs u c)
+task_of (Task v ∷ xs) u c = elim (contains_cons v (flat_map node_numbers xs) u c) [ inl q ↦ (0, omega arith, ap Task q) | inr d ↦ contains_rest (Task v) xs (Task u) (task_of xs u d) ]
+task_of (Pre k ∷ xs) u c = contains_rest (Pre k) xs (Task u) (task_of xs u c)
 
 -- the nodes among the children of nodes up to n are below n
-low : (f : ℕ → List Item) → ((v u : ℕ) → Mem (Task u) (f v) → u < v) → (n u : ℕ) → Contains (child_nodes f (suc n)) u → u < n
+low : (f : ℕ → List Item) → ((v u : ℕ) → Contains (f v) (Task u) → u < v) → (n u : ℕ) → Contains (child_nodes f (suc n)) u → u < n
 low f lower n u c = by n (Contains-append_cases (flat_map node_numbers (f n)) (child_nodes f n) u c)
   where
     by : (m : ℕ) → Contains (flat_map node_numbers (f m)) u ⊎ Contains (child_nodes f m) u → u < m
@@ -109,7 +109,7 @@ counted zero v lt = absurd (omega (arith, lt))
 counted (suc n) v lt = elim (either v n) [ inl e ↦ subst (Contains (n ∷ countdown n)) (sym e) (contains_first n (countdown n)) | inr d ↦ contains_rest n (countdown n) v (counted n v (omega (arith, lt, d))) ]
 
 -- a node below the root is among the children of the nodes above it
-above_has : (f : ℕ → List Item) → ((v u : ℕ) → Mem (Task u) (f v) → u < v) → (root v k : ℕ) → suc v + k ≡ suc root → child_nodes f (suc root) ≡ countdown root → v < root
+above_has : (f : ℕ → List Item) → ((v u : ℕ) → Contains (f v) (Task u) → u < v) → (root v k : ℕ) → suc v + k ≡ suc root → child_nodes f (suc root) ≡ countdown root → v < root
     → Contains (upper f (suc v) k) v
 above_has f lower root v k sum numbers lt =
     let has : Contains (child_nodes f (suc v + k)) v = subst (λ n. Contains (child_nodes f n) v) (sym sum) (subst (λ xs. Contains xs v) (sym numbers) (counted root v lt)) in
@@ -190,7 +190,7 @@ module _ (w : World) (p : Plan) (form : FormTree p) where
     long = let l : length t.nodes ≡ is.root + 1 = is.last in let r = root_is in omega (arith, l, r)
 
     numbers_are : child_nodes (children_at t.nodes) (suc count) ≡ countdown count
-    numbers_are = ap (child_nodes (children_at t.nodes)) (sym long) ∙ is.numbers ∙ ap countdown root_is
+    numbers_are = ap (λ n. child_nodes (children_at t.nodes) (suc n)) (sym root_is) ∙ is.shape.numbers ∙ ap countdown root_is
 
     -- what the node of a number is
     data What (v : ℕ) : Type 0 where
@@ -318,8 +318,8 @@ module _ (w : World) (p : Plan) (form : FormTree p) where
             absurd (subst Once is.order is.once zero (suc k) 0 (omega arith) (omega (arith, lt)) (sym at_root))
 
   module _ (t u : PlanTree) (ti : IsTreeOf w p t) (ui : IsTreeOf w p u) where
-    lower_t : (v x : ℕ) → Mem (Task x) (children_at t.nodes v) → x < v
-    lower_t v x h = ti.tree.lower v x h
+    lower_t : (v x : ℕ) → Contains (children_at t.nodes v) (Task x) → x < v
+    lower_t v x h = ti.shape.tree.lower v x h
 
     -- where the nodes above one have one id each, it has
     next_id : (x : ℕ) → x < count → ((j : ℕ) → j < count - x → id_at t (suc x + j) ≡ id_at u (suc x + j)) → id_at t x ≡ id_at u x

@@ -14,15 +14,15 @@ use Rattle.std.proofs.lemmas.Map.Steps.{le-length_from_below}
 use Rattle.std.proofs.lemmas.Option.{slice_get-get_or, get_or_from_slice_get, slice_get_within, slice_get_past}
 use Rattle.hv_text.specs.Lists.{Once}
 use Rattle.hv_plan.specs.Values.{Decomposition, Plan}
-use Rattle.hv_plan.specs.Shapes.{ids, all_children, IsReached, FormTree}
+use Rattle.hv_plan.specs.Shapes.{ids, all_children}
 use Rattle.hv_plan.specs.PlanTrees.{node_numbers, child_nodes, countdown}
-use Rattle.hv_plan.specs.Trees.{Item, Act, Task, Pre, Mem, AtOrBelow, itself, its_pre, its_child, Reached, IsSubtask, IsTree}
-use Rattle.hv_plan.specs.Shaping.{place_of, places_of_lines, kids, line_in, backward, is_marked, IsWalk, Comes, of_root, of_one, IsNumbering, item, items_at, children_by_number}
-use Rattle.hv_plan.specs.ShapeViews.{Shape, IsShape, items_in, children_of_node, shape_tree, line_id, Stands}
+use Rattle.hv_plan.specs.Trees.{Item, Act, Task, Pre, AtOrBelow, itself, its_pre, its_child, Reached, IsSubtask, IsTree}
+use Rattle.hv_plan.specs.inside.Shaping.{place_of, places_of_lines, kids, line_in, backward, is_marked, IsWalk, Comes, of_root, of_one, IsNumbering, item, items_at, children_by_number}
+use Rattle.hv_plan.specs.inside.ShapeViews.{Shape, IsShape, items_in, children_of_node, shape_tree, line_id, Stands}
 use Rattle.hv_plan.proofs.FirstLines.{either_side}
 use Rattle.hv_plan.proofs.ShapeWalks.{stands_at, contained_at, same_place, once_apart, once_right, once_left}
 use Rattle.hv_plan.proofs.ShapePlaces.{place_within, id_at_place}
-use Rattle.hv_plan.proofs.ShapeTrees.{mapped_to, member_of, all_zip_map, all_zip_at, are_apart, once_line, flat, among_flat, one_line, ids_long, action_at, line_at, list_of_line, decomposition_at, kid_of, root_kid, root_child, line_child, met_reached}
+use Rattle.hv_plan.proofs.ShapeTrees.{mapped_to, member_of, all_zip_map, all_zip_at, are_apart, once_line, flat, among_flat, one_line, ids_long, action_at, line_at, list_of_line, decomposition_at, kid_of, root_kid, root_child, line_child}
 
 -- kinds of items
 pub act_not_task : (k v : ℕ) → Act k ≡ Task v → ⊥
@@ -72,15 +72,6 @@ module _ (p : Plan) (root : List ℕ) (lists : List (List ℕ)) (met lines numbe
 
   line_met : (k : ℕ) → k < length p.decompositions → Contains met (length p.actions + k)
   line_met k w = let l : length (ids p) ≡ length p.actions + length p.decompositions = ids_long p in is_met (length p.actions + k) (omega (arith, w, l))
-
-  pub form_tree : FormTree p
-  form_tree = record { distinct = once; children = known; once = single; reached = λ i h. reach i h }
-    where
-      reach : (i : ℕ) → Contains (ids p) i → IsReached p i
-      reach i h =
-          let place : Contains met h.0 = is_met h.0 h.1 in
-          let e : slice_index (ids p) (slice_index met place.0) ≡ i = ap (slice_index (ids p)) (stands_at met h.0 place) ∙ stands_at (ids p) i h in
-          subst (IsReached p) e (met_reached p root lists met marks root_is lists_are once known walk (place.0 + 1) place.0 (omega arith) place.1)
 
   -- numbers of lines
   given : (k : ℕ) → k < length p.decompositions → (slice_index numbers k < length lines) × (slice_index lines (slice_index numbers k) ≡ k)
@@ -213,24 +204,29 @@ module _ (p : Plan) (root : List ℕ) (lists : List (List ℕ)) (met lines numbe
     pub named : Names v id
     pub is : x ≡ item (length p.actions) numbers (place_of (ids p) id)
 
-  member_item : (is : List ℕ) (x : Item) → Mem x (items_at (length p.actions) numbers (map (place_of (ids p)) is)) → (i : ℕ) × Contains is i × (x ≡ item (length p.actions) numbers (place_of (ids p) i))
-  member_item [] x h = elim h [ ]
-  member_item (i ∷ is) x (inl e) = (i, (0, omega arith, refl), e)
-  member_item (i ∷ is) x (inr h) = let r = member_item is x h in (r.0, (suc r.1.0, omega (arith, r.1.1), r.1.2), r.2)
+  member_item : (is : List ℕ) (x : Item) → Contains (items_at (length p.actions) numbers (map (place_of (ids p)) is)) x → (i : ℕ) × Contains is i × (x ≡ item (length p.actions) numbers (place_of (ids p) i))
+  member_item [] x h = let w : h.0 < 0 = h.1 in absurd (omega (arith, w))
+  member_item (i ∷ is) x (zero, w, e) = (i, (0, omega arith, refl), sym e)
+  member_item (i ∷ is) x (suc k, w, e) =
+      let v : suc k < suc (length (items_at (length p.actions) numbers (map (place_of (ids p)) is))) = w in
+      let r = member_item is x (k, omega (arith, v), e) in
+      (r.0, (suc r.1.0, omega (arith, r.1.1), r.1.2), r.2)
 
-  child : (v : ℕ) (x : Item) → Mem x (children_of_node s v) → Child v x
+  child : (v : ℕ) (x : Item) → Contains (children_of_node s v) x → Child v x
   child v x h = by (either_side v (length p.decompositions))
     where
       none : length p.decompositions < v → Child v x
       none w =
           let past : slice_get s.children v ≡ None = slice_get_past s.children v (omega (arith, as_many_nodes, w)) in
-          let P : Option (List Item) → Type 0 = λ o. Mem x (items_in o) in
-          absurd (subst P past h)
+          let P : Option (List Item) → Type 0 = λ o. Contains (items_in o) x in
+          let nowhere : Contains [] x = subst P past h in
+          let w : nowhere.0 < 0 = nowhere.1 in
+          absurd (omega (arith, w))
 
       of_the_root : (v < length p.decompositions + 1) ⊎ (length p.decompositions + 1 ≤ v) → length p.decompositions ≤ v → Child v x
       of_the_root (inl lt) ge =
           let e : v ≡ length p.decompositions = omega (arith, lt, ge) in
-          let P : List Item → Type 0 = Mem x in
+          let P : List Item → Type 0 = λ ys. Contains ys x in
           let r = member_item p.root.ids x (subst P (ap (children_of_node s) e ∙ root_items) h) in
           record { id = r.0; named = by_root e r.1; is = r.2 }
       of_the_root (inr gt) ge = none (omega (arith, gt))
@@ -238,7 +234,7 @@ module _ (p : Plan) (root : List ℕ) (lists : List (List ℕ)) (met lines numbe
       by : (v < length p.decompositions) ⊎ (length p.decompositions ≤ v) → Child v x
       by (inl w) =
           let d = decomposition_at p (slice_index lines v) (line_of v w) in
-          let P : List Item → Type 0 = Mem x in
+          let P : List Item → Type 0 = λ ys. Contains ys x in
           let r = member_item d.0.children x (subst P (line_items v w d.0 d.1) h) in
           record { id = r.0; named = by_one w d.0 d.1 r.1; is = r.2 }
       by (inr ge) = of_the_root (either_side v (length p.decompositions + 1)) ge
@@ -279,7 +275,7 @@ module _ (p : Plan) (root : List ℕ) (lists : List (List ℕ)) (met lines numbe
   same_id : (v w i j : ℕ) → Names v i → Names w j → place_of (ids p) i ≡ place_of (ids p) j → i ≡ j
   same_id v w i j a b e = sym (id_at_place (ids p) i (known i (is_child v i a))) ∙ ap (slice_index (ids p)) e ∙ id_at_place (ids p) j (known j (is_child w j b))
 
-  one_parent : (v w : ℕ) (x : Item) → Mem x (children_of_node s v) → Mem x (children_of_node s w) → v ≡ w
+  one_parent : (v w : ℕ) (x : Item) → Contains (children_of_node s v) x → Contains (children_of_node s w) x → v ≡ w
   one_parent v w x h g =
       let a = child v x h in
       let b = child w x g in
@@ -288,7 +284,7 @@ module _ (p : Plan) (root : List ℕ) (lists : List (List ℕ)) (met lines numbe
       let e : a.id ≡ b.id = same_id v w a.id b.id a.named b.named (same_item (place_of (ids p) a.id) (place_of (ids p) b.id) within_a within_b (sym a.is ∙ b.is)) in
       one_name v w b.id (subst (Names v) e a.named) b.named
 
-  kind : (v : ℕ) (x : Item) → Mem x (children_of_node s v) → IsSubtask x
+  kind : (v : ℕ) (x : Item) → Contains (children_of_node s v) x → IsSubtask x
   kind v x h =
       let c = child v x h in
       subst IsSubtask (sym c.is) (by (side (place_of (ids p) c.id) (place_within (ids p) c.id (known c.id (is_child v c.id c.named)))))
@@ -326,7 +322,7 @@ module _ (p : Plan) (root : List ℕ) (lists : List (List ℕ)) (met lines numbe
           let here : a ≡ c = same_place met walk.meeting.once a c x (omega (arith, less, y)) (at_a ∙ ap (λ j. length p.actions + j) line ∙ sym q.behind) in
           omega (arith, here, less)
 
-  lower : (v u : ℕ) → Mem (Task u) (children_of_node s v) → u < v
+  lower : (v u : ℕ) → Contains (children_of_node s v) (Task u) → u < v
   lower v u h = let c = child v (Task u) h in by c (side (place_of (ids p) c.id) (place_within (ids p) c.id (known c.id (is_child v c.id c.named))))
     where
       by : (c : Child v (Task u)) → (place_of (ids p) c.id < length p.actions) ⊎ ((k : ℕ) × (k < length p.decompositions) × (place_of (ids p) c.id ≡ length p.actions + k)) → u < v
@@ -341,17 +337,17 @@ module _ (p : Plan) (root : List ℕ) (lists : List (List ℕ)) (met lines numbe
   above_line itself v e = (v, e, omega arith)
   above_line (its_pre {v = w} q) v e = absurd (pre_not_task w v e)
   above_line (its_child {v = w} {x = x} q h) v e =
-      let lt : v < w = lower w v (let P : Item → Type 0 = λ y. Mem y (children_of_node s w) in subst P e h) in
+      let lt : v < w = lower w v (let P : Item → Type 0 = λ y. Contains (children_of_node s w) y in subst P e h) in
       let r = above_line q w refl in
       let le : w ≤ r.0 = r.2 in
       (r.0, r.1, omega (arith, lt, le))
 
-  no_initial_below : (c x : Item) (v : ℕ) → Mem c (children_of_node s (length p.decompositions)) → AtOrBelow (shape_tree p s) c (Task v) → Mem x (children_of_node s v)
-      → Mem x (children_of_node s (length p.decompositions)) → ⊥
+  no_initial_below : (c x : Item) (v : ℕ) → Contains (children_of_node s (length p.decompositions)) c → AtOrBelow (shape_tree p s) c (Task v) → Contains (children_of_node s v) x
+      → Contains (children_of_node s (length p.decompositions)) x → ⊥
   no_initial_below c x v initial q h g =
       let e : v ≡ length p.decompositions = one_parent v (length p.decompositions) x h g in
       let r = above_line q v refl in
-      let lt : r.0 < length p.decompositions = lower (length p.decompositions) r.0 (let P : Item → Type 0 = λ y. Mem y (children_of_node s (length p.decompositions)) in subst P r.1 initial) in
+      let lt : r.0 < length p.decompositions = lower (length p.decompositions) r.0 (let P : Item → Type 0 = λ y. Contains (children_of_node s (length p.decompositions)) y in subst P r.1 initial) in
       let le : v ≤ r.0 = r.2 in
       omega (arith, e, lt, le)
 
@@ -479,7 +475,7 @@ module _ (p : Plan) (root : List ℕ) (lists : List (List ℕ)) (met lines numbe
       by : Comes root (kids lists (length p.actions)) met b → ((a : ℕ) → a < steps → a < length met → Reached (shape_tree p s) (item (length p.actions) numbers (slice_index met a)))
           → Reached (shape_tree p s) (item (length p.actions) numbers (slice_index met b))
       by (of_root h) earlier =
-          let P : List Item → Type 0 = Mem (item (length p.actions) numbers (slice_index met b)) in
+          let P : List Item → Type 0 = λ ys. Contains ys (item (length p.actions) numbers (slice_index met b)) in
           record {
             ancestor = item (length p.actions) numbers (slice_index met b);
             is_initial = subst P (sym root_list) (member_of (item (length p.actions) numbers) root (slice_index met b) h);
@@ -495,8 +491,8 @@ module _ (p : Plan) (root : List ℕ) (lists : List (List ℕ)) (met lines numbe
           let r : Reached (shape_tree p s) (Task (slice_index numbers k)) = subst (Reached (shape_tree p s)) above (earlier a (omega (arith, less, below)) (omega (arith, less, w))) in
           let at : slice_get p.decompositions (slice_index lines (slice_index numbers k)) ≡ Some q.line = ap (slice_get p.decompositions) g.1 ∙ q.at in
           let named : Contains (map (place_of (ids p)) q.line.children) (slice_index met b) = subst (Contains (map (place_of (ids p)) q.line.children)) (sym q.is) (mapped_to (place_of (ids p)) q.line.children q.id q.named) in
-          let P : List Item → Type 0 = Mem (item (length p.actions) numbers (slice_index met b)) in
-          let member : Mem (item (length p.actions) numbers (slice_index met b)) (children_of_node s (slice_index numbers k)) =
+          let P : List Item → Type 0 = λ ys. Contains ys (item (length p.actions) numbers (slice_index met b)) in
+          let member : Contains (children_of_node s (slice_index numbers k)) (item (length p.actions) numbers (slice_index met b)) =
           subst P (sym (line_items (slice_index numbers k) vw q.line at)) (member_of (item (length p.actions) numbers) (map (place_of (ids p)) q.line.children) (slice_index met b) named) in
           record { ancestor = r.ancestor; is_initial = r.is_initial; below = its_child r.below member }
 
@@ -526,11 +522,7 @@ module _ (p : Plan) (root : List ℕ) (lists : List (List ℕ)) (met lines numbe
     numbered = numbered;
     of_root = of_root_line;
     of_lines = all_zip_at (λ d v. AllZip (Stands p s) d.children (children_of_node s v)) p.decompositions numbers numbers_count of_line;
-    tree = tree;
-    child_once = child_once;
-    in_order = in_order;
-    reached_lines = reached_line;
-    reached_actions = reached_action;
+    shape = record { tree = tree; child_once = child_once; numbers = in_order; reached_lines = reached_line; reached_actions = reached_action };
   }
 
 -- the numbers of lines are below that of the root line

@@ -3,7 +3,7 @@ use Rattle.std.proofs.Common.{◌≡◌, ◌≢◌, ◌+◌, ◌-◌, ◌<◌, �
 use Rattle.std.specs.List.{flat_map}
 use Rattle.std.proofs.Math.Seq.{drop-cons}
 use Rattle.hv_text.specs.Lists.{Once}
-use Rattle.hv_plan.specs.Shaping.{IsNumbering, line_in, backward}
+use Rattle.hv_plan.specs.inside.Shaping.{IsNumbering, line_in, backward}
 use Rattle.hv_plan.proofs.FirstLines.{either_side}
 use Rattle.hv_plan.proofs.ShapeWalks.{push_front, push_last, length_pushed, below_pushed, same_place}
 

@@ -7,7 +7,7 @@ use Rattle.std.proofs.lemmas.List.Sums.{passes_at_first, fails_before_first, pos
 use Rattle.std.proofs.lemmas.Map.Views.{list_any-from_Contains, Contains-from_any}
 use Rattle.indexmap.specs.IndexSet.{insert_key}
 use Rattle.hv_text.specs.Lists.{Once}
-use Rattle.hv_plan.specs.Shaping.{place_of, is_known}
+use Rattle.hv_plan.specs.inside.Shaping.{place_of, is_known}
 use Rattle.hv_plan.proofs.FirstLines.{either_side}
 use Rattle.hv_plan.proofs.ShapeWalks.{stands_at, once_at}
 

@@ -9,9 +9,9 @@ use Rattle.hv_text.specs.Lists.{Once}
 use Rattle.hv_plan.specs.Values.{Action, Decomposition, Plan}
 use Rattle.hv_plan.specs.Shapes.{head, heads, ids, parents, line_parent, all_children, IsReached, FormTree}
 use Rattle.hv_plan.specs.Shapes as form
-use Rattle.hv_plan.specs.Trees.{Item, Mem}
-use Rattle.hv_plan.specs.Shaping.{place_of, places_of_lines, kids, AreApart, IsWalk, Comes, of_root, of_one}
-use Rattle.hv_plan.specs.ShapeViews.{line_id}
+use Rattle.hv_plan.specs.Trees.{Item}
+use Rattle.hv_plan.specs.inside.Shaping.{place_of, places_of_lines, kids, is_marked, AreApart, IsWalk, Comes, of_root, of_one}
+use Rattle.hv_plan.specs.inside.ShapeViews.{line_id}
 use Rattle.hv_plan.proofs.HeadLists.{action_ids, decomposition_ids, ids_are}
 use Rattle.hv_plan.proofs.FirstLines.{either_side}
 use Rattle.hv_plan.proofs.ShapeWalks.{stands_at, contained_at, once_apart, once_right, once_left, once_map, once_none}
@@ -31,20 +31,18 @@ mapped_to f xs x h =
     let w : h.0 < length xs = h.1 in
     (h.0, omega (arith, w, l), get_or-map f xs h.0 0 (f x) w ∙ ap f (stands_at xs x h))
 
--- members of a list of items
-pub member_from : (f : ℕ → Item) (xs : List ℕ) (y : Item) → Mem y (map f xs) → (x : ℕ) × Contains xs x × (y ≡ f x)
-member_from f [] y m = elim m [ ]
-member_from f (x ∷ xs) y (inl e) = (x, (0, omega arith, refl), e)
-member_from f (x ∷ xs) y (inr m) = let r = member_from f xs y m in (r.0, Contains-append_right (x ∷ []) xs r.0 r.1, r.2)
+-- what a list of items contains
+here : (y : Item) (ys : List Item) (x : Item) → y ≡ x → Contains (y ∷ ys) x
+here y ys x e = (0, omega arith, e)
 
-pub member_to : (f : ℕ → Item) (xs : List ℕ) (x k : ℕ) → k < length xs → slice_index xs k ≡ x → Mem (f x) (map f xs)
+pub member_to : (f : ℕ → Item) (xs : List ℕ) (x k : ℕ) → k < length xs → slice_index xs k ≡ x → Contains (map f xs) (f x)
 member_to f [] x k w e = absurd (no_place k w) where
   no_place : (k : ℕ) → k < 0 → ⊥
   no_place k w = omega arith
-member_to f (y ∷ ys) x zero w e = inl (ap f (sym e))
-member_to f (y ∷ ys) x (suc k) w e = inr (member_to f ys x k (omega arith) e)
+member_to f (y ∷ ys) x zero w e = here (f y) (map f ys) (f x) (ap f e)
+member_to f (y ∷ ys) x (suc k) w e = Contains-append_right (f y ∷ []) (map f ys) (f x) (member_to f ys x k (omega arith) e)
 
-pub member_of : (f : ℕ → Item) (xs : List ℕ) (x : ℕ) → Contains xs x → Mem (f x) (map f xs)
+pub member_of : (f : ℕ → Item) (xs : List ℕ) (x : ℕ) → Contains xs x → Contains (map f xs) (f x)
 member_of f xs x h = member_to f xs x h.0 h.1 (stands_at xs x h)
 
 pub all_zip_map : {B : Type 0} (R : ℕ → B → Type 0) (f : ℕ → B) (xs : List ℕ) → ((x : ℕ) → Contains xs x → R x (f x)) → AllZip R xs (map f xs)
@@ -237,6 +235,16 @@ module _ (p : Plan) (root : List ℕ) (lists : List (List ℕ)) (met : List ℕ)
       let P : List ℕ → Type 0 = λ xs. Contains xs (place_of (ids p) i) in
       let are : kids lists (length p.actions) (slice_index met m.0) ≡ map (place_of (ids p)) d.children = ap (kids lists (length p.actions)) stands ∙ kids_of p lists lists_are k d at in
       walk.closed m.0 (place_of (ids p) i) m.1 (subst P (sym are) (mapped_to (place_of (ids p)) d.children i h))
+
+  -- lines that are all met form a tree, where each child begins one line and is a child once
+  pub form_tree : Once (all_children p) → ((k : ℕ) → k < length (ids p) → is_marked marks k ≡ true) → FormTree p
+  form_tree single all = record { distinct = once; children = known; once = single; reached = λ i h. reach i h }
+    where
+      reach : (i : ℕ) → Contains (ids p) i → IsReached p i
+      reach i h =
+          let place : Contains met h.0 = walk.meeting.marked h.0 (all h.0 h.1) in
+          let e : slice_index (ids p) (slice_index met place.0) ≡ i = ap (slice_index (ids p)) (stands_at met h.0 place) ∙ stands_at (ids p) i h in
+          subst (IsReached p) e (met_reached (place.0 + 1) place.0 (omega arith) place.1)
 
 -- the places of children are places of lines
 pub root_within : (p : Plan) (root : List ℕ) → root ≡ map (place_of (ids p)) p.root.ids → ((i : ℕ) → Contains (all_children p) i → Contains (ids p) i) → (c : ℕ) → Contains root c → c < length (ids p)

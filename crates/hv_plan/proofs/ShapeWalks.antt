@@ -12,7 +12,7 @@ use Rattle.std.proofs.lemmas.Map.Steps.{length-le_from_distinct_below}
 use Rattle.std.proofs.lemmas.Map.Views.{Contains-from_any}
 use Rattle.std.proofs.lemmas.List.Elements.{Contains-append_left, Contains-append_right, Contains-append_cases, Contains-push}
 use Rattle.hv_text.specs.Lists.{Once}
-use Rattle.hv_plan.specs.Shaping.{is_marked, IsMeeting, Grows, AreApart, Comes, of_root, of_one, IsWalking}
+use Rattle.hv_plan.specs.inside.Shaping.{is_marked, IsMeeting, Grows, AreApart, Comes, of_root, of_one, IsWalking}
 use Rattle.hv_plan.proofs.FirstLines.{either, either_side, below_next}
 
 pub push_front : (xs : List ℕ) (y k : ℕ) → k < length xs → slice_index (xs ++ y ∷ []) k ≡ slice_index xs k

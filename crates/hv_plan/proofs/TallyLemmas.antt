@@ -10,7 +10,7 @@ use Rattle.hv_world.specs.Values.{TaskName, compound, primitive}
 use Rattle.hv_world.specs.Alike.{same_name}
 use Rattle.hv_plan.specs.Forms.{every}
 use Rattle.hv_plan.specs.Fits.{multiplicity}
-use Rattle.hv_plan.specs.Tallies.{times, number_in}
+use Rattle.hv_plan.specs.inside.Tallies.{times, number_in}
 use Rattle.hv_plan.proofs.FitLemmas.{contains_cons, contains_first, contains_rest, partner, every_none}
 
 -- a number at a place stands more often in all than before the place
@@ -72,6 +72,22 @@ more_if : (b : Bool) (k : ℕ) → 0 < k → 0 < cond b 1 0 + k
 more_if true k lt = omega arith
 more_if false k lt = omega arith
 
+-- names that are the same are one
+same_names : (m x : TaskName) → same_name m x ≡ true → m ≡ x
+same_names (compound t) (compound u) e = ap compound (eqb-true t u e)
+same_names (compound t) (primitive b) e = cc
+same_names (primitive a) (compound u) e = cc
+same_names (primitive a) (primitive b) e = ap primitive (eqb-true a b e)
+
+pub name_is_itself : (m : TaskName) → same_name m m ≡ true
+name_is_itself (compound t) = eq-eqb t t refl
+name_is_itself (primitive a) = eq-eqb a a refl
+
+pub name_member : (m : TaskName) (ms : List TaskName) → 0 < multiplicity m ms → Contains ms m
+name_member m ms lt =
+    let (x, in', is) = counted_member (same_name m) (λ x. m ≡ x) (λ x e. same_names m x e) ms lt in
+    subst (λ n. Contains ms n) (sym is) in'
+
 -- a name and its number
 module _ (ts as' : ℕ) where
   of_compound : (t j : ℕ) → number_in ts as' (compound t) ≡ Some j → (t < ts) × (t ≡ j)
@@ -116,16 +132,6 @@ module _ (ts as' : ℕ) where
   names_times m j (x ∷ xs) [] e all = absurd all
   names_times m j (x ∷ xs) (n ∷ ns) e (p, all) =
       sum_by-cons (λ y. cond (same_name m y) 1 0) x xs ∙ (λ i. cond (same_number m x j n e p i) 1 0 + names_times m j xs ns e all i) ∙ sym (sum_by-cons (λ k. cond (nat_eq j k) 1 0) n ns)
-
-  same_names : (m x : TaskName) → same_name m x ≡ true → m ≡ x
-  same_names (compound t) (compound u) e = ap compound (eqb-true t u e)
-  same_names (compound t) (primitive b) e = cc
-  same_names (primitive a) (compound u) e = cc
-  same_names (primitive a) (primitive b) e = ap primitive (eqb-true a b e)
-
-  pub name_is_itself : (m : TaskName) → same_name m m ≡ true
-  name_is_itself (compound t) = eq-eqb t t refl
-  name_is_itself (primitive a) = eq-eqb a a refl
 
   -- a name without a number is none of those that have numbers
   pub unnumbered : (m : TaskName) (ms : List TaskName) (ns : List ℕ) → number_in ts as' m ≡ None → AreNumbers ms ns → multiplicity m ms ≡ 0

@@ -9,11 +9,11 @@ use Rattle.hv_plan.specs.Values as text
 use Rattle.hv_plan.specs.Values.{Plan}
 use Rattle.hv_plan.specs.Shapes.{parents, Parent, FormTree}
 use Rattle.hv_plan.specs.Causes.{number, Qualifies, repeated_id, unknown_child, child_before, child_twice, unreached, unknown_task, unknown_method, unknown_object, argument_count, argument_type, not_primitive, not_abstract, other_task, child_count, child_names, IsCause}
-use Rattle.hv_plan.specs.LineFaults.{action_entry, line_entry, entries, IsAtFault, IsEarliest, FaultIn}
-use Rattle.hv_plan.specs.ChildFaults.{IsChildFault, ChildFaultIn}
-use Rattle.hv_plan.specs.FitViews.{IsDecomposed}
+use Rattle.hv_plan.specs.inside.LineFaults.{action_entry, line_entry, entries, IsAtFault, IsEarliest, FaultIn}
+use Rattle.hv_plan.specs.inside.ChildFaults.{IsChildFault, ChildFaultIn}
+use Rattle.hv_plan.specs.inside.FitViews.{IsDecomposed}
 use Rattle.hv_plan.specs.PlanTrees.{IsActionOf}
-use Rattle.hv_plan.specs.FitViews.{Decomposed}
+use Rattle.hv_plan.specs.inside.FitViews.{Decomposed}
 use Rattle.hv_plan.specs.declared.cause.CauseKind.{CauseKind}
 use Rattle.hv_plan.specs.declared.cause.CauseKind.TheVariants as kinds
 use Rattle.hv_plan.specs.declared.cause.Cause.{Cause}

@@ -1,11 +1,11 @@
 -- What a tree that was built says.
 use Rattle.std.specs.Prelude.{List, ◌∷◌, length, map}
 use Rattle.hv_world.specs.Bindings.{ground_actions_view}
-use Rattle.hv_plan.specs.FitViews.{decomposed_lines}
+use Rattle.hv_plan.specs.inside.FitViews.{decomposed_lines}
 use Rattle.hv_plan.specs.LineViews.{plan_view}
-use Rattle.hv_plan.specs.NodeViews.{nodes_of}
+use Rattle.hv_plan.specs.inside.NodeViews.{nodes_of}
 use Rattle.hv_plan.specs.PlanTrees.{PlanTree}
-use Rattle.hv_plan.specs.ShapeViews.{shape_view}
+use Rattle.hv_plan.specs.inside.ShapeViews.{shape_view}
 use Rattle.hv_plan.specs.declared.tree.Tree as code
 
 abbrev pub tree_view : code.Tree → PlanTree

@@ -7,7 +7,8 @@ use Rattle.hv_text.specs.Lists.{Once}
 use Rattle.hv_world.specs.Worlds.{World, Method, task_named, method_named}
 use Rattle.hv_plan.specs.Values.{Action, Decomposition, Plan}
 use Rattle.hv_plan.specs.Shapes.{heads, ids, Parent, parents, IsReached}
-use Rattle.hv_plan.specs.Fits.{parameters_of, AreObjects, AreOf, IsForTask, IsNamed, multiplicity, names_of, method_of}
+use Rattle.hv_plan.specs.Fits.{parameters_of, AreObjects, IsForTask, IsNamed, multiplicity, names_of, method_of}
+use Rattle.hv_world.specs.Groundings.{AreOf}
 use Rattle.hv_plan.specs.declared.cause.CauseKind.{CauseKind}
 use Rattle.hv_plan.specs.declared.cause.CauseKind.TheVariants as kinds
 use Rattle.hv_plan.specs.declared.cause.Cause.{Cause}
@@ -63,7 +64,7 @@ pub data Qualifies (w : World) (p : Plan) : CauseKind → ℕ → Type 0 where
   argument_count : (a : Action) (t : TaskName) → Contains (heads p) a → task_named w a.name ≡ Some t
       → (length a.arguments ≡ length (parameters_of w t) → ⊥) → Qualifies w p kinds.ArgumentCount a.line
   argument_type : (a : Action) (t : TaskName) (os : List ℕ) → Contains (heads p) a → task_named w a.name ≡ Some t
-      → AreObjects w a.arguments os → (AreOf w os (parameters_of w t) → ⊥) → Qualifies w p kinds.ArgumentType a.line
+      → AreObjects w a.arguments os → (AreOf w.typing os (parameters_of w t) → ⊥) → Qualifies w p kinds.ArgumentType a.line
   not_primitive : (a : Action) (t : ℕ) → Contains p.actions a → task_named w a.name ≡ Some (compound t)
       → Qualifies w p kinds.NotPrimitive a.line
   not_abstract : (d : Decomposition) (a : ℕ) → Contains p.decompositions d → task_named w d.name ≡ Some (primitive a)

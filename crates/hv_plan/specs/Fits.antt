@@ -4,7 +4,7 @@ use Rattle.std.specs.List.{AllZip}
 use Rattle.hv_world.specs.Values.{TaskName, compound, primitive, Subtask}
 use Rattle.hv_world.specs.Names.{place_in}
 use Rattle.hv_world.specs.Alike.{same_name}
-use Rattle.hv_world.specs.Types.{Of}
+use Rattle.hv_world.specs.Groundings.{AreOf}
 use Rattle.hv_world.specs.Worlds.{World, Method, Task, Action, task_named, method_named}
 use Rattle.hv_plan.specs.Values as text
 use Rattle.hv_plan.specs.Values.{Plan}
@@ -27,16 +27,12 @@ parameters_of w (primitive a) = action_parameters (slice_get w.actions a)
 abbrev pub AreObjects : World → List (List ℕ) → List ℕ → Type 0
 AreObjects w ns os = AllZip (λ n o. place_in w.objects n ≡ Some o) ns os
 
--- objects are of types
-abbrev pub AreOf : World → List ℕ → List ℕ → Type 0
-AreOf w os ts = AllZip (λ o t. Of w.typing o t) os ts
-
 -- What a line says of its id: the task or the action of this name, with these objects, as many as it
 -- has parameters, each of its parameter's type
 pub record Says (w : World) (a : text.Action) (t : TaskName) (os : List ℕ) : Type 0 where
   pub name : task_named w a.name ≡ Some t
   pub objects : AreObjects w a.arguments os
-  pub typed : AreOf w os (parameters_of w t)
+  pub typed : AreOf w.typing os (parameters_of w t)
 
 -- a method for this task
 abbrev pub IsForTask : Option Subtask → ℕ → Type 0

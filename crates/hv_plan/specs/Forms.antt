@@ -165,6 +165,10 @@ form_of n (word w s ∷ ps) =
 abbrev pub is_id : ℕ → Bool
 is_id i = nat_le i greatest
 
+-- a number, where it has at most 64 bits
+abbrev pub as_number : ℕ → Option ℕ
+as_number i = if is_id i then Some i else None
+
 -- whether no id is past the greatest
 abbrev pub fits : Form → Bool
 fits blank = true

@@ -3,10 +3,9 @@ pub mod Lines
 pub mod Forms
 pub mod Spellings
 pub mod Plans
-pub mod Lists
 pub mod PlanLines
 pub mod LineViews
-pub mod Views
+pub mod LinesLeft
 pub mod Canonical
 pub mod Bare
 pub mod Trees
@@ -15,12 +14,5 @@ pub mod Fits
 pub mod Causes
 pub mod PlanTrees
 pub mod TreeViews
-pub mod LineFaults
-pub mod FitViews
-pub mod Shaping
-pub mod ShapeCauses
-pub mod ShapeViews
-pub mod Tallies
-pub mod ChildFaults
-pub mod NodeViews
 pub mod BuiltTrees
+pub mod inside

@@ -95,11 +95,19 @@ abbrev pub countdown : ℕ → List ℕ
 countdown zero = []
 countdown (suc n) = n ∷ countdown n
 
--- The tree of a plan: it has the plan's actions, a node for each decomposition line and one for the
--- root line, which name as their children what the lines name by ids; children stand before parents,
--- each is a child once, and every action and every node is reached from the root line. Nodes are
+-- A tree of so many nodes below that of the root line, and so many actions: children stand before
+-- parents, each is a child once, and every action and every node is reached from the root line. Nodes are
 -- numbered level by level: where the children of the last node, of the node before it, and so on down
 -- to node 0 are listed, their nodes are the numbers below that of the root line, the greatest first
+pub record IsNumberedTree (t : Tree) (nodes actions : ℕ) : Type 0 where
+  pub tree : IsTree t
+  pub child_once : (v : ℕ) → AllPairs ◌≢◌ (t.children v)
+  pub numbers : child_nodes t.children (suc nodes) ≡ countdown nodes
+  pub reached_lines : (v : ℕ) → v < nodes → Reached t (Task v)
+  pub reached_actions : HasActions t actions
+
+-- The tree of a plan: it has the plan's actions, a node for each decomposition line and one for the
+-- root line, which name as their children what the lines name by ids; and its nodes are a numbered tree
 pub record IsTreeOf (w : World) (p : Plan) (t : PlanTree) : Type 0 where
   pub actions : AllZip (IsActionOf w) p.actions t.actions
   pub action_ids : t.action_ids ≡ map (λ a. a.id) p.actions
@@ -112,11 +120,7 @@ pub record IsTreeOf (w : World) (p : Plan) (t : PlanTree) : Type 0 where
   pub every : (v : ℕ) → v < length t.nodes → Contains t.order v
   pub root_node : NodeIs t (IsRootOf t p.root) root
   pub line_nodes : AllZip (λ d v. NodeIs t (IsNodeOf w t d) v) p.decompositions lines
-  pub tree : IsTree (tree_of t)
-  pub child_once : (v : ℕ) → AllPairs ◌≢◌ (children_at t.nodes v)
-  pub numbers : child_nodes (children_at t.nodes) (length t.nodes) ≡ countdown root
-  pub reached_lines : (v : ℕ) → v < root → Reached (tree_of t) (Task v)
-  pub reached_actions : HasActions (tree_of t) (length p.actions)
+  pub shape : IsNumberedTree (tree_of t) root (length p.actions)
 
 -- A tree of this world: that of a plan whose lines form a tree and fit the world
 pub record IsTreeIn (w : World) (t : PlanTree) : Type 0 where

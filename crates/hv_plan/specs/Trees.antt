@@ -1,5 +1,5 @@
 -- The tree of a plan: its actions, its decomposition lines, and what stands below what.
-use Rattle.std.specs.Prelude.{◌≡◌, ℕ, ◌<◌, ◌⊎◌, List, [], ◌∷◌}
+use Rattle.std.specs.Prelude.{◌≡◌, ℕ, ◌<◌, List, [], ◌∷◌, Contains}
 
 -- A member of a task network: an action of the plan, a compound task that is still to be decomposed,
 -- or the precondition step of the method that was applied to one. Actions are numbered from 0 in
@@ -9,16 +9,6 @@ pub data Item : Type 0 where
   Act : ℕ → Item
   Task : ℕ → Item
   Pre : ℕ → Item
-
--- x is one of a list
-abbrev pub Mem : {X : Type 0} → X → List X → Type 0
-Mem x [] = ⊥
-Mem x (y ∷ ys) = (x ≡ y) ⊎ Mem x ys
-
--- no member of a list stands there twice
-abbrev pub Distinct : {X : Type 0} → List X → Type 0
-Distinct [] = Unit {0}
-Distinct (x ∷ xs) = (Mem x xs → ⊥) × Distinct xs
 
 -- The tasks of the initial network, and the children of each line: the tasks that the plan puts in
 -- the place of the line's task. A list stands for the set of its members
@@ -31,12 +21,12 @@ pub record Tree : Type 0 where
 pub data AtOrBelow (t : Tree) (c : Item) : Item → Type 0 where
   itself : AtOrBelow t c c
   its_pre : {v : ℕ} → AtOrBelow t c (Task v) → AtOrBelow t c (Pre v)
-  its_child : {v : ℕ} {x : Item} → AtOrBelow t c (Task v) → Mem x (t.children v) → AtOrBelow t c x
+  its_child : {v : ℕ} {x : Item} → AtOrBelow t c (Task v) → Contains (t.children v) x → AtOrBelow t c x
 
 -- x belongs to the tree: it is an initial task or stands below one
 pub record Reached (t : Tree) (x : Item) : Type 0 where
   pub ancestor : Item
-  pub is_initial : Mem ancestor t.initial_tasks
+  pub is_initial : Contains t.initial_tasks ancestor
   pub below : AtOrBelow t ancestor x
 
 -- an action or a precondition step: what is executed, and never decomposed
@@ -55,13 +45,13 @@ IsSubtask (Pre v) = ⊥
 -- greater number than each line among its children, so that no line stands below itself; no item is
 -- a child of two lines; and no initial task is a child of a line below an initial task
 pub record IsTree (t : Tree) : Type 0 where
-  pub initial_kind : (x : Item) → Mem x t.initial_tasks → IsSubtask x
-  pub child_kind : (v : ℕ) (x : Item) → Mem x (t.children v) → IsSubtask x
-  pub lower : (v u : ℕ) → Mem (Task u) (t.children v) → u < v
-  pub one_parent : (v w : ℕ) (x : Item) → Mem x (t.children v) → Mem x (t.children w) → v ≡ w
+  pub initial_kind : (x : Item) → Contains t.initial_tasks x → IsSubtask x
+  pub child_kind : (v : ℕ) (x : Item) → Contains (t.children v) x → IsSubtask x
+  pub lower : (v u : ℕ) → Contains (t.children v) (Task u) → u < v
+  pub one_parent : (v w : ℕ) (x : Item) → Contains (t.children v) x → Contains (t.children w) x → v ≡ w
   pub no_initial_below :
-      (c x : Item) (v : ℕ) → Mem c t.initial_tasks → AtOrBelow t c (Task v) → Mem x (t.children v)
-      → Mem x t.initial_tasks → ⊥
+      (c x : Item) (v : ℕ) → Contains t.initial_tasks c → AtOrBelow t c (Task v) → Contains (t.children v) x
+      → Contains t.initial_tasks x → ⊥
 
 -- The tree that has one line's task as its only initial task: the network of that task alone
 abbrev pub line_tree : Tree → ℕ → Tree
@@ -70,7 +60,7 @@ line_tree t v = record { initial_tasks = Task v ∷ []; children = t.children }
 -- every initial task that is a line has a number below `depth`, and so every line of the tree has:
 -- a walk of that many levels from an initial task comes to the end of each branch
 abbrev pub IsWithin : Tree → ℕ → Type 0
-IsWithin t depth = (u : ℕ) → Mem (Task u) t.initial_tasks → u < depth
+IsWithin t depth = (u : ℕ) → Contains t.initial_tasks (Task u) → u < depth
 
 -- each of the plan's n actions belongs to the tree
 abbrev pub HasActions : Tree → ℕ → Type 0

@@ -2,7 +2,7 @@
 
 ghost use Rattle.std.specs.Prelude.{◌≡◌};
 ghost use Rattle.hv_plan.specs.Causes.{number};
-ghost use Rattle.hv_plan.specs.LineFaults.{comes_before, earlier};
+ghost use Rattle.hv_plan.specs.inside.LineFaults.{comes_before, earlier};
 
 use hv_text::Memory;
 use std::alloc::AllocFailed;

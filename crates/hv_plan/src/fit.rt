@@ -10,10 +10,11 @@ ghost use Rattle.hv_world.specs.MethodViews.{method_view};
 ghost use Rattle.hv_world.specs.Names.{place_in};
 ghost use Rattle.hv_world.specs.Views.{name_view, type_number};
 ghost use Rattle.hv_world.specs.WorldViews.{world_view};
-ghost use Rattle.hv_plan.specs.Fits.{parameters_of, AreObjects, AreOf, IsForTask};
-ghost use Rattle.hv_plan.specs.FitViews.{decomposed_view, grounded_view, IsDecomposed};
+ghost use Rattle.hv_plan.specs.Fits.{parameters_of, IsForTask};
+ghost use Rattle.hv_world.specs.Groundings.{AreOf};
+ghost use Rattle.hv_plan.specs.inside.FitViews.{decomposed_view, grounded_view, IsDecomposed};
 ghost use Rattle.hv_plan.specs.Forms.{every};
-ghost use Rattle.hv_plan.specs.LineFaults.{action_entry, line_entry, IsArgumentFault, IsObjectFault, IsSmallest};
+ghost use Rattle.hv_plan.specs.inside.LineFaults.{action_entry, line_entry, AreArguments, IsArgumentFault, IsLineFault, IsObjectFault, IsSmallest};
 ghost use Rattle.hv_plan.specs.LineViews.{action_view, decomposition_view};
 ghost use Rattle.hv_plan.specs.PlanTrees.{IsActionOf};
 
@@ -22,6 +23,26 @@ use crate::plan::{ActionLine, DecompositionLine};
 use hv_text::{Memory, Name};
 use hv_world::{ActionId, Method, MethodId, ObjectId, TaskId, TaskName, TypeId, World};
 use std::alloc::Global;
+
+/// Why nothing is found of a line.
+#[derive(Clone, Copy)]
+pub(crate) enum LineFault {
+    /// The line is at fault by itself, and this is the cause of the smallest number.
+    Cause(CauseKind),
+    /// A growth of memory was refused.
+    Memory,
+}
+
+impl From<Memory> for LineFault {
+    ghost use Rattle.std.specs.Prelude.{◌≡◌};
+    ghost use Rattle.hv_plan.specs.declared.fit.LineFault.TheVariants as faults;
+
+    ghost from_gives = { λ _ e. e ≡ faults.Memory };
+
+    fn from(_refused: Memory) -> LineFault {
+        LineFault::Memory
+    }
+}
 
 /// What a decomposition line says: its task with the objects, and the method.
 #[derive(Drop)]
@@ -74,7 +95,7 @@ fn parameters_of<'a, 's>(world: &'a World<'s>, name: TaskName) -> &'a [TypeId]
 
 // What keeps objects from being as the parameters of a task or an action.
 fn objects_fault(world: &World<'_>, name: TaskName, objects: &[ObjectId]) -> Option<CauseKind>
-    ensures { MatchOption result (AreOf (world_view world.now) (map object_number objects.now) (parameters_of (world_view world.now) (name_view name))) (IsObjectFault (world_view world.now) (name_view name) (map object_number objects.now)) }
+    ensures { MatchOption result (AreOf (world_view world.now).typing (map object_number objects.now) (parameters_of (world_view world.now) (name_view name))) (IsObjectFault (world_view world.now) (name_view name) (map object_number objects.now)) }
 {
     let types = parameters_of(world, name);
     if objects.len() != types.len() {
@@ -92,41 +113,42 @@ fn fit_arguments<'s>(
     world: &World<'s>,
     name: TaskName,
     arguments: &[Name<'s>],
-) -> Result<Result<Vec<ObjectId>, CauseKind>, Memory>
-    ensures { IfOk result (λ r. MatchResult r (λ os. AreObjects (world_view world.now) (map text_of arguments.now) (map object_number os.items) × AreOf (world_view world.now) (map object_number os.items) (parameters_of (world_view world.now) (name_view name))) (IsArgumentFault (world_view world.now) (name_view name) (map text_of arguments.now))) }
+) -> Result<Vec<ObjectId>, LineFault>
+    ensures { MatchResult result
+        (λ os. AreArguments (world_view world.now) (name_view name) (map text_of arguments.now) (map object_number os.items))
+        (IsLineFault (IsArgumentFault (world_view world.now) (name_view name) (map text_of arguments.now))) }
 {
     let Some(objects) = objects_named(alloc, world, arguments)? else {
-        return Ok(Err(CauseKind::UnknownObject));
+        return Err(LineFault::Cause(CauseKind::UnknownObject));
     };
     match objects_fault(world, name, &objects) {
-        Some(kind) => Ok(Err(kind)),
-        None => Ok(Ok(objects)),
+        Some(kind) => Err(LineFault::Cause(kind)),
+        None => Ok(objects),
     }
 }
 
-/// The action of an action line, or the cause of the smallest number for which the line is at fault
-/// by itself.
+/// The action of an action line.
 ///
 /// # Errors
 ///
-/// `Memory` where a growth was refused.
+/// The cause of the smallest number for which the line is at fault by itself; `Memory` where a
+/// growth was refused.
 pub(crate) fn fit_action<'s>(
     alloc: Global,
     world: &World<'s>,
     line: ActionLine<'_, 's>,
-) -> Result<Result<Grounded, CauseKind>, Memory>
-    ensures { IfOk result (λ r. MatchResult r (λ g. IsActionOf (world_view world.now) (action_view line.entry) (grounded_view g)) (IsSmallest (world_view world.now) (action_entry (action_view line.entry)))) }
+) -> Result<Grounded, LineFault>
+    ensures { MatchResult result
+        (λ g. IsActionOf (world_view world.now) (action_view line.entry) (grounded_view g))
+        (IsLineFault (IsSmallest (world_view world.now) (action_entry (action_view line.entry)))) }
 {
     let Some(name) = world.task_named(line.name) else {
-        return Ok(Err(CauseKind::UnknownTask));
+        return Err(LineFault::Cause(CauseKind::UnknownTask));
     };
-    let objects = match fit_arguments(alloc, world, name, line.arguments)? {
-        Ok(objects) => objects,
-        Err(kind) => return Ok(Err(kind)),
-    };
+    let objects = fit_arguments(alloc, world, name, line.arguments)?;
     match name {
-        TaskName::Primitive(action) => Ok(Ok(Grounded { action, objects })),
-        TaskName::Compound(_) => Ok(Err(CauseKind::NotPrimitive)),
+        TaskName::Primitive(action) => Ok(Grounded { action, objects }),
+        TaskName::Compound(_) => Err(LineFault::Cause(CauseKind::NotPrimitive)),
     }
 }
 
@@ -153,41 +175,40 @@ fn is_for(world: &World<'_>, method: MethodId, task: TaskId) -> bool
     }
 }
 
-/// What a decomposition line says, or the cause of the smallest number for which the line is at
-/// fault by itself.
+/// What a decomposition line says.
 ///
 /// # Errors
 ///
-/// `Memory` where a growth was refused.
+/// The cause of the smallest number for which the line is at fault by itself; `Memory` where a
+/// growth was refused.
 pub(crate) fn fit_line<'s>(
     alloc: Global,
     world: &World<'s>,
     line: DecompositionLine<'_, 's>,
-) -> Result<Result<Decomposed, CauseKind>, Memory>
-    ensures { IfOk result (λ r. MatchResult r (λ x. IsDecomposed (world_view world.now) (decomposition_view line.entry) (decomposed_view x)) (IsSmallest (world_view world.now) (line_entry (decomposition_view line.entry)))) }
+) -> Result<Decomposed, LineFault>
+    ensures { MatchResult result
+        (λ x. IsDecomposed (world_view world.now) (decomposition_view line.entry) (decomposed_view x))
+        (IsLineFault (IsSmallest (world_view world.now) (line_entry (decomposition_view line.entry)))) }
 {
     let Some(name) = world.task_named(line.name) else {
-        return Ok(Err(CauseKind::UnknownTask));
+        return Err(LineFault::Cause(CauseKind::UnknownTask));
     };
     let Some(method) = world.method_named(line.method) else {
-        return Ok(Err(CauseKind::UnknownMethod));
+        return Err(LineFault::Cause(CauseKind::UnknownMethod));
     };
-    let objects = match fit_arguments(alloc, world, name, line.arguments)? {
-        Ok(objects) => objects,
-        Err(kind) => return Ok(Err(kind)),
-    };
+    let objects = fit_arguments(alloc, world, name, line.arguments)?;
     match name {
         TaskName::Compound(task) => {
             if is_for(world, method, task) {
-                Ok(Ok(Decomposed {
+                Ok(Decomposed {
                     task,
                     objects,
                     method,
-                }))
+                })
             } else {
-                Ok(Err(CauseKind::OtherTask))
+                Err(LineFault::Cause(CauseKind::OtherTask))
             }
         }
-        TaskName::Primitive(_) => Ok(Err(CauseKind::NotAbstract)),
+        TaskName::Primitive(_) => Err(LineFault::Cause(CauseKind::NotAbstract)),
     }
 }

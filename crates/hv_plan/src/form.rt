@@ -7,7 +7,7 @@ ghost use Rattle.hv_text.specs.Words.{piece_of};
 ghost use Rattle.hv_text.specs.Names.{text_of};
 ghost use Rattle.hv_plan.specs.Forms.{said, listed, form_of, node_of, action_of, decomposition_of, root_of, every, id_of, id_at, is_arrow, task_of, method_of, parts_of};
 ghost use Rattle.hv_plan.specs.LineViews.{action_view, decomposition_view};
-ghost use Rattle.hv_plan.specs.Views.{Reads, action_form_view, decomposition_form_view, form_view, line_view, task_view, ids_view, decomposition_said};
+ghost use Rattle.hv_plan.specs.inside.Views.{Reads, action_form_view, decomposition_form_view, form_view, line_view, task_view, ids_view, decomposition_said};
 
 use crate::fault::PlanFault;
 use crate::id::{Id, read_id};

@@ -5,8 +5,8 @@ ghost use Rattle.std.specs.List.{list_all};
 ghost use Rattle.std.specs.Char.{is_ascii_digit};
 ghost use Rattle.hv_text.specs.Names.{text_of};
 ghost use Rattle.hv_text.specs.Words.{piece_of};
-ghost use Rattle.hv_plan.specs.Forms.{is_digits, id_of, id_at, value_from};
-ghost use Rattle.hv_plan.specs.Views.{as_id, as_number};
+ghost use Rattle.hv_plan.specs.Forms.{is_digits, id_of, id_at, value_from, as_number};
+ghost use Rattle.hv_plan.specs.inside.Views.{as_id};
 
 use hv_text::{Name, Word};
 

@@ -3,7 +3,7 @@
 ghost use Rattle.std.specs.Prelude.{◌≡◌, map, IfOk};
 ghost use Rattle.hv_text.specs.Words.{piece_of};
 ghost use Rattle.hv_plan.specs.Forms.{every, id_at};
-ghost use Rattle.hv_plan.specs.Views.{as_ids, ids_view};
+ghost use Rattle.hv_plan.specs.inside.Views.{as_ids, ids_view};
 
 use crate::id::{Id, id_at};
 use hv_text::{Memory, Word};

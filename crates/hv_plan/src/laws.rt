@@ -10,8 +10,9 @@ ghost use Rattle.hv_plan.specs.Plans.{IsBody, fault_from};
 ghost use Rattle.hv_plan.specs.Spellings.{SpellsForm, SayPlan, IsFirstFault, IsPlan, IsPlanFault};
 ghost use Rattle.hv_plan.specs.Canonical.{plan_text};
 ghost use Rattle.hv_plan.specs.Bare.{bare_plan};
+ghost use Rattle.hv_world.specs.Bounds.{IsSound};
 ghost use Rattle.hv_world.specs.Worlds.{World};
-ghost use Rattle.hv_plan.specs.Shapes.{FormTree};
+ghost use Rattle.hv_plan.specs.Shapes.{FormTree, IsInTextOrder};
 ghost use Rattle.hv_plan.specs.Fits.{FitWorld};
 ghost use Rattle.hv_plan.specs.Causes.{IsCause, Qualifies};
 ghost use Rattle.hv_plan.specs.PlanTrees.{PlanTree, children_at, IsNodeOf, IsTreeOf, NodeIs};
@@ -20,6 +21,8 @@ ghost use Rattle.hv_plan.specs.declared.cause.Cause.{Cause};
 ghost use Rattle.hv_plan.specs.declared.cause.CauseKind.{CauseKind};
 ghost use Rattle.hv_plan.specs.declared.fault.PlanFault.{PlanFault};
 ghost use Rattle.hv_plan.specs.declared.fault.PlanFault.TheVariants as faults;
+
+use hv_world::types_are_decided;
 
 /// A line is read where the table spells it.
 pub fn forms_are_spelled()
@@ -61,12 +64,15 @@ pub fn nodes_are_lines()
     ensures tasks { (w : World) (p : Plan) (t : PlanTree) → IsTreeOf w p t → (v u : ℕ) → Contains (children_at t.nodes v) (Task u) → NodeIs t (λ n. IsSome n.task) u }
 {}
 
-/// Lines that form a tree that fits a world qualify for no cause; and one cause at one line is
-/// reported of others.
+/// The lines of a plan form a tree that fits a world, or there is a cause; one alone, and never both.
+/// A cause is one cause at one line.
 pub fn a_tree_or_a_cause()
+    ensures some { (w : World) (p : Plan) → IsSound w → IsInTextOrder p → (FormTree p × FitWorld w p) ⊎ ((c : Cause) × IsCause w p c) }
     ensures no_cause { (w : World) (p : Plan) (k : CauseKind) (l : ℕ) → FormTree p → FitWorld w p → Qualifies w p k l → ⊥ }
     ensures one_cause { (w : World) (p : Plan) (c d : Cause) → IsCause w p c → IsCause w p d → c ≡ d }
-{}
+{
+    types_are_decided();
+}
 
 /// A plan has no more lines than its text has bytes, so 32 bits are enough for each place in it.
 pub fn plans_are_small()

@@ -22,10 +22,13 @@ mod tree;
 pub use cause::{Cause, CauseKind, TreeFault};
 pub use fault::PlanFault;
 pub use laws::{
-    a_plan_has_one_tree, a_plan_or_a_fault, a_tree_or_a_cause, forms_are_spelled,
-    plans_are_read_back, plans_are_spelled,
+    a_plan_has_one_tree, a_plan_or_a_fault, a_tree_or_a_cause, forms_are_spelled, nodes_are_lines,
+    plans_are_read_back, plans_are_small, plans_are_spelled,
 };
-pub use plan::{ActionLine, ActionLines, DecompositionLine, DecompositionLines, PlanText};
+pub use plan::{
+    ActionLine, ActionLines, ActionLinesIter, DecompositionLine, DecompositionLines,
+    DecompositionLinesIter, PlanText,
+};
 pub use print::print_plan;
 pub use read::read_plan;
 pub use tree::{Child, Node, Tree};

@@ -5,7 +5,7 @@ ghost use Rattle.std.specs.Prelude.{◌≡◌, ◌==◌, ◌<◌, ◌≤◌, ◌
 ghost use Rattle.std.specs.List.{prefix_len};
 ghost use Rattle.hv_text.specs.Bytes.{lower};
 ghost use Rattle.hv_plan.specs.Lines.{is_marker};
-ghost use Rattle.hv_plan.specs.Views.{line_view, lines_left, IsWithin};
+ghost use Rattle.hv_plan.specs.inside.Views.{line_view, lines_left, IsWithin};
 
 use hv_text::{Word, next_word};
 

@@ -7,8 +7,8 @@ ghost use Rattle.std.specs.Prelude.{◌≡◌};
 ghost use Rattle.hv_plan.specs.PlanLines.{actions_view, decompositions_view, plan_of};
 ghost use Rattle.hv_plan.specs.Shapes.{IsInTextOrder};
 
-pub use actions::{ActionLine, ActionLines};
-pub use decompositions::{DecompositionLine, DecompositionLines};
+pub use actions::{ActionLine, ActionLines, ActionLinesIter};
+pub use decompositions::{DecompositionLine, DecompositionLines, DecompositionLinesIter};
 
 /// A plan: its action lines and its decomposition lines, each kind in the order of the text, and its
 /// root line; no two of them have one number.

@@ -42,8 +42,8 @@ fn put_plan(out: &mut Vec<u8>, plan: &PlanText<'_>) -> Result<(), Memory>
 fn put_actions(out: &mut Vec<u8>, lines: &ActionLines<'_>) -> Result<(), Memory>
     ensures { OnOk result (out.new.items ≡ out.old.items ++ flat_map action_text (actions_view lines.now)) }
 {
-    for place in 0..lines.len() {
-        put_action(out, lines.at(place))?;
+    for line in lines.iter() {
+        put_action(out, line)?;
     }
     Ok(())
 }
@@ -71,8 +71,8 @@ fn put_root(out: &mut Vec<u8>, ids: &[u64]) -> Result<(), Memory>
 fn put_decompositions(out: &mut Vec<u8>, lines: &DecompositionLines<'_>) -> Result<(), Memory>
     ensures { OnOk result (out.new.items ≡ out.old.items ++ flat_map decomposition_text (decompositions_view lines.now)) }
 {
-    for place in 0..lines.len() {
-        put_decomposition(out, lines.at(place))?;
+    for line in lines.iter() {
+        put_decomposition(out, line)?;
     }
     Ok(())
 }

@@ -4,7 +4,7 @@ ghost use Rattle.std.specs.Prelude.{◌≡◌, ◌<◌, ◌≤◌, ◌+◌, ℕ,
 ghost use Rattle.std.specs.List.{list_any};
 ghost use Rattle.hv_plan.specs.Lines.{is_end, is_start, behind_start, before_end};
 ghost use Rattle.hv_plan.specs.LineViews.{plan_view};
-ghost use Rattle.hv_plan.specs.Views.{lines_left, IsWithin};
+ghost use Rattle.hv_plan.specs.inside.Views.{lines_left, IsWithin};
 ghost use Rattle.hv_plan.specs.Plans.{IsBody, IsBodyFault, IsPlanRead, IsFaultRead};
 ghost use Rattle.hv_plan.specs.Shapes.{IsInTextOrder};
 ghost use Rattle.hv_plan.specs.Spellings.{IsPlan, IsPlanFault};

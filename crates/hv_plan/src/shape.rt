@@ -17,9 +17,9 @@ ghost use Rattle.hv_text.specs.Lists.{Once};
 ghost use Rattle.hv_plan.specs.Causes.{number};
 ghost use Rattle.hv_plan.specs.LineViews.{plan_view};
 ghost use Rattle.hv_plan.specs.Shapes.{ids, all_children, FormTree};
-ghost use Rattle.hv_plan.specs.ShapeViews.{shape_view, IsShape};
-ghost use Rattle.hv_plan.specs.ShapeCauses.{NoneBelow, IsFirstFor, IsFormFault};
-ghost use Rattle.hv_plan.specs.Shaping.{line_unless, IsFirst, IsMissed, IsRepeat, HasMetAll, is_marked, lines_of_heads, lines_of_children, place_of, places_of_lines, kids};
+ghost use Rattle.hv_plan.specs.inside.ShapeViews.{shape_view, IsShape};
+ghost use Rattle.hv_plan.specs.inside.ShapeCauses.{NoneBelow, IsFirstFor, IsFormFault};
+ghost use Rattle.hv_plan.specs.inside.Shaping.{line_unless, IsFirst, IsMissed, IsRepeat, HasMetAll, is_marked, lines_of_heads, lines_of_children, place_of, places_of_lines, kids};
 ghost use Rattle.hv_plan.specs.declared.cause.CauseKind.TheVariants as kinds;
 
 use crate::cause::{Cause, CauseKind, TreeFault};

@@ -8,7 +8,7 @@ ghost use Rattle.hv_world.specs.Views.{name_view, subtask_view};
 ghost use Rattle.hv_plan.specs.Fits.{multiplicity, names_of};
 ghost use Rattle.hv_world.specs.Values as value;
 ghost use Rattle.hv_plan.specs.Forms.{every};
-ghost use Rattle.hv_plan.specs.Tallies.{number_in, HaveSameNames, IsNamesFault};
+ghost use Rattle.hv_plan.specs.inside.Tallies.{number_in, HaveSameNames, IsNamesFault};
 
 use crate::cause::CauseKind;
 use crate::subtasks::counts::have_same_counts;

@@ -5,7 +5,7 @@ ghost use Rattle.std.specs.Option.{option_map};
 ghost use Rattle.hv_text.specs.Words.{piece_of};
 ghost use Rattle.hv_text.specs.Names.{text_of};
 ghost use Rattle.hv_plan.specs.Forms.{every, name_at, bare, inside, task_of};
-ghost use Rattle.hv_plan.specs.Views.{task_view};
+ghost use Rattle.hv_plan.specs.inside.Views.{task_view};
 
 use hv_text::{Memory, Name, Word};
 use std::alloc::Global;

@@ -3,10 +3,10 @@
 ghost use Rattle.std.specs.Prelude.{◌≡◌, ◌<◌, map, option_map, option_and_then, slice_get, length, IfSome};
 ghost use Rattle.hv_world.specs.Bindings.{object_number, ground_actions_view};
 ghost use Rattle.hv_plan.specs.BuiltTrees.{tree_view};
-ghost use Rattle.hv_plan.specs.FitViews.{decomposed_line, decomposed_lines};
+ghost use Rattle.hv_plan.specs.inside.FitViews.{decomposed_line, decomposed_lines};
 ghost use Rattle.hv_plan.specs.LineViews.{action_view, decomposition_view, plan_view};
-ghost use Rattle.hv_plan.specs.NodeViews.{node_of, node_of_line, node_of_root};
-ghost use Rattle.hv_plan.specs.ShapeViews.{shape_view, children_of_node};
+ghost use Rattle.hv_plan.specs.inside.NodeViews.{node_of, node_of_line, node_of_root};
+ghost use Rattle.hv_plan.specs.inside.ShapeViews.{shape_view, children_of_node};
 ghost use Rattle.hv_plan.specs.TreeViews.{child_view, node_view};
 
 use crate::fit::lines::{DecomposedLine, DecomposedLines};

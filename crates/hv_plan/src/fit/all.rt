@@ -5,15 +5,15 @@ ghost use Rattle.std.specs.List.{AllZip};
 ghost use Rattle.hv_world.specs.Bindings.{ground_actions_view};
 ghost use Rattle.hv_world.specs.WorldViews.{world_view};
 ghost use Rattle.hv_plan.specs.Causes.{IsTreeFault};
-ghost use Rattle.hv_plan.specs.FitViews.{decomposed_view, decomposed_lines, grounded_view, AreTidy, IsDecomposed, AreFitted, kept, cause_at};
-ghost use Rattle.hv_plan.specs.LineFaults.{action_entry, line_entry, earlier};
+ghost use Rattle.hv_plan.specs.inside.FitViews.{decomposed_view, decomposed_lines, grounded_view, AreTidy, IsDecomposed, AreFitted, IsTold, kept, cause_at};
+ghost use Rattle.hv_plan.specs.inside.LineFaults.{action_entry, line_entry, earlier};
 ghost use Rattle.hv_plan.specs.LineViews.{actions_view, decompositions_view, plan_view};
 ghost use Rattle.hv_plan.specs.PlanTrees.{IsActionOf};
 ghost use Rattle.hv_plan.specs.Shapes.{FormTree};
 
-use crate::cause::{Cause, CauseKind, TreeFault, earlier};
+use crate::cause::{Cause, TreeFault, earlier};
 use crate::fit::lines::DecomposedLines;
-use crate::fit::{Decomposed, Grounded, fit_action, fit_line};
+use crate::fit::{Decomposed, Grounded, LineFault, fit_action, fit_line};
 use crate::plan::{ActionLines, DecompositionLines, PlanText};
 use hv_text::Memory;
 use hv_world::{GroundActions, World};
@@ -44,15 +44,17 @@ struct FittedLines {
 fn note_action(
     actions: &mut GroundActions,
     cause: &mut Option<Cause>,
-    fit: Result<Grounded, CauseKind>,
+    fit: Result<Grounded, LineFault>,
     line: u32,
 ) -> Result<(), Memory>
+    ensures told { OnOk result (IsTold fit) }
     ensures actions { OnOk result (ground_actions_view actions.new ≡ ground_actions_view actions.old ++ map grounded_view (kept fit)) }
     ensures cause { OnOk result (cause.new ≡ earlier cause.old (cause_at fit line)) }
 {
     match fit {
         Ok(ground) => actions.push(ground.action, &ground.objects)?,
-        Err(kind) => *cause = earlier(*cause, Some(Cause { kind, line })),
+        Err(LineFault::Cause(kind)) => *cause = earlier(*cause, Some(Cause { kind, line })),
+        Err(LineFault::Memory) => return Err(Memory),
     }
     Ok(())
 }
@@ -61,17 +63,19 @@ fn note_action(
 fn note_line(
     lines: &mut DecomposedLines,
     cause: &mut Option<Cause>,
-    fit: Result<Decomposed, CauseKind>,
+    fit: Result<Decomposed, LineFault>,
     line: u32,
 ) -> Result<(), Memory>
     requires { AreTidy lines.old }
+    ensures told { OnOk result (IsTold fit) }
     ensures lines { OnOk result (decomposed_lines lines.new ≡ decomposed_lines lines.old ++ map decomposed_view (kept fit)) }
     ensures tidy { OnOk result (AreTidy lines.new) }
     ensures cause { OnOk result (cause.new ≡ earlier cause.old (cause_at fit line)) }
 {
     match fit {
         Ok(item) => lines.push(item)?,
-        Err(kind) => *cause = earlier(*cause, Some(Cause { kind, line })),
+        Err(LineFault::Cause(kind)) => *cause = earlier(*cause, Some(Cause { kind, line })),
+        Err(LineFault::Memory) => return Err(Memory),
     }
     Ok(())
 }
@@ -86,9 +90,8 @@ fn fit_actions<'s>(
 {
     let mut actions = GroundActions::with_capacity(alloc, lines.len())?;
     let mut cause = None;
-    for place in 0..lines.len() {
-        let line = lines.at(place);
-        let fit = fit_action(alloc, world, line)?;
+    for line in lines.iter() {
+        let fit = fit_action(alloc, world, line);
         note_action(&mut actions, &mut cause, fit, line.line)?;
     }
     Ok(FittedActions { actions, cause })
@@ -104,9 +107,8 @@ fn fit_lines<'s>(
 {
     let mut lines = DecomposedLines::with_capacity(alloc, decompositions.len())?;
     let mut cause = None;
-    for place in 0..decompositions.len() {
-        let line = decompositions.at(place);
-        let fit = fit_line(alloc, world, line)?;
+    for line in decompositions.iter() {
+        let fit = fit_line(alloc, world, line);
         note_line(&mut lines, &mut cause, fit, line.line)?;
     }
     Ok(FittedLines { lines, cause })

@@ -1,7 +1,7 @@
 //! What decomposition lines say, one after another.
 
 ghost use Rattle.std.specs.Prelude.{◌≡◌, ◌<◌, ◌++◌, ◌∷◌, [], Some, length, option_map, slice_get, IfOk, OnOk};
-ghost use Rattle.hv_plan.specs.FitViews.{decomposed_view, decomposed_line, decomposed_lines, AreTidy};
+ghost use Rattle.hv_plan.specs.inside.FitViews.{decomposed_view, decomposed_line, decomposed_lines, AreTidy};
 
 use super::Decomposed;
 use hv_text::{Lists, Memory};

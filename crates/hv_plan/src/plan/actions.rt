@@ -3,6 +3,7 @@
 ghost use Rattle.std.specs.Prelude.{◌≡◌, ◌<◌, ◌^◌, ◌==◌, ◌++◌, ◌∷◌, [], Some, map, length, option_map, slice_get, IfOk, OnOk};
 ghost use Rattle.hv_text.specs.Names.{text_of};
 ghost use Rattle.hv_plan.specs.LineViews.{action_view, actions_view, AreTidyActions};
+ghost use Rattle.hv_plan.specs.LinesLeft.{actions_left};
 
 use hv_text::{Lists, Memory, Name};
 use std::alloc::Global;
@@ -29,6 +30,32 @@ struct ActionHead<'s> {
 pub struct ActionLines<'s> {
     heads: Vec<ActionHead<'s>>,
     arguments: Lists<Name<'s>>,
+}
+
+/// The action lines that are left, in their order.
+#[derive(Clone, Copy)]
+pub struct ActionLinesIter<'p, 's> {
+    lines: &'p ActionLines<'s>,
+    next: usize,
+}
+
+impl<'p, 's> Iterator for ActionLinesIter<'p, 's> {
+    ghost use Rattle.std.specs.Iterator.{YieldsFirstBy, item_count};
+
+    type Item = ActionLine<'p, 's>;
+
+    ghost next_gives = { YieldsFirstBy action_view actions_left };
+
+    ghost remaining = { item_count actions_left };
+
+    fn next(&mut self) -> Option<ActionLine<'p, 's>> {
+        if self.next >= self.lines.len() {
+            return None;
+        }
+        let line = self.lines.at(self.next);
+        self.next += 1;
+        Some(line)
+    }
 }
 
 impl<'p, 's> ActionLine<'p, 's> {
@@ -90,6 +117,16 @@ impl<'s> ActionLines<'s> {
         ensures { result ≡ (length (actions_view self.now) == 0) }
     {
         self.len() == 0
+    }
+
+    /// The lines, one after another.
+    pub fn iter(&self) -> ActionLinesIter<'_, 's>
+        ensures { actions_left result ≡ actions_view self.now }
+    {
+        ActionLinesIter {
+            lines: self,
+            next: 0,
+        }
     }
 
     /// The line at a place; None where there is none.

@@ -3,6 +3,7 @@
 ghost use Rattle.std.specs.Prelude.{◌≡◌, ◌<◌, ◌^◌, ◌==◌, ◌++◌, ◌∷◌, [], Some, map, length, sum_by, option_map, slice_get, IfOk, OnOk};
 ghost use Rattle.hv_text.specs.Names.{text_of};
 ghost use Rattle.hv_plan.specs.LineViews.{decomposition_view, decompositions_view, AreTidy};
+ghost use Rattle.hv_plan.specs.LinesLeft.{decompositions_left};
 
 use hv_text::{Lists, Memory, Name};
 use std::alloc::Global;
@@ -34,6 +35,32 @@ pub struct DecompositionLines<'s> {
     heads: Vec<DecompositionHead<'s>>,
     arguments: Lists<Name<'s>>,
     children: Lists<u64>,
+}
+
+/// The decomposition lines that are left, in their order.
+#[derive(Clone, Copy)]
+pub struct DecompositionLinesIter<'p, 's> {
+    lines: &'p DecompositionLines<'s>,
+    next: usize,
+}
+
+impl<'p, 's> Iterator for DecompositionLinesIter<'p, 's> {
+    ghost use Rattle.std.specs.Iterator.{YieldsFirstBy, item_count};
+
+    type Item = DecompositionLine<'p, 's>;
+
+    ghost next_gives = { YieldsFirstBy decomposition_view decompositions_left };
+
+    ghost remaining = { item_count decompositions_left };
+
+    fn next(&mut self) -> Option<DecompositionLine<'p, 's>> {
+        if self.next >= self.lines.len() {
+            return None;
+        }
+        let line = self.lines.at(self.next);
+        self.next += 1;
+        Some(line)
+    }
 }
 
 impl<'p, 's> DecompositionLine<'p, 's> {
@@ -117,6 +144,16 @@ impl<'s> DecompositionLines<'s> {
         ensures { result ≡ sum_by length self.now.children }
     {
         self.children.item_count()
+    }
+
+    /// The lines, one after another.
+    pub fn iter(&self) -> DecompositionLinesIter<'_, 's>
+        ensures { decompositions_left result ≡ decompositions_view self.now }
+    {
+        DecompositionLinesIter {
+            lines: self,
+            next: 0,
+        }
     }
 
     /// The line at a place; None where there is none.

@@ -4,7 +4,7 @@ ghost use Rattle.std.specs.Prelude.{◌≡◌, ◌++◌, map, length, IfOk, OnOk
 ghost use Rattle.std.specs.List.{flat_map};
 ghost use Rattle.hv_plan.specs.LineViews.{actions_view, decompositions_view, plan_view};
 ghost use Rattle.hv_plan.specs.Shapes.{ids, heads, all_children, line_parent};
-ghost use Rattle.hv_plan.specs.Shaping.{lines_of_heads, lines_of_children, child_lines};
+ghost use Rattle.hv_plan.specs.inside.Shaping.{lines_of_heads, lines_of_children, child_lines};
 
 use crate::plan::{ActionLines, DecompositionLines, PlanText};
 use hv_text::Memory;
@@ -37,8 +37,8 @@ pub(super) fn line_ids(alloc: Global, plan: &PlanText<'_>) -> Result<Vec<u64>, M
 fn push_action_ids(ids: &mut Vec<u64>, lines: &ActionLines<'_>) -> Result<(), Memory>
     ensures { OnOk result (ids.new.items ≡ ids.old.items ++ map (λ a. a.id) (actions_view lines.now)) }
 {
-    for place in 0..lines.len() {
-        ids.push(lines.at(place).id)?;
+    for line in lines.iter() {
+        ids.push(line.id)?;
     }
     Ok(())
 }
@@ -46,8 +46,8 @@ fn push_action_ids(ids: &mut Vec<u64>, lines: &ActionLines<'_>) -> Result<(), Me
 fn push_decomposition_ids(ids: &mut Vec<u64>, lines: &DecompositionLines<'_>) -> Result<(), Memory>
     ensures { OnOk result (ids.new.items ≡ ids.old.items ++ map (λ d. d.id) (decompositions_view lines.now)) }
 {
-    for place in 0..lines.len() {
-        ids.push(lines.at(place).id)?;
+    for line in lines.iter() {
+        ids.push(line.id)?;
     }
     Ok(())
 }
@@ -65,8 +65,8 @@ pub(super) fn line_numbers(alloc: Global, plan: &PlanText<'_>) -> Result<Vec<u32
 fn push_action_numbers(numbers: &mut Vec<u32>, lines: &ActionLines<'_>) -> Result<(), Memory>
     ensures { OnOk result (numbers.new.items ≡ numbers.old.items ++ map (λ a. a.line) (actions_view lines.now)) }
 {
-    for place in 0..lines.len() {
-        numbers.push(lines.at(place).line)?;
+    for line in lines.iter() {
+        numbers.push(line.line)?;
     }
     Ok(())
 }
@@ -77,8 +77,8 @@ fn push_decomposition_numbers(
 ) -> Result<(), Memory>
     ensures { OnOk result (numbers.new.items ≡ numbers.old.items ++ map (λ d. d.line) (decompositions_view lines.now)) }
 {
-    for place in 0..lines.len() {
-        numbers.push(lines.at(place).line)?;
+    for line in lines.iter() {
+        numbers.push(line.line)?;
     }
     Ok(())
 }
@@ -113,8 +113,8 @@ fn child_ids(alloc: Global, plan: &PlanText<'_>) -> Result<Vec<u64>, Memory>
 fn push_child_ids(ids: &mut Vec<u64>, lines: &DecompositionLines<'_>) -> Result<(), Memory>
     ensures { OnOk result (ids.new.items ≡ ids.old.items ++ flat_map (λ q. q.children) (map line_parent (decompositions_view lines.now))) }
 {
-    for place in 0..lines.len() {
-        ids.extend_from_slice(lines.at(place).children)?;
+    for line in lines.iter() {
+        ids.extend_from_slice(line.children)?;
     }
     Ok(())
 }
@@ -132,8 +132,7 @@ fn child_numbers(alloc: Global, plan: &PlanText<'_>) -> Result<Vec<u32>, Memory>
 fn push_child_numbers(numbers: &mut Vec<u32>, lines: &DecompositionLines<'_>) -> Result<(), Memory>
     ensures { OnOk result (numbers.new.items ≡ numbers.old.items ++ flat_map child_lines (map line_parent (decompositions_view lines.now))) }
 {
-    for place in 0..lines.len() {
-        let line = lines.at(place);
+    for line in lines.iter() {
         push_number(numbers, line.line, line.children)?;
     }
     Ok(())

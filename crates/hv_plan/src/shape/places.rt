@@ -4,7 +4,7 @@ ghost use Rattle.std.specs.Prelude.{◌≡◌, ◌++◌, ◌∷◌, [], map, len
 ghost use Rattle.hv_text.specs.Lists.{Once};
 ghost use Rattle.hv_plan.specs.LineViews.{decompositions_view, plan_view};
 ghost use Rattle.hv_plan.specs.Shapes.{ids, all_children};
-ghost use Rattle.hv_plan.specs.Shaping.{place_of, is_known, IsFirst, IsMissed, lines_of_children};
+ghost use Rattle.hv_plan.specs.inside.Shaping.{place_of, is_known, IsFirst, IsMissed, lines_of_children};
 
 use super::begins::{children, line_ids};
 use super::repeats::earlier;
@@ -110,8 +110,8 @@ pub(super) fn child_places(
     ensures { IfOk result (λ ls. ls ≡ map (λ d. map (place_of table.now.keys) d.children) (decompositions_view lines.now)) }
 {
     let mut lists = Lists::with_capacity(alloc, lines.len())?;
-    for place in 0..lines.len() {
-        push_places(alloc, table, &mut lists, lines.at(place).children)?;
+    for line in lines.iter() {
+        push_places(alloc, table, &mut lists, line.children)?;
     }
     Ok(lists)
 }

@@ -5,7 +5,7 @@ ghost use Rattle.std.specs.Map.{update};
 ghost use Rattle.indexmap.specs.IndexMap as table;
 ghost use Rattle.hv_plan.specs.LineViews.{plan_view};
 ghost use Rattle.hv_plan.specs.Shapes.{ids, all_children};
-ghost use Rattle.hv_plan.specs.Shaping.{first_of, again_of, earlier, IsFirst, IsRepeat, lines_of_heads, lines_of_children};
+ghost use Rattle.hv_plan.specs.inside.Shaping.{first_of, again_of, earlier, IsFirst, IsRepeat, lines_of_heads, lines_of_children};
 
 use super::begins::{begins, children};
 use super::seed::Seeded;

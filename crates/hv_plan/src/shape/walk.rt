@@ -1,7 +1,7 @@
 //! A walk from the root line down.
 
 ghost use Rattle.std.specs.Prelude.{◌≡◌, ℕ, ◌<◌, ◌∷◌, [], length, Contains, IfOk, OnOk};
-ghost use Rattle.hv_plan.specs.Shaping.{kids, IsMeeting, Grows, IsWalk};
+ghost use Rattle.hv_plan.specs.inside.Shaping.{kids, IsMeeting, Grows, IsWalk};
 
 use hv_text::{Lists, Memory};
 use std::alloc::Global;

@@ -1,7 +1,7 @@
 //! Whether two lists have each number as often.
 
 ghost use Rattle.std.specs.Prelude.{◌≡◌, ◌+◌, ◌<◌, ◌≤◌, ℕ, length, get_or, All, MatchBool};
-ghost use Rattle.hv_plan.specs.Tallies.{times};
+ghost use Rattle.hv_plan.specs.inside.Tallies.{times};
 
 // Counts each number once more for each time that it stands in a list.
 fn add_all(counts: &mut [usize], numbers: &[usize])

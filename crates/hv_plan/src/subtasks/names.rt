@@ -5,9 +5,9 @@ ghost use Rattle.hv_world.specs.Bindings.{ground_actions_view};
 ghost use Rattle.hv_world.specs.Views.{name_view, subtask_view};
 ghost use Rattle.hv_world.specs.WorldViews.{world_view};
 ghost use Rattle.hv_plan.specs.Fits.{names_of};
-ghost use Rattle.hv_plan.specs.FitViews.{decomposed_lines, item_name};
+ghost use Rattle.hv_plan.specs.inside.FitViews.{decomposed_lines, item_name};
 ghost use Rattle.hv_plan.specs.Forms.{every};
-ghost use Rattle.hv_plan.specs.Tallies.{number_in};
+ghost use Rattle.hv_plan.specs.inside.Tallies.{number_in};
 ghost use Rattle.hv_plan.specs.Trees as items;
 ghost use Rattle.hv_plan.specs.TreeViews.{child_view};
 

@@ -1,9 +1,9 @@
 use Rattle.std.proofs.Common.{map}
 use Rattle.hv_world.specs.Bindings.{ground_actions_view}
 use Rattle.hv_world.specs.WorldViews.{world_view}
-use Rattle.hv_plan.specs.FitViews.{decomposed_lines}
+use Rattle.hv_plan.specs.inside.FitViews.{decomposed_lines}
 use Rattle.hv_plan.specs.LineViews.{plan_view}
-use Rattle.hv_plan.specs.ShapeViews.{shape_view}
+use Rattle.hv_plan.specs.inside.ShapeViews.{shape_view}
 use Rattle.hv_plan.proofs.AssemblyLemmas.{is_tree_of}
 use Rattle.hv_plan.proofs.build.build_shaped.Goals as goal
 

@@ -1,7 +1,7 @@
 use Rattle.std.proofs.Common.{map}
 use Rattle.hv_world.specs.Bindings.{ground_actions_view}
 use Rattle.hv_world.specs.WorldViews.{world_view}
-use Rattle.hv_plan.specs.FitViews.{decomposed_lines}
+use Rattle.hv_plan.specs.inside.FitViews.{decomposed_lines}
 use Rattle.hv_plan.specs.LineViews.{plan_view}
 use Rattle.hv_plan.proofs.WorldLaws.{child_fault_is_cause}
 use Rattle.hv_plan.proofs.FitWorldLemmas.{fit_unless_at_fault}

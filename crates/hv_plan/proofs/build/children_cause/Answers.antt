@@ -1,11 +1,11 @@
 use Rattle.std.proofs.Common.{◌≡◌, ◌<◌, ◌∙◌, ◌∷◌, [], Some, length, map, sym, ap, refl, rules, arith, subst}
 use Rattle.hv_world.specs.MethodViews.{method_view}
 use Rattle.hv_world.specs.WorldViews.{world_view}
-use Rattle.hv_plan.specs.ChildFaults.{IsChildFault, ChildFaultIn}
-use Rattle.hv_plan.specs.LineFaults.{IsEarliest}
+use Rattle.hv_plan.specs.inside.ChildFaults.{IsChildFault, ChildFaultIn}
+use Rattle.hv_plan.specs.inside.LineFaults.{IsEarliest}
 use Rattle.hv_plan.specs.LineViews.{plan_view}
 use Rattle.hv_plan.specs.Shapes.{root_parent, line_parent, parents}
-use Rattle.hv_plan.specs.ShapeViews.{shape_view}
+use Rattle.hv_plan.specs.inside.ShapeViews.{shape_view}
 use Rattle.hv_plan.specs.TreeViews.{child_view}
 use Rattle.hv_plan.proofs.ChildLemmas.{list_here, names_are_numbered, names_of_items, root_stands_at, earliest_of_children}
 use Rattle.hv_plan.proofs.EarliestLemmas.{earliest_of_lists}

@@ -4,7 +4,7 @@ use Rattle.hv_world.specs.Bindings.{object_number}
 use Rattle.hv_world.specs.Names.{place_in}
 use Rattle.hv_world.specs.WorldViews.{world_view}
 use Rattle.hv_plan.specs.Forms.{every}
-use Rattle.hv_plan.specs.LineFaults.{unknown, objects}
+use Rattle.hv_plan.specs.inside.LineFaults.{unknown, objects}
 use Rattle.hv_plan.proofs.FitLemmas.{every_some, every_none}
 use Rattle.hv_plan.proofs.fit.fit_arguments.Goals as goal
 
@@ -23,7 +23,8 @@ returns-in-Some-objects_fault c =
 
 pub returns-in-None : goal.returns-in-None
 returns-in-None c =
-    let found : every (place_in (world_view c.args.world.now).objects) (map text_of c.args.arguments.now) ≡ Some (map object_number c.in-Some.objects.items) = sym (rw c.in-Some.is at c.in_ok-objects.ensures) in (
-      every_some (place_in (world_view c.args.world.now).objects) (map text_of c.args.arguments.now) (map object_number c.in-Some.objects.items) found,
-      (rw c.deref.ensures.value at c.in-None.ensures),
-    )
+    let found : every (place_in (world_view c.args.world.now).objects) (map text_of c.args.arguments.now) ≡ Some (map object_number c.in-Some.objects.items) = sym (rw c.in-Some.is at c.in_ok-objects.ensures) in
+    record {
+      known = every_some (place_in (world_view c.args.world.now).objects) (map text_of c.args.arguments.now) (map object_number c.in-Some.objects.items) found;
+      typed = rw c.deref.ensures.value at c.in-None.ensures;
+    }

@@ -2,7 +2,7 @@ use Rattle.std.proofs.Common.{◌≡◌, drop, map, true}
 use Rattle.std.specs.List.{list_all}
 use Rattle.hv_text.specs.Words.{piece_of}
 use Rattle.hv_plan.specs.Forms.{every, id_at, is_id}
-use Rattle.hv_plan.specs.Views.{as_ids}
+use Rattle.hv_plan.specs.inside.Views.{as_ids}
 use Rattle.hv_plan.proofs.Lemmas.{ids_read}
 use Rattle.hv_plan.proofs.ids.read_ids.Given as goal
 

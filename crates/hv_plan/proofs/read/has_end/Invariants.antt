@@ -1,7 +1,7 @@
 use Rattle.std.proofs.Common.{◌≡◌, length}
 use Rattle.std.specs.List.{list_any}
 use Rattle.hv_plan.specs.Lines.{is_end}
-use Rattle.hv_plan.specs.Views.{lines_left, IsWithin}
+use Rattle.hv_plan.specs.inside.Views.{lines_left, IsWithin}
 use Rattle.hv_plan.proofs.read.has_end.Given as goal
 
 -- the lines that are left decide as all lines do

@@ -3,7 +3,7 @@ use Rattle.std.proofs.lemmas.Result.{err_from_is_err_and}
 use Rattle.hv_plan.specs.Lines.{is_end, before_end, lines}
 use Rattle.hv_plan.specs.Plans.{IsBody}
 use Rattle.hv_plan.specs.PlanLines.{plan_of}
-use Rattle.hv_plan.specs.Views.{line_view, lines_left}
+use Rattle.hv_plan.specs.inside.Views.{line_view, lines_left}
 use Rattle.hv_plan.proofs.Lemmas.{line_is_faulty}
 use Rattle.hv_plan.proofs.TextOrder.{body_in_order}
 use Rattle.hv_plan.proofs.read.read_body.Goals as goal

@@ -1,6 +1,6 @@
 use Rattle.std.proofs.Common.{◌≡◌, ◌++◌, length, is_some, false}
 use Rattle.hv_plan.specs.Lines.{before_end}
-use Rattle.hv_plan.specs.Views.{lines_left, IsWithin}
+use Rattle.hv_plan.specs.inside.Views.{lines_left, IsWithin}
 use Rattle.hv_plan.specs.LineViews.{actions_view, decompositions_view, AreTidy, AreTidyActions}
 use Rattle.hv_plan.specs.Plans.{actions_of, decompositions_of, roots_of, fault_from}
 use Rattle.hv_plan.proofs.Lemmas.{found_roots}

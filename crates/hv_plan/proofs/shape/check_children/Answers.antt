@@ -1,7 +1,7 @@
 use Rattle.std.proofs.Common.{ℕ, List, Option, subst, length}
 use Rattle.hv_plan.specs.LineViews.{plan_view}
 use Rattle.hv_plan.specs.Shapes.{ids, all_children}
-use Rattle.hv_plan.specs.Shaping.{IsFirst, IsMissed, IsRepeat, is_known, lines_of_children}
+use Rattle.hv_plan.specs.inside.Shaping.{IsFirst, IsMissed, IsRepeat, is_known, lines_of_children}
 use Rattle.hv_plan.proofs.ShapeFaults.{unknowns_are, all_known, pairs_are, no_repeat}
 use Rattle.hv_plan.proofs.shape.check_children.Goals as goal
 

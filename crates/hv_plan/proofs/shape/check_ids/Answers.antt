@@ -1,7 +1,7 @@
 use Rattle.std.proofs.Common.{ℕ, Option, subst, length}
 use Rattle.hv_plan.specs.LineViews.{plan_view}
 use Rattle.hv_plan.specs.Shapes.{ids}
-use Rattle.hv_plan.specs.Shaping.{IsFirst, IsRepeat, lines_of_heads}
+use Rattle.hv_plan.specs.inside.Shaping.{IsFirst, IsRepeat, lines_of_heads}
 use Rattle.hv_plan.proofs.ShapeFaults.{none_below, repeats_are, no_repeat}
 use Rattle.hv_plan.proofs.shape.check_ids.Goals as goal
 

@@ -1,5 +1,5 @@
 use Rattle.std.proofs.Common.{◌≡◌, ◌+◌, ℕ, Option, ap, subst, sym, ◌∙◌, arith, length}
-use Rattle.hv_plan.specs.Shaping.{IsFirst, IsMissed, is_marked, earlier}
+use Rattle.hv_plan.specs.inside.Shaping.{IsFirst, IsMissed, is_marked, earlier}
 use Rattle.hv_plan.proofs.FirstLines.{missed_next}
 use Rattle.hv_plan.proofs.shape.first_unmet.Goals as goal
 

@@ -1,5 +1,5 @@
 use Rattle.std.proofs.Common.{◌≤◌, length}
-use Rattle.hv_plan.specs.Shaping.{IsFirst, IsMissed, is_marked}
+use Rattle.hv_plan.specs.inside.Shaping.{IsFirst, IsMissed, is_marked}
 use Rattle.hv_plan.proofs.shape.first_unmet.Given as goal
 
 abbrev pub invariant-loop-place : goal.invariant-loop-place

@@ -1,6 +1,6 @@
 use Rattle.std.proofs.Common.{ℕ, Option, subst}
 use Rattle.hv_plan.specs.LineViews.{plan_view}
-use Rattle.hv_plan.specs.ShapeCauses.{IsFirstFor}
+use Rattle.hv_plan.specs.inside.ShapeCauses.{IsFirstFor}
 use Rattle.hv_plan.proofs.ShapeFaults.{none_so_far, the_cause}
 use Rattle.hv_plan.proofs.shape.none_at.Goals as goal
 

@@ -4,10 +4,10 @@ use Rattle.hv_plan.specs.LineViews.{plan_view}
 use Rattle.hv_plan.specs.Shapes.{ids}
 use Rattle.hv_plan.specs.Trees.{Item}
 use Rattle.hv_plan.specs.TreeViews.{child_view}
-use Rattle.hv_plan.specs.Shaping.{place_of, IsNumbering, children_by_number}
-use Rattle.hv_plan.specs.ShapeViews.{Shape, IsShape}
-use Rattle.hv_plan.proofs.ShapeTrees.{ids_long, root_within, kids_within, kids_behind}
-use Rattle.hv_plan.proofs.ShapeMade.{form_tree, is_shape, numbers_below}
+use Rattle.hv_plan.specs.inside.Shaping.{place_of, IsNumbering, children_by_number}
+use Rattle.hv_plan.specs.inside.ShapeViews.{Shape, IsShape}
+use Rattle.hv_plan.proofs.ShapeTrees.{ids_long, form_tree, root_within, kids_within, kids_behind}
+use Rattle.hv_plan.proofs.ShapeMade.{is_shape, numbers_below}
 use Rattle.hv_plan.proofs.shape.numbered.Goals as goal
 
 pub node_children-requires-clause-root : goal.node_children-requires-clause-root
@@ -73,7 +73,7 @@ returns c =
     let made : map (map child_view) c.in_ok-children.children ≡ children_by_number (length p.actions) lines numbers root lists =
     c.in_ok-children.ensures ∙ (λ j. children_by_number (c.len-actions.ensures.count j) lines numbers (c.deref.ensures.value j) lists) in
     let P : List (List Item) → Type 0 = λ cs. IsShape p (record { lines = lines; numbers = numbers; children = cs }) in (
-      form_tree p root lists met lines numbers marks c.requires.root c.requires.lists c.requires.once c.requires.known c.requires.single c.requires.met.walk c.requires.met.count_is c.requires.met.all numbering many,
+      form_tree p root lists met marks c.requires.root c.requires.lists c.requires.once c.requires.known c.requires.met.walk c.requires.single c.requires.met.all,
       subst P (sym made)
           (is_shape p root lists met lines numbers marks c.requires.root c.requires.lists c.requires.once c.requires.known c.requires.single c.requires.met.walk c.requires.met.count_is c.requires.met.all
           numbering many),

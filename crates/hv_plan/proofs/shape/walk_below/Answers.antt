@@ -1,7 +1,7 @@
 use Rattle.std.proofs.Common.{◌≡◌, ◌<◌, ℕ, List, Option, subst, ◌∙◌, arith, length, Contains}
 use Rattle.hv_plan.specs.LineViews.{plan_view}
 use Rattle.hv_plan.specs.Shapes.{ids}
-use Rattle.hv_plan.specs.Shaping.{IsFirst, IsMissed, IsWalk, is_marked, lines_of_heads, kids}
+use Rattle.hv_plan.specs.inside.Shaping.{IsFirst, IsMissed, IsWalk, is_marked, lines_of_heads, kids}
 use Rattle.hv_plan.proofs.ShapeTrees.{root_within, kids_within}
 use Rattle.hv_plan.proofs.ShapeFaults.{all_marked, unmet_are}
 use Rattle.hv_plan.proofs.shape.walk_below.Goals as goal

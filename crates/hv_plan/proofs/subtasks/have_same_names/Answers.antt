@@ -2,7 +2,7 @@ use Rattle.std.proofs.Common.{◌≡◌, None, map, length, sym}
 use Rattle.hv_world.specs.Views.{name_view, subtask_view}
 use Rattle.hv_plan.specs.Fits.{names_of}
 use Rattle.hv_plan.specs.Forms.{every}
-use Rattle.hv_plan.specs.Tallies.{number_in}
+use Rattle.hv_plan.specs.inside.Tallies.{number_in}
 use Rattle.hv_plan.proofs.FitLemmas.{every_some}
 use Rattle.hv_plan.proofs.TallyLemmas.{numbers_within, unknown_differs, names_same_or_not}
 use Rattle.hv_plan.proofs.subtasks.have_same_names.Goals as goal

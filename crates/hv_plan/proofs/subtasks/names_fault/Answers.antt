@@ -1,7 +1,7 @@
 use Rattle.std.proofs.Common.{◌≡◌, ◌∙◌, map, length, sym, arith}
 use Rattle.std.proofs.lemmas.List.{length-map}
 use Rattle.hv_world.specs.Views.{name_view, subtask_view}
-use Rattle.hv_plan.specs.Tallies.{count, names}
+use Rattle.hv_plan.specs.inside.Tallies.{count, names}
 use Rattle.hv_plan.proofs.subtasks.names_fault.Goals as goal
 
 pub returns-then-names-subtasks-clause-fault : goal.returns-then-names-subtasks-clause-fault

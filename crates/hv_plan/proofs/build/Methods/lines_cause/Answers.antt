@@ -1,8 +1,8 @@
 use Rattle.std.proofs.Common.{◌+◌, ◌<◌, ◌≤◌, rules, length, map, take, sym, ◌∙◌, subst}
 use Rattle.std.proofs.lemmas.List.{take_all}
 use Rattle.hv_world.specs.WorldViews.{world_view}
-use Rattle.hv_plan.specs.ChildFaults.{ChildFaultIn}
-use Rattle.hv_plan.specs.LineFaults.{IsEarliest}
+use Rattle.hv_plan.specs.inside.ChildFaults.{ChildFaultIn}
+use Rattle.hv_plan.specs.inside.LineFaults.{IsEarliest}
 use Rattle.hv_plan.specs.LineViews.{plan_view}
 use Rattle.hv_plan.specs.Shapes.{line_parent}
 use Rattle.hv_plan.proofs.ChildLemmas.{earliest_more}

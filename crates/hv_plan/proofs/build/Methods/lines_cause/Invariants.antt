@@ -1,7 +1,7 @@
 use Rattle.std.proofs.Common.{◌≡◌, ℕ, length, get_or, map, take}
 use Rattle.hv_world.specs.WorldViews.{world_view}
-use Rattle.hv_plan.specs.ChildFaults.{ChildFaultIn}
-use Rattle.hv_plan.specs.LineFaults.{IsEarliest}
+use Rattle.hv_plan.specs.inside.ChildFaults.{ChildFaultIn}
+use Rattle.hv_plan.specs.inside.LineFaults.{IsEarliest}
 use Rattle.hv_plan.specs.LineViews.{plan_view}
 use Rattle.hv_plan.specs.Shapes.{line_parent}
 use Rattle.hv_plan.proofs.build.Methods.lines_cause.Given as goal

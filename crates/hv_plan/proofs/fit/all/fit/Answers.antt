@@ -1,6 +1,6 @@
 use Rattle.std.proofs.Common.{◌≡◌, ◌∙◌, map, sym, Some, subst}
 use Rattle.hv_world.specs.WorldViews.{world_view}
-use Rattle.hv_plan.specs.LineFaults.{action_entry, line_entry, entries, earlier, IsEarliest, FaultIn}
+use Rattle.hv_plan.specs.inside.LineFaults.{action_entry, line_entry, entries, earlier, IsEarliest, FaultIn}
 use Rattle.hv_plan.specs.LineViews.{plan_view}
 use Rattle.hv_plan.proofs.EarliestLemmas.{earliest_of_both}
 use Rattle.hv_plan.proofs.FormLaws.{fault_is_cause, form_has_no_cause}

@@ -1,5 +1,5 @@
 use Rattle.std.proofs.Common.{◌≡◌, ◌+◌, ◌<◌, ◌≤◌, ◌++◌, ◌∷◌, [], sym, subst, arith, length, slice_index}
-use Rattle.hv_plan.specs.Shaping.{IsNumbering}
+use Rattle.hv_plan.specs.inside.Shaping.{IsNumbering}
 use Rattle.hv_plan.proofs.ShapeNumbers.{no_number, one_number}
 use Rattle.hv_plan.proofs.shape.numbers.give_number.Goals as goal
 

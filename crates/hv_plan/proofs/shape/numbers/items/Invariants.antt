@@ -1,6 +1,6 @@
 use Rattle.std.proofs.Common.{◌≡◌, ◌++◌, drop, map}
 use Rattle.hv_plan.specs.TreeViews.{child_view}
-use Rattle.hv_plan.specs.Shaping.{items_at}
+use Rattle.hv_plan.specs.inside.Shaping.{items_at}
 use Rattle.hv_plan.proofs.shape.numbers.items.Given as goal
 
 abbrev pub invariant-loop-place : goal.invariant-loop-place

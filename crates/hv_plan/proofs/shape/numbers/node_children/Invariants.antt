@@ -1,5 +1,5 @@
 use Rattle.std.proofs.Common.{◌≡◌, ◌++◌, [], drop, map, slice_index_or}
-use Rattle.hv_plan.specs.Shaping.{items_at}
+use Rattle.hv_plan.specs.inside.Shaping.{items_at}
 use Rattle.hv_plan.specs.TreeViews.{child_view}
 use Rattle.hv_plan.proofs.shape.numbers.node_children.Given as goal
 

@@ -1,5 +1,5 @@
 use Rattle.std.proofs.Common.{◌≡◌, ℕ, subst, arith}
-use Rattle.hv_plan.specs.Shaping.{IsNumbering}
+use Rattle.hv_plan.specs.inside.Shaping.{IsNumbering}
 use Rattle.hv_plan.proofs.shape.numbers.number_met.Goals as goal
 
 pub returns-clause-numbering : goal.returns-clause-numbering

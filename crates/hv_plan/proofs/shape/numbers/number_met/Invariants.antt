@@ -1,5 +1,5 @@
 use Rattle.std.proofs.Common.{◌≡◌, ◌≤◌, length}
-use Rattle.hv_plan.specs.Shaping.{IsNumbering}
+use Rattle.hv_plan.specs.inside.Shaping.{IsNumbering}
 use Rattle.hv_plan.proofs.shape.numbers.number_met.Given as goal
 
 abbrev pub invariant-met : goal.invariant-met

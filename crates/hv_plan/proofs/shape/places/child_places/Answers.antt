@@ -1,11 +1,9 @@
-use Rattle.std.proofs.Common.{refl, ◌∷◌, []}
-use Rattle.std.proofs.Common.{map}
-use Rattle.hv_plan.specs.Shaping.{place_of}
-use Rattle.hv_plan.specs.LineViews.{decomposition_view, decompositions_view}
-use Rattle.hv_plan.proofs.HeadLists.{append_at}
+use Rattle.std.proofs.Common.{map, refl, ◌∷◌, []}
+use Rattle.hv_plan.specs.inside.Shaping.{place_of}
+use Rattle.hv_plan.proofs.HeadLists.{append_item}
 use Rattle.hv_plan.proofs.shape.places.child_places.Goals as goal
 
-pub loop-place-preserved : goal.loop-place-preserved
-loop-place-preserved c =
-    append_at (map (λ d. map (place_of c.args.table.now.keys) d.children)) (λ d. map (place_of c.args.table.now.keys) d.children ∷ []) (λ x xs. refl) (decompositions_view c.args.lines.now) c.loop-place.place (decomposition_view c.at.result)
-    c.loop-place.lists c.push_places.new.lists _ c.at.ensures c.in_ok-push_places.ensures c.loop-place.invariant
+pub loop-line-preserved : goal.loop-line-preserved
+loop-line-preserved c =
+    append_item (map (λ d. map (place_of c.args.table.now.keys) d.children)) (λ d. map (place_of c.args.table.now.keys) d.children ∷ []) (λ x xs. refl) _ _ _ c.loop-line.lists c.push_places.new.lists _ c.in-Some.ensures.steps c.in_ok-push_places.ensures
+    c.loop-line.invariant

@@ -1,9 +1,10 @@
-use Rattle.std.proofs.Common.{◌≡◌, ◌++◌, drop, map}
+use Rattle.std.proofs.Common.{◌≡◌, ◌++◌, map}
+use Rattle.hv_plan.specs.inside.Shaping.{place_of}
 use Rattle.hv_plan.specs.LineViews.{decompositions_view}
-use Rattle.hv_plan.specs.Shaping.{place_of}
+use Rattle.hv_plan.specs.LinesLeft.{decompositions_left}
 use Rattle.hv_plan.proofs.shape.places.child_places.Given as goal
 
-abbrev pub invariant-loop-place : goal.invariant-loop-place
-invariant-loop-place l =
-    l.lists ++ map (λ d. map (place_of l.table.keys) d.children) (drop l.place (decompositions_view l.lines))
+abbrev pub invariant-loop-line : goal.invariant-loop-line
+invariant-loop-line l =
+    l.lists ++ map (λ d. map (place_of l.table.keys) d.children) (decompositions_left l.line-iterator)
     ≡ map (λ d. map (place_of l.table.keys) d.children) (decompositions_view l.lines)

@@ -1,5 +1,5 @@
 use Rattle.std.proofs.Common.{◌++◌, ◌∷◌, [], ap, ◌∙◌}
-use Rattle.hv_plan.specs.Shaping.{place_of}
+use Rattle.hv_plan.specs.inside.Shaping.{place_of}
 use Rattle.hv_plan.proofs.HeadLists.{push_next}
 use Rattle.hv_plan.proofs.shape.places.places_of.Goals as goal
 

@@ -1,5 +1,5 @@
 use Rattle.std.proofs.Common.{◌≡◌, ◌++◌, drop, map}
-use Rattle.hv_plan.specs.Shaping.{place_of}
+use Rattle.hv_plan.specs.inside.Shaping.{place_of}
 use Rattle.hv_plan.proofs.shape.places.places_of.Given as goal
 
 abbrev pub invariant-loop-id : goal.invariant-loop-id

@@ -1,7 +1,7 @@
 use Rattle.std.proofs.Common.{ap, refl, sym, ◌∙◌, length}
 use Rattle.hv_plan.specs.LineViews.{plan_view}
 use Rattle.hv_plan.specs.Shapes.{all_children, parents}
-use Rattle.hv_plan.specs.Shaping.{lines_of_children}
+use Rattle.hv_plan.specs.inside.Shaping.{lines_of_children}
 use Rattle.hv_plan.proofs.ShapeFaults.{as_many_lines, unknowns_moved}
 use Rattle.hv_plan.proofs.shape.places.unknown_child.Goals as goal
 

@@ -1,5 +1,5 @@
 use Rattle.std.proofs.Common.{◌≡◌, ◌+◌, ℕ, Option, Some, subst, sym, ◌∙◌, arith, length, slice_index}
-use Rattle.hv_plan.specs.Shaping.{IsFirst, IsMissed, is_known, earlier}
+use Rattle.hv_plan.specs.inside.Shaping.{IsFirst, IsMissed, is_known, earlier}
 use Rattle.hv_plan.proofs.FirstLines.{missed_here, passed_here}
 use Rattle.hv_plan.proofs.shape.places.unknown_id.Goals as goal
 use Rattle.hv_plan.proofs.shape.places.unknown_id.Goals.{then-not-contains, else-not-contains}

@@ -1,6 +1,6 @@
 use Rattle.std.proofs.Common.{◌≡◌, ◌+◌, ℕ, Option, nat_eq, ap, subst, sym, ◌∙◌, arith, length}
 use Rattle.indexmap.specs.IndexMap as table
-use Rattle.hv_plan.specs.Shaping.{IsFirst, IsRepeat, earlier}
+use Rattle.hv_plan.specs.inside.Shaping.{IsFirst, IsRepeat, earlier}
 use Rattle.hv_plan.proofs.FirstLines.{table_next, repeat_next}
 use Rattle.hv_plan.proofs.shape.repeats.first_repeat.Goals as goal
 

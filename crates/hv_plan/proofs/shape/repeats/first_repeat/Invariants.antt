@@ -1,6 +1,6 @@
 use Rattle.std.proofs.Common.{◌≤◌, length, nat_eq}
 use Rattle.indexmap.specs.IndexMap as table
-use Rattle.hv_plan.specs.Shaping.{IsFirst, IsRepeat}
+use Rattle.hv_plan.specs.inside.Shaping.{IsFirst, IsRepeat}
 use Rattle.hv_plan.proofs.FirstLines.{IsTable}
 use Rattle.hv_plan.proofs.shape.repeats.first_repeat.Given as goal
 

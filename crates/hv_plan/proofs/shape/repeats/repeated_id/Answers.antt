@@ -1,7 +1,7 @@
 use Rattle.std.proofs.Common.{ap, sym, ◌∙◌, length}
 use Rattle.hv_plan.specs.LineViews.{plan_view}
 use Rattle.hv_plan.specs.Shapes.{ids}
-use Rattle.hv_plan.specs.Shaping.{lines_of_heads}
+use Rattle.hv_plan.specs.inside.Shaping.{lines_of_heads}
 use Rattle.hv_plan.proofs.ShapeFaults.{lines_count, repeats_moved}
 use Rattle.hv_plan.proofs.shape.repeats.repeated_id.Goals as goal
 

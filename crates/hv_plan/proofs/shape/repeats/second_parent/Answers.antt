@@ -1,7 +1,7 @@
 use Rattle.std.proofs.Common.{ap, sym, ◌∙◌, length}
 use Rattle.hv_plan.specs.LineViews.{plan_view}
 use Rattle.hv_plan.specs.Shapes.{all_children, parents}
-use Rattle.hv_plan.specs.Shaping.{lines_of_children}
+use Rattle.hv_plan.specs.inside.Shaping.{lines_of_children}
 use Rattle.hv_plan.proofs.ShapeFaults.{as_many_lines, repeats_moved}
 use Rattle.hv_plan.proofs.shape.repeats.second_parent.Goals as goal
 

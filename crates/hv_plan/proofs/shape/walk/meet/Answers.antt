@@ -1,6 +1,6 @@
 use Rattle.std.proofs.Common.{◌≡◌, true, rules, arith}
 use Rattle.std.proofs.lemmas.Grind.{common_steps}
-use Rattle.hv_plan.specs.Shaping.{is_marked}
+use Rattle.hv_plan.specs.inside.Shaping.{is_marked}
 use Rattle.hv_plan.proofs.ShapeWalks.{grows_by_none}
 use Rattle.hv_plan.proofs.shape.walk.meet.Goals as goal
 

@@ -1,6 +1,6 @@
 use Rattle.std.proofs.Common.{◌<◌, ◌∷◌, [], ℕ, List, refl, sym, ◌∙◌, subst, arith, length, take, slice_index}
 use Rattle.std.proofs.lemmas.List.{take_more}
-use Rattle.hv_plan.specs.Shaping.{Grows}
+use Rattle.hv_plan.specs.inside.Shaping.{Grows}
 use Rattle.hv_plan.proofs.ShapeWalks.{contained_at, grows_more}
 use Rattle.hv_plan.proofs.shape.walk.meet_all.Goals as goal
 

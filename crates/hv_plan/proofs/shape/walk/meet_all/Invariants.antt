@@ -1,5 +1,5 @@
 use Rattle.std.proofs.Common.{◌≡◌, length, take}
-use Rattle.hv_plan.specs.Shaping.{IsMeeting, Grows}
+use Rattle.hv_plan.specs.inside.Shaping.{IsMeeting, Grows}
 use Rattle.hv_plan.proofs.shape.walk.meet_all.Given as goal
 
 abbrev pub invariant-loop-place : goal.invariant-loop-place

@@ -1,6 +1,6 @@
 use Rattle.std.proofs.Common.{◌≡◌, ◌<◌, ◌≤◌, ℕ, List, ap, subst, ◌∙◌, arith, length, slice_index, Contains}
 use Rattle.std.proofs.lemmas.Grind.{get_or_default_zero}
-use Rattle.hv_plan.specs.Shaping.{kids, Grows}
+use Rattle.hv_plan.specs.inside.Shaping.{kids, Grows}
 use Rattle.hv_plan.proofs.ShapeWalks.{met_fits, walk_starts, walk_goes, walk_ends}
 use Rattle.hv_plan.proofs.shape.walk.walk_from.Goals as goal
 

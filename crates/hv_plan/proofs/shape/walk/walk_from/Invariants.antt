@@ -1,5 +1,5 @@
 use Rattle.std.proofs.Common.{◌≡◌, ◌≤◌, ◌-◌, length}
-use Rattle.hv_plan.specs.Shaping.{kids, IsWalking}
+use Rattle.hv_plan.specs.inside.Shaping.{kids, IsWalking}
 use Rattle.hv_plan.proofs.shape.walk.walk_from.Given as goal
 
 abbrev pub invariant-met : goal.invariant-met

@@ -1,5 +1,5 @@
 use Rattle.std.proofs.Common.{◌≡◌, ℕ, length, get_or, take}
-use Rattle.hv_plan.specs.Tallies.{times}
+use Rattle.hv_plan.specs.inside.Tallies.{times}
 use Rattle.hv_plan.proofs.subtasks.counts.add_all.Given as goal
 
 -- the numbers so far are counted

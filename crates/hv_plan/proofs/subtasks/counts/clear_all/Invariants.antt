@@ -1,6 +1,6 @@
 use Rattle.std.proofs.Common.{◌≡◌, ◌≤◌, ℕ, length, get_or, take}
 use Rattle.std.specs.Prelude.{All}
-use Rattle.hv_plan.specs.Tallies.{times}
+use Rattle.hv_plan.specs.inside.Tallies.{times}
 use Rattle.hv_plan.proofs.subtasks.counts.clear_all.Given as goal
 
 -- the numbers so far are counted no more, the others as before

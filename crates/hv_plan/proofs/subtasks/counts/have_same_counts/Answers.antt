@@ -1,6 +1,6 @@
 use Rattle.std.proofs.Common.{◌≡◌, ◌≤◌, get_or, arith}
 use Rattle.std.proofs.lemmas.List.Elements.{All-contains}
-use Rattle.hv_plan.specs.Tallies.{times}
+use Rattle.hv_plan.specs.inside.Tallies.{times}
 use Rattle.hv_plan.proofs.TallyLemmas.{emptied, same_or_not, counted_left}
 use Rattle.hv_plan.proofs.subtasks.counts.have_same_counts.Goals as goal
 

@@ -1,5 +1,5 @@
 use Rattle.std.proofs.Common.{◌<◌, take, get_or, refl, arith}
-use Rattle.hv_plan.specs.Tallies.{times}
+use Rattle.hv_plan.specs.inside.Tallies.{times}
 use Rattle.hv_plan.proofs.TallyLemmas.{times_at}
 use Rattle.hv_plan.proofs.subtasks.counts.take_all.Goals as goal
 

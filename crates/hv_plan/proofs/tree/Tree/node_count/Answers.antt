@@ -1,7 +1,7 @@
 use Rattle.std.proofs.Common.{arith}
-use Rattle.hv_plan.specs.FitViews.{decomposed_lines}
+use Rattle.hv_plan.specs.inside.FitViews.{decomposed_lines}
 use Rattle.hv_plan.specs.LineViews.{plan_view}
-use Rattle.hv_plan.specs.ShapeViews.{shape_view}
+use Rattle.hv_plan.specs.inside.ShapeViews.{shape_view}
 use Rattle.hv_plan.proofs.AssemblyLemmas.{as_many_nodes}
 use Rattle.hv_plan.proofs.tree.Tree.node_count.Goals as goal
 

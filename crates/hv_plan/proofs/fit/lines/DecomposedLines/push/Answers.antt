@@ -1,6 +1,6 @@
 use Rattle.std.proofs.Common.{◌∙◌}
-use Rattle.hv_plan.specs.FitViews.{headed}
-use Rattle.hv_plan.specs.Lists.{with_lists}
+use Rattle.hv_plan.specs.inside.FitViews.{headed}
+use Rattle.hv_plan.specs.inside.Lists.{with_lists}
 use Rattle.hv_plan.proofs.ListLemmas.{with_more}
 use Rattle.hv_plan.proofs.fit.lines.DecomposedLines.push.Goals as goal
 

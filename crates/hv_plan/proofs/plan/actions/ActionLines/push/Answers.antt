@@ -1,5 +1,5 @@
 use Rattle.std.proofs.Common.{◌∙◌}
-use Rattle.hv_plan.specs.Lists.{with_lists}
+use Rattle.hv_plan.specs.inside.Lists.{with_lists}
 use Rattle.hv_plan.specs.LineViews.{headed_action}
 use Rattle.hv_plan.proofs.ListLemmas.{with_more}
 use Rattle.hv_plan.proofs.plan.actions.ActionLines.push.Goals as goal

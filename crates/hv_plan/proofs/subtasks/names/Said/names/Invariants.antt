@@ -1,7 +1,7 @@
 use Rattle.std.proofs.Common.{◌≡◌, drop, map}
 use Rattle.hv_world.specs.Bindings.{ground_actions_view}
 use Rattle.hv_world.specs.Views.{name_view}
-use Rattle.hv_plan.specs.FitViews.{decomposed_lines, item_name}
+use Rattle.hv_plan.specs.inside.FitViews.{decomposed_lines, item_name}
 use Rattle.hv_plan.specs.Forms.{every, behind}
 use Rattle.hv_plan.specs.TreeViews.{child_view}
 use Rattle.hv_plan.proofs.subtasks.names.Said.names.Given as goal

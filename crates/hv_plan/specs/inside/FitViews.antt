@@ -8,11 +8,12 @@ use Rattle.hv_plan.specs.Values.{Decomposition}
 use Rattle.hv_plan.specs.Shapes.{head}
 use Rattle.hv_plan.specs.Trees.{Item, Act, Task, Pre}
 use Rattle.hv_plan.specs.Fits.{IsForTask, Says}
-use Rattle.hv_plan.specs.LineFaults.{Entry, IsEarliest, FaultIn}
-use Rattle.hv_plan.specs.declared.cause.CauseKind.{CauseKind}
+use Rattle.hv_plan.specs.inside.LineFaults.{Entry, IsEarliest, FaultIn}
+use Rattle.hv_plan.specs.declared.fit.LineFault.{LineFault}
+use Rattle.hv_plan.specs.declared.fit.LineFault.TheVariants as faults
 use Rattle.hv_plan.specs.declared.cause.Cause.{Cause}
 use Rattle.hv_world.specs.declared.id.ObjectId.{ObjectId}
-use Rattle.hv_plan.specs.Lists.{with_lists}
+use Rattle.hv_plan.specs.inside.Lists.{with_lists}
 use Rattle.hv_plan.specs.declared.fit.Decomposed as code
 use Rattle.hv_plan.specs.declared.fit.Grounded as code_action
 use Rattle.hv_plan.specs.declared.fit.lines.DecomposedHead as code_head
@@ -52,13 +53,20 @@ pub record AreTidy (ls : code_lines.DecomposedLines) : Type 0 where
   pub as_many : length ls.objects ≡ length ls.heads.items
 
 -- what a line was found to say, and the cause where it was found at fault
-abbrev pub kept : {X : Type 0} → Result X CauseKind → List X
+abbrev pub kept : {X : Type 0} → Result X LineFault → List X
 kept (Ok x) = x ∷ []
-kept (Err k) = []
+kept (Err f) = []
 
-abbrev pub cause_at : {X : Type 0} → Result X CauseKind → ℕ → Option Cause
+abbrev pub cause_at : {X : Type 0} → Result X LineFault → ℕ → Option Cause
 cause_at (Ok x) l = None
-cause_at (Err k) l = Some (record { kind = k; line = l })
+cause_at (Err (faults.Cause k)) l = Some (record { kind = k; line = l })
+cause_at (Err faults.Memory) l = None
+
+-- memory did not run out
+abbrev pub IsTold : {X : Type 0} → Result X LineFault → Type 0
+IsTold (Ok x) = Unit {0}
+IsTold (Err (faults.Cause k)) = Unit {0}
+IsTold (Err faults.Memory) = ⊥
 
 -- The cause that is reported of those for which one of these lines is at fault by itself; and where
 -- there is none, what each line says

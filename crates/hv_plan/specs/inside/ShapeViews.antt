@@ -1,9 +1,9 @@
 -- The shape of a plan: what stands below what, with a number for each node.
-use Rattle.std.specs.Prelude.{◌≡◌, ◌≢◌, ◌+◌, ◌<◌, ◌↔◌, ℕ, suc, AllPairs, List, [], length, map, slice_get, Option, Some, None, option_and_then}
+use Rattle.std.specs.Prelude.{◌≡◌, ◌+◌, ◌↔◌, ℕ, List, [], length, map, slice_get, Option, Some, None, option_and_then}
 use Rattle.std.specs.List.{AllZip}
 use Rattle.hv_plan.specs.Values.{Plan}
-use Rattle.hv_plan.specs.Trees.{Item, Act, Task, Pre, Tree, Reached, IsTree, HasActions}
-use Rattle.hv_plan.specs.PlanTrees.{child_nodes, countdown}
+use Rattle.hv_plan.specs.Trees.{Item, Act, Task, Pre, Tree}
+use Rattle.hv_plan.specs.PlanTrees.{IsNumberedTree}
 use Rattle.hv_plan.specs.TreeViews.{child_view}
 use Rattle.hv_plan.specs.declared.shape.nodes.Shape as code
 
@@ -50,8 +50,7 @@ Stands p s i (Task v) = option_and_then (line_id p) (slice_get s.lines v) ≡ So
 Stands p s i (Pre v) = ⊥
 
 -- Nodes and decomposition lines are numbered one by one; the children of each node are what the line
--- names by ids; children stand before parents, each is a child once, and every action and every node
--- is reached from the root line
+-- names by ids; and the nodes are a numbered tree
 pub record IsShape (p : Plan) (s : Shape) : Type 0 where
   pub as_many_lines : length s.lines ≡ length p.decompositions
   pub as_many_numbers : length s.numbers ≡ length p.decompositions
@@ -59,8 +58,4 @@ pub record IsShape (p : Plan) (s : Shape) : Type 0 where
   pub numbered : (v k : ℕ) → (slice_get s.lines v ≡ Some k) ↔ (slice_get s.numbers k ≡ Some v)
   pub of_root : AllZip (Stands p s) p.root.ids (children_of_node s (root_node p))
   pub of_lines : AllZip (λ d v. AllZip (Stands p s) d.children (children_of_node s v)) p.decompositions s.numbers
-  pub tree : IsTree (shape_tree p s)
-  pub child_once : (v : ℕ) → AllPairs ◌≢◌ (children_of_node s v)
-  pub in_order : child_nodes (children_of_node s) (suc (length p.decompositions)) ≡ countdown (length p.decompositions)
-  pub reached_lines : (v : ℕ) → v < length p.decompositions → Reached (shape_tree p s) (Task v)
-  pub reached_actions : HasActions (shape_tree p s) (length p.actions)
+  pub shape : IsNumberedTree (shape_tree p s) (length p.decompositions) (length p.actions)

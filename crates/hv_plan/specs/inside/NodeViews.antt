@@ -3,8 +3,8 @@ use Rattle.std.specs.Prelude.{◌+◌, ℕ, List, [], ◌∷◌, Option, Some, N
 use Rattle.hv_plan.specs.Values.{Decomposition, Plan}
 use Rattle.hv_plan.specs.Trees.{Item}
 use Rattle.hv_plan.specs.PlanTrees.{Node}
-use Rattle.hv_plan.specs.ShapeViews.{Shape, children_of_node}
-use Rattle.hv_plan.specs.FitViews.{Decomposed}
+use Rattle.hv_plan.specs.inside.ShapeViews.{Shape, children_of_node}
+use Rattle.hv_plan.specs.inside.FitViews.{Decomposed}
 
 -- the node of a decomposition line that says this, with these children
 abbrev pub node_of_line : Decomposition → Decomposed → List Item → Node

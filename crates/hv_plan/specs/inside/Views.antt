@@ -35,10 +35,6 @@ abbrev pub as_id : Option ℕ → Id
 as_id None = ids.NoId
 as_id (Some i) = if is_id i then ids.Fits i else ids.TooLarge
 
--- a number, where it has at most 64 bits
-abbrev pub as_number : ℕ → Option ℕ
-as_number i = if is_id i then Some i else None
-
 -- what words are as ids: ids that all have at most 64 bits, ids of which some is larger, or not all ids
 pub data Found : Type 0 where
   fitting : List ℕ → Found

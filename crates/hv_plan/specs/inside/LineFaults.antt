@@ -5,11 +5,14 @@ use Rattle.hv_world.specs.Names.{place_in}
 use Rattle.hv_world.specs.Worlds.{World, Method, task_named, method_named}
 use Rattle.hv_plan.specs.Values.{Action, Decomposition, Plan}
 use Rattle.hv_plan.specs.Shapes.{head}
-use Rattle.hv_plan.specs.Fits.{parameters_of, AreObjects, AreOf, IsForTask, method_of}
+use Rattle.hv_plan.specs.Fits.{parameters_of, AreObjects, IsForTask, method_of}
+use Rattle.hv_world.specs.Groundings.{AreOf}
 use Rattle.hv_plan.specs.Causes.{number}
 use Rattle.hv_plan.specs.declared.cause.CauseKind.{CauseKind}
 use Rattle.hv_plan.specs.declared.cause.CauseKind.TheVariants as kinds
 use Rattle.hv_plan.specs.declared.cause.Cause.{Cause}
+use Rattle.hv_plan.specs.declared.fit.LineFault.{LineFault}
+use Rattle.hv_plan.specs.declared.fit.LineFault.TheVariants as faults
 
 -- a line that begins with an id: what it says of the id, and the method where it is a decomposition line
 pub record Entry : Type 0 where
@@ -38,7 +41,7 @@ IsAtFault w e kinds.UnknownObject = (n : List ℕ) × Contains e.said.arguments 
 IsAtFault w e kinds.ArgumentCount =
     (t : TaskName) × (task_named w e.said.name ≡ Some t) × (length e.said.arguments ≡ length (parameters_of w t) → ⊥)
 IsAtFault w e kinds.ArgumentType =
-    (t : TaskName) × (os : List ℕ) × (task_named w e.said.name ≡ Some t) × AreObjects w e.said.arguments os × (AreOf w os (parameters_of w t) → ⊥)
+    (t : TaskName) × (os : List ℕ) × (task_named w e.said.name ≡ Some t) × AreObjects w e.said.arguments os × (AreOf w.typing os (parameters_of w t) → ⊥)
 IsAtFault w e kinds.NotPrimitive = (t : ℕ) × (e.method ≡ None) × (task_named w e.said.name ≡ Some (compound t))
 IsAtFault w e kinds.NotAbstract = (n : List ℕ) × (a : ℕ) × (e.method ≡ Some n) × (task_named w e.said.name ≡ Some (primitive a))
 IsAtFault w e kinds.OtherTask =
@@ -55,12 +58,22 @@ pub record IsSmallest (w : World) (e : Entry) (k : CauseKind) : Type 0 where
 -- what keeps objects from being as the parameters of a task or an action
 pub data IsObjectFault (w : World) (t : TaskName) (os : List ℕ) : CauseKind → Type 0 where
   count : (length os ≡ length (parameters_of w t) → ⊥) → IsObjectFault w t os kinds.ArgumentCount
-  type : length os ≡ length (parameters_of w t) → (AreOf w os (parameters_of w t) → ⊥) → IsObjectFault w t os kinds.ArgumentType
+  type : length os ≡ length (parameters_of w t) → (AreOf w.typing os (parameters_of w t) → ⊥) → IsObjectFault w t os kinds.ArgumentType
 
 -- what keeps arguments from being objects that are as the parameters of a task or an action
 pub data IsArgumentFault (w : World) (t : TaskName) (ns : List (List ℕ)) : CauseKind → Type 0 where
   unknown : (n : List ℕ) → Contains ns n → place_in w.objects n ≡ None → IsArgumentFault w t ns kinds.UnknownObject
   objects : (os : List ℕ) (k : CauseKind) → AreObjects w ns os → IsObjectFault w t os k → IsArgumentFault w t ns k
+
+-- arguments are objects that are as the parameters of a task or an action
+pub record AreArguments (w : World) (t : TaskName) (ns : List (List ℕ)) (os : List ℕ) : Type 0 where
+  pub known : AreObjects w ns os
+  pub typed : AreOf w.typing os (parameters_of w t)
+
+-- why nothing is found of a line: for a cause of which P holds, or for want of memory
+abbrev pub IsLineFault : (CauseKind → Type 0) → LineFault → Type 0
+IsLineFault P (faults.Cause k) = P k
+IsLineFault P faults.Memory = Unit {0}
 
 -- a cause comes before another that is not of a smaller number, nor of the same number on an earlier line
 abbrev pub ComesBefore : Cause → CauseKind → ℕ → Type 0

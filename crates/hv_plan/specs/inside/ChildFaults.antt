@@ -8,10 +8,10 @@ use Rattle.hv_plan.specs.Values.{Plan}
 use Rattle.hv_plan.specs.Shapes.{Parent}
 use Rattle.hv_plan.specs.Forms.{every}
 use Rattle.hv_plan.specs.Fits.{IsNamed, multiplicity, names_of, method_of}
-use Rattle.hv_plan.specs.FitViews.{decomposed_lines, IsDecomposed, item_name}
+use Rattle.hv_plan.specs.inside.FitViews.{decomposed_lines, IsDecomposed, item_name}
 use Rattle.hv_plan.specs.PlanTrees.{IsActionOf}
-use Rattle.hv_plan.specs.ShapeViews.{Shape}
-use Rattle.hv_plan.specs.Tallies.{number_in, HaveSameNames, IsNamesFault}
+use Rattle.hv_plan.specs.inside.ShapeViews.{Shape}
+use Rattle.hv_plan.specs.inside.Tallies.{number_in, HaveSameNames, IsNamesFault}
 use Rattle.hv_plan.specs.Trees.{Item}
 use Rattle.hv_plan.specs.declared.cause.CauseKind.{CauseKind}
 use Rattle.hv_plan.specs.declared.cause.CauseKind.TheVariants as kinds

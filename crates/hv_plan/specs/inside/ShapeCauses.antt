@@ -3,7 +3,7 @@ use Rattle.std.specs.Prelude.{◌<◌, ℕ, Option}
 use Rattle.hv_world.specs.Worlds.{World}
 use Rattle.hv_plan.specs.Values.{Plan}
 use Rattle.hv_plan.specs.Causes.{number, Qualifies, IsTreeFault}
-use Rattle.hv_plan.specs.Shaping.{IsFirst}
+use Rattle.hv_plan.specs.inside.Shaping.{IsFirst}
 use Rattle.hv_plan.specs.declared.cause.CauseKind.{CauseKind}
 use Rattle.hv_plan.specs.declared.cause.TreeFault.{TreeFault}
 
