@@ -1,23 +1,25 @@
 -- A match of the puzzle of a node is a candidate of the node.
-use Rattle.std.proofs.Common.{◌≡◌, ◌≢◌, ℕ, zero, suc, ◌+◌, ◌<◌, Bool, true, false, List, [], ◌∷◌, ◌++◌, length, map, take, drop, get_or, length-append, nat_eq, slice_index, refl, sym, ap, ◌∙◌, arith, subst, inl, inr, Option, Some, None, option_map, All, AllPairs, Contains, eqb-true, eq-eqb, slice_get}
+use Rattle.std.proofs.Common.{◌≡◌, ◌≢◌, ℕ, zero, suc, ◌+◌, ◌<◌, Bool, true, false, List, [], ◌∷◌, ◌++◌, length, map, take, drop, get_or, length-append, nat_eq, slice_index, refl, sym, ap, ◌∙◌, arith, subst, Option, Some, None, option_map, All, AllPairs, Contains, eqb-true, eq-eqb, slice_get}
 use Rattle.std.proofs.lemmas.List.Elements.{All-nil, All-cons, All-head, All-tail}
-use Rattle.std.proofs.lemmas.List.Kept.{AllPairs-cons}
 use Rattle.std.specs.List.{AllZip}
+use Rattle.hv_world.specs.Bindings.{object_of}
 use Rattle.hv_world.specs.Values.{Term, object, variable, Subtask, subtask, Constraint}
 use Rattle.hv_world.specs.Alike.{instance, subtask_instance}
 use Rattle.hv_world.specs.Types.{Typing, Of}
 use Rattle.hv_world.specs.Worlds.{World, Method}
-use Rattle.hv_match.specs.inside.Lists.{Mem}
-use Rattle.hv_match.specs.inside.Lists as lists
+use Rattle.hv_text.specs.Lists.{Once}
 use Rattle.hv_world.specs.Views.{type_number}
 use Rattle.hv_world.specs.declared.id.TypeId.{TypeId}
 use Rattle.hv_match.specs.inside.Search.{below}
 use Rattle.hv_match.specs.inside.Parts.{parts}
 use Rattle.hv_match.specs.Candidates.{Does, Holds, IsCandidate}
-use Rattle.hv_match.specs.inside.Puzzles.{Work, work, Puzzle, object_of, child_at, same_bool, holds, all_hold, options, levels, is_good, Done, IsMatch}
-use Rattle.hv_match.specs.inside.Ranges.{IsRange, AreRanges, as_subtask, IsPuzzleOf}
-use Rattle.hv_match.proofs.Factors.{contains_mem, mem_contains}
-use Rattle.hv_match.proofs.CountLemmas.{once_of, take_one, map_end, zip_end}
+use Rattle.hv_match.specs.inside.Puzzles.{Work, work, Puzzle, child_at, same_bool, holds, all_hold, options, levels, is_good, Done, IsMatch}
+use Rattle.hv_match.specs.inside.Ranges.{IsRange, AreRanges, as_subtask, IsPuzzleOf, IsTableOf}
+use Rattle.hv_match.specs.inside.PuzzleViews.{puzzle_view}
+use Rattle.hv_match.specs.declared.puzzle.Puzzle as code_puzzle
+use Rattle.hv_match.specs.declared.table.MethodTable.{MethodTable}
+use Rattle.hv_match.proofs.Members.{mem_map, map_mem, at_head, in_tail, none_in_empty, once_head, once_tail, once_none, once_more}
+use Rattle.hv_match.proofs.CountLemmas.{take_one, map_end, zip_end}
 use Rattle.hv_match.proofs.Keys.{instances_are}
 use Rattle.hv_match.proofs.Fitting.{both, also, zip_len, good_match, match_good, match_parts}
 use Rattle.hv_match.proofs.Listing.{listing_to, listing_from, once_below}
@@ -72,7 +74,7 @@ all_from cs B (x ∷ M) [] a = absurd a
 all_from cs B (x ∷ M) (s ∷ ss) a = (does_from cs B x s a.0, all_from cs B M ss a.1)
 
 -- types
-typed_to : (w : Typing) (B : List ℕ) (rs : List (List ℕ)) (ts : List ℕ) → AreRanges w rs ts → AllZip (λ (o : ℕ) (r : List ℕ). Mem r o) B rs → AllZip (λ (o t : ℕ). Of w o t) B ts
+typed_to : (w : Typing) (B : List ℕ) (rs : List (List ℕ)) (ts : List ℕ) → AreRanges w rs ts → AllZip (λ (o : ℕ) (r : List ℕ). Contains r o) B rs → AllZip (λ (o t : ℕ). Of w o t) B ts
 typed_to w [] [] [] a b = tt
 typed_to w [] [] (t ∷ ts) a b = absurd a
 typed_to w [] (r ∷ rs) ts a b = absurd b
@@ -80,7 +82,7 @@ typed_to w (o ∷ B) [] ts a b = absurd b
 typed_to w (o ∷ B) (r ∷ rs) [] a b = absurd a
 typed_to w (o ∷ B) (r ∷ rs) (t ∷ ts) a b = ((a.0.exact o).0 b.0, typed_to w B rs ts a.1 b.1)
 
-typed_from : (w : Typing) (B : List ℕ) (rs : List (List ℕ)) (ts : List ℕ) → AreRanges w rs ts → AllZip (λ (o t : ℕ). Of w o t) B ts → AllZip (λ (o : ℕ) (r : List ℕ). Mem r o) B rs
+typed_from : (w : Typing) (B : List ℕ) (rs : List (List ℕ)) (ts : List ℕ) → AreRanges w rs ts → AllZip (λ (o t : ℕ). Of w o t) B ts → AllZip (λ (o : ℕ) (r : List ℕ). Contains r o) B rs
 typed_from w [] [] [] a b = tt
 typed_from w [] [] (t ∷ ts) a b = absurd a
 typed_from w [] (r ∷ rs) [] a b = absurd a
@@ -127,24 +129,14 @@ pub holds_from : (B : List ℕ) (cs : List Constraint) → All (Holds B) cs → 
 holds_from B [] a = refl
 holds_from B (c ∷ cs) a = also (holds B c) (all_hold B cs) (held_from B c (All-head (Holds B) c cs a)) (holds_from B cs (All-tail (Holds B) c cs a))
 
--- each once
-pub pairs_of : {X : Type 0} (xs : List X) → lists.Once xs → AllPairs ◌≢◌ xs
-pairs_of [] o = λ i j d lt within. absurd (omega arith)
-pairs_of {X} (x ∷ xs) o = AllPairs-cons ◌≢◌ x xs (λ i d h e. o.0 (contains_mem xs x (i, h, other xs i d h e))) (pairs_of xs o.1)
-  where
-    other : (ys : List X) (i : ℕ) (d : X) → i < length ys → x ≡ get_or ys i d → get_or ys i x ≡ x
-    other [] i d h e = absurd (omega arith)
-    other (y ∷ ys) zero d h e = sym e
-    other (y ∷ ys) (suc i) d h e = other ys i d (omega arith) e
-
-pub within_to : (n : ℕ) (M : List ℕ) → ((x : ℕ) → Mem M x → x < n) → All (λ x. x < n) M
+pub within_to : (n : ℕ) (M : List ℕ) → ((x : ℕ) → Contains M x → x < n) → All (λ x. x < n) M
 within_to n [] h = All-nil _
-within_to n (x ∷ M) h = All-cons (λ x. x < n) x M (h x (inl refl)) (within_to n M (λ y m. h y (inr m)))
+within_to n (x ∷ M) h = All-cons (λ x. x < n) x M (h x (at_head x M x refl)) (within_to n M (λ y m. h y (in_tail x M y m)))
 
-within_from : (n : ℕ) (M : List ℕ) → All (λ x. x < n) M → (x : ℕ) → Mem M x → x < n
-within_from n [] a x m = absurd m
-within_from n (y ∷ M) a x (inl e) = subst (λ z. z < n) e (All-head (λ x. x < n) y M a)
-within_from n (y ∷ M) a x (inr m) = within_from n M (All-tail (λ x. x < n) y M a) x m
+within_from : (n : ℕ) (M : List ℕ) → All (λ x. x < n) M → (x : ℕ) → Contains M x → x < n
+within_from n [] a x m = absurd (none_in_empty x m)
+within_from n (y ∷ M) a x (zero, lt, e) = subst (λ z. z < n) e (All-head (λ x. x < n) y M a)
+within_from n (y ∷ M) a x (suc k, lt, e) = within_from n M (All-tail (λ x. x < n) y M a) x (k, omega (arith, lt), e)
 
 map_len : {X Y : Type 0} (f : X → Y) (xs : List X) → length (map f xs) ≡ length xs
 map_len f [] = refl
@@ -156,7 +148,7 @@ module _ (w : World) (m : Method) (os : List ℕ) (cs : List (Option Subtask)) (
 
   pub candidate_of : IsMatch p M B → IsCandidate w m os cs M B
   candidate_of c = record {
-    once = pairs_of M c.once;
+    once = c.once;
     within = within_to (length cs) M (λ x k. omega (arith, c.within x k, as_many));
     all = c.all ∙ as_many;
     typed = typed_to w.typing B p.ranges m.parameters is.ranges c.typed;
@@ -167,7 +159,7 @@ module _ (w : World) (m : Method) (os : List ℕ) (cs : List (Option Subtask)) (
 
   pub match_of : IsCandidate w m os cs M B → IsMatch p M B
   match_of c = record {
-    once = once_of M c.once;
+    once = c.once;
     within = λ x k. omega (arith, within_from (length cs) M c.within x k, as_many);
     all = c.all ∙ sym as_many;
     typed = typed_from w.typing B p.ranges m.parameters is.ranges c.typed;
@@ -175,6 +167,20 @@ module _ (w : World) (m : Method) (os : List ℕ) (cs : List (Option Subtask)) (
     done = all_from p.children B M p.subtasks (subst (λ ds. AllZip (Does ds B) M p.subtasks) (sym is.works) (subst (λ ss. AllZip (Does cs B) M ss) (sym is.subtasks) c.done));
     constraints = holds_from B p.constraints (subst (λ zs. All (Holds B) zs) (sym is.constraints) c.constraints);
   }
+
+-- the puzzle of a node has the table of its method
+pub puzzle_of : (w : World) (m : Method) (os : List ℕ) (cs : List (Option Subtask)) (t : MethodTable) (p : code_puzzle.Puzzle)
+    → IsTableOf w m t → p.table.now ≡ t → (puzzle_view p).objects ≡ os → map (option_map as_subtask) (puzzle_view p).children ≡ cs → IsPuzzleOf w m os cs (puzzle_view p)
+puzzle_of w m os cs t p is e given works =
+    let here : IsTableOf w m p.table.now = subst (λ z. IsTableOf w m z) (sym e) is in
+    record {
+      ranges = here.ranges;
+      task = here.task;
+      given = given;
+      subtasks = here.subtasks;
+      constraints = here.constraints;
+      works = works;
+    }
 
 pub more_ranges : {R : Type 0} (w : Typing) (f : R → List ℕ) (rs : List R) (r : R) (ts : List TypeId) (i : ℕ) (d : TypeId) → i < length ts
     → AreRanges w (map f rs) (map type_number (take i ts)) → IsRange w (f r) (get_or ts i d).0 → AreRanges w (map f (rs ++ r ∷ [])) (map type_number (take (i + 1) ts))
@@ -184,20 +190,10 @@ more_ranges w f rs r ts i d h a b =
 -- what a search lists, in its two parts
 
 module _ (p : Puzzle) where
-  back_mem : {X Y : Type 0} (f : X → Y) (xs : List X) (y : Y) → Mem (map f xs) y → (x : X) × Mem xs x × (f x ≡ y)
-  back_mem f [] y m = absurd m
-  back_mem f (x ∷ xs) y (inl e) = (x, inl refl, e)
-  back_mem f (x ∷ xs) y (inr m) = let r = back_mem f xs y m in (r.0, inr r.1, r.2)
-
-  to_mem : {X Y : Type 0} (f : X → Y) (xs : List X) (x : X) → Mem xs x → Mem (map f xs) (f x)
-  to_mem f [] x m = absurd m
-  to_mem f (y ∷ xs) x (inl e) = inl (ap f e)
-  to_mem f (y ∷ xs) x (inr m) = inr (to_mem f xs x m)
-
   pub listed_match : (M B : List ℕ) → Contains (map (parts (length p.subtasks)) (below (options p) (is_good p) (levels p) [] 0)) (M, B) → IsMatch p M B
   listed_match M B c =
       let l = below (options p) (is_good p) (levels p) [] 0 in
-      let r = back_mem (parts (length p.subtasks)) l (M, B) (contains_mem (map (parts (length p.subtasks)) l) (M, B) c) in
+      let r = map_mem (parts (length p.subtasks)) l (M, B) c in
       let w = listing_to (options p) (is_good p) (levels p) r.0 r.1 in
       let m = good_match p r.0 w.is_good in
       let e : take (length p.subtasks) r.0 ≡ M = ap (λ (z : List ℕ × List ℕ). z.0) r.2 in
@@ -207,11 +203,11 @@ module _ (p : Puzzle) where
   pub match_listed : (M B : List ℕ) → IsMatch p M B → Contains (map (parts (length p.subtasks)) (below (options p) (is_good p) (levels p) [] 0)) (M, B)
   match_listed M B c =
       let l = below (options p) (is_good p) (levels p) [] 0 in
-      let size : length (M ++ B) ≡ levels p = omega (arith, length-append M B, zip_len (Done p.children B) M p.subtasks c.done, zip_len (λ (o : ℕ) (r : List ℕ). Mem r o) B p.ranges c.typed) in
-      let m : Mem l (M ++ B) = listing_from (options p) (is_good p) (levels p) (M ++ B) (record { whole = size; path = candidate_path p M B c; is_good = match_good p M B c }) in
+      let size : length (M ++ B) ≡ levels p = omega (arith, length-append M B, zip_len (Done p.children B) M p.subtasks c.done, zip_len (λ (o : ℕ) (r : List ℕ). Contains r o) B p.ranges c.typed) in
+      let m : Contains l (M ++ B) = listing_from (options p) (is_good p) (levels p) (M ++ B) (record { whole = size; path = candidate_path p M B c; is_good = match_good p M B c }) in
       let q = match_parts p M B c in
       let e : parts (length p.subtasks) (M ++ B) ≡ (M, B) = rw (q.0, q.1) refl in
-      mem_contains (map (parts (length p.subtasks)) l) (M, B) (subst (λ z. Mem (map (parts (length p.subtasks)) l) z) e (to_mem (parts (length p.subtasks)) l (M ++ B) m))
+      subst (λ z. Contains (map (parts (length p.subtasks)) l) z) e (mem_map (parts (length p.subtasks)) l (M ++ B) m)
 
   whole_again : (n : ℕ) (q : List ℕ) → take n q ++ drop n q ≡ q
   whole_again zero [] = refl
@@ -223,17 +219,17 @@ module _ (p : Puzzle) where
   same_whole n q r e =
       sym (whole_again n q) ∙ ap (λ l. l ++ drop n q) (ap (λ (z : List ℕ × List ℕ). z.0) e) ∙ ap (λ l. take n r ++ l) (ap (λ (z : List ℕ × List ℕ). z.1) e) ∙ whole_again n r
 
-  once_parts : (n : ℕ) (l : List (List ℕ)) → lists.Once l → lists.Once (map (parts n) l)
-  once_parts n [] o = tt
+  once_parts : (n : ℕ) (l : List (List ℕ)) → Once l → Once (map (parts n) l)
+  once_parts n [] o = once_none
   once_parts n (q ∷ l) o =
-      (λ m. let r = back_mem (parts n) l (parts n q) m in o.0 (subst (λ z. Mem l z) (same_whole n r.0 q r.2) r.1), once_parts n l o.1)
+      once_more (parts n q) (map (parts n) l) (λ m. let r = map_mem (parts n) l (parts n q) m in once_head q l o (subst (λ z. Contains l z) (same_whole n r.0 q r.2) r.1)) (once_parts n l (once_tail q l o))
 
-  pub listed_once : ((i : ℕ) → lists.Once (get_or p.ranges i [])) → AllPairs ◌≢◌ (map (parts (length p.subtasks)) (below (options p) (is_good p) (levels p) [] 0))
-  listed_once o = pairs_of (map (parts (length p.subtasks)) (below (options p) (is_good p) (levels p) [] 0))
-      (once_parts (length p.subtasks) (below (options p) (is_good p) (levels p) [] 0) (once_below (options p) (is_good p) (options_once p o) (levels p) []))
+  pub listed_once : ((i : ℕ) → Once (get_or p.ranges i [])) → AllPairs ◌≢◌ (map (parts (length p.subtasks)) (below (options p) (is_good p) (levels p) [] 0))
+  listed_once o =
+      once_parts (length p.subtasks) (below (options p) (is_good p) (levels p) [] 0) (once_below (options p) (is_good p) (options_once p o) (levels p) [])
 
-pub ranges_once : (w : Typing) (rs : List (List ℕ)) (ts : List ℕ) → AreRanges w rs ts → (i : ℕ) → lists.Once (get_or rs i [])
-ranges_once w [] [] a i = tt
+pub ranges_once : (w : Typing) (rs : List (List ℕ)) (ts : List ℕ) → AreRanges w rs ts → (i : ℕ) → Once (get_or rs i [])
+ranges_once w [] [] a i = once_none
 ranges_once w [] (t ∷ ts) a i = absurd a
 ranges_once w (r ∷ rs) [] a i = absurd a
 ranges_once w (r ∷ rs) (t ∷ ts) a zero = a.0.once

@@ -4,13 +4,14 @@ use Rattle.std.proofs.lemmas.List.{get_or-set_other, get_or-set_same, get_or_def
 use Rattle.std.proofs.lemmas.List.Elements.{All-nil, Contains-push, Contains-push_cases, Contains-append_left, All-push}
 use Rattle.std.proofs.lemmas.List.Quantifiers.{all_pairs_push}
 use Rattle.std.specs.List.{AllZip}
+use Rattle.hv_world.specs.Bindings.{object_of}
 use Rattle.hv_world.specs.Values.{object, Subtask, subtask}
 use Rattle.hv_world.specs.Alike.{subtask_instance}
 use Rattle.hv_world.specs.Worlds.{World, Method, terms_of}
-use Rattle.hv_plan.specs.Fits.{AreOf}
+use Rattle.hv_world.specs.Groundings.{AreOf}
 use Rattle.hv_match.specs.Candidates.{Does, IsCandidate}
 use Rattle.hv_match.specs.inside.Checks.{AreAllPlaces, AreMarked}
-use Rattle.hv_match.specs.inside.Puzzles.{Work, work, object_of, same_values, does, all_hold}
+use Rattle.hv_match.specs.inside.Puzzles.{Work, work, same_values, does, all_hold}
 use Rattle.hv_match.specs.inside.Ranges.{as_subtask}
 use Rattle.hv_match.proofs.Bridge.{same_objects, holds_to, holds_from}
 use Rattle.hv_match.proofs.CountLemmas.{take_one, zip_end}
@@ -156,7 +157,7 @@ says_does c B s e =
 -- all of it
 
 module _ (w : World) (m : Method) (os : List ℕ) (cs : List (Option Subtask)) (M B : List ℕ) where
-  pub candidate_is : AreAllPlaces (length cs) M → AreOf w B m.parameters → same_values B (terms_of m.task) os ≡ true → AllZip (Does cs B) M m.network.subtasks → all_hold B m.network.constraints ≡ true → IsCandidate w m os cs M B
+  pub candidate_is : AreAllPlaces (length cs) M → AreOf w.typing B m.parameters → same_values B (terms_of m.task) os ≡ true → AllZip (Does cs B) M m.network.subtasks → all_hold B m.network.constraints ≡ true → IsCandidate w m os cs M B
   candidate_is a t s d h = record {
     once = a.once;
     within = a.within;

@@ -5,10 +5,8 @@ use Rattle.std.proofs.lemmas.Bool.Decides.{nat_tests}
 use Rattle.std.specs.List.{AllZip, range_with_len}
 use Rattle.hv_world.specs.Alike.{class_sizes}
 use Rattle.hv_world.specs.Worlds.{World, Method}
-use Rattle.hv_match.specs.inside.Lists.{Once}
 use Rattle.hv_match.specs.Counts.{factorial, product, AreSoMany, AreChoices, free, IsCount}
 use Rattle.hv_match.proofs.Members.{at_most}
-use Rattle.hv_match.proofs.Factors.{contains_mem, mem_contains}
 use Rattle.hv_match.specs.inside.Numbers.{in_64_bits}
 
 pub fits : (n : ℕ) → n < 2 ^ 64 → in_64_bits n ≡ Some n
@@ -72,13 +70,8 @@ pub kept_in : (p : ℕ → Bool) (n i : ℕ) → i < length (filter p (range_wit
 kept_in p n i h = omega (arith, kept_below p n 0 i h)
 
 -- one count
-pub once_of : (xs : List ℕ) → AllPairs ◌≢◌ xs → Once (xs)
-once_of [] a = tt
-once_of (x ∷ xs) a =
-    (λ m. let k = mem_contains xs x m in a 0 (suc k.0) x (omega arith) (omega (arith, k.1)) (sym k.2), once_of xs (λ i j d lt within. a (suc i) (suc j) d (omega arith) (omega arith)))
-
 no_more : (xs ys : List ℕ) → AllPairs ◌≢◌ xs → ((x : ℕ) → Contains xs x → Contains ys x) → length xs ≤ length ys
-no_more xs ys o s = at_most xs ys (once_of xs o) (λ x m. contains_mem ys x (s x (mem_contains xs x m)))
+no_more xs ys o s = at_most xs ys o s
 
 pub one_number : (w : World) (t n m : ℕ) → AreSoMany w t n → AreSoMany w t m → n ≡ m
 one_number w t n m a b =

@@ -2,9 +2,10 @@
 use Rattle.std.proofs.Common.{◌≡◌, ℕ, zero, suc, ◌+◌, Bool, true, false, not, ◌&&◌, List, [], ◌∷◌, ◌++◌, map, drop, get_or, slice_get, refl, sym, ap, ◌∙◌, arith, subst, if◌then◌else◌, Option, Some, None}
 use Rattle.std.proofs.lemmas.Bool.{eqb-true}
 use Rattle.std.specs.List.{AllZip}
+use Rattle.hv_world.specs.Bindings.{object_of}
 use Rattle.hv_world.specs.Values.{Term, object, variable, Subtask}
 use Rattle.hv_world.specs.Alike.{is_variable, has_variable, is_argument, is_free}
-use Rattle.hv_match.specs.inside.Puzzles.{Work, Puzzle, object_of, child_at, objects_of, first_in, first_of, source_of, look, bound, Done, IsMatch, Agrees}
+use Rattle.hv_match.specs.inside.Puzzles.{Work, Puzzle, child_at, objects_of, first_in, first_of, source_of, look, bound, Done, IsMatch, Agrees}
 
 variable_is : (i : ℕ) (t : Term) → is_variable i t ≡ true → t ≡ variable i
 variable_is i (object o) e = cc

@@ -1,10 +1,12 @@
 -- The tests of a whole choice say that it is a match.
-use Rattle.std.proofs.Common.{◌≡◌, ℕ, zero, suc, ◌<◌, Bool, true, false, not, ◌&&◌, List, [], ◌∷◌, ◌++◌, length, map, take, drop, nat_eq, refl, sym, ap, ◌∙◌, arith, inl, inr, if◌then◌else◌, Option, Some, None, eqb-true, eq-eqb}
+use Rattle.std.proofs.Common.{◌≡◌, ℕ, zero, suc, ◌<◌, Bool, true, false, not, ◌&&◌, List, [], ◌∷◌, ◌++◌, length, map, take, drop, nat_eq, refl, sym, ap, ◌∙◌, arith, if◌then◌else◌, Option, Some, None, eqb-true, eq-eqb, Contains}
 use Rattle.std.specs.List.{AllZip}
+use Rattle.hv_world.specs.Bindings.{object_of}
 use Rattle.hv_world.specs.Values.{Term, Subtask}
 use Rattle.hv_world.specs.Alike.{same_name}
-use Rattle.hv_match.specs.inside.Lists.{Mem, Once}
-use Rattle.hv_match.specs.inside.Puzzles.{Work, work, Puzzle, object_of, child_at, has, is_once, are_in, same_values, does, all_do, all_hold, fits, places, values, is_good, Done, IsMatch}
+use Rattle.hv_text.specs.Lists.{Once}
+use Rattle.hv_match.specs.inside.Puzzles.{Work, work, Puzzle, child_at, has, is_once, are_in, same_values, does, all_do, all_hold, fits, places, values, is_good, Done, IsMatch}
+use Rattle.hv_match.proofs.Members.{at_head, in_tail, none_in_empty, once_head, once_tail, once_none, once_more}
 use Rattle.hv_match.proofs.Factors.{name_is, name_itself}
 
 pub both : (a b : Bool) → (a && b) ≡ true → (a ≡ true) × (b ≡ true)
@@ -15,30 +17,30 @@ pub also : (a b : Bool) → a ≡ true → b ≡ true → (a && b) ≡ true
 also true b e f = f
 also false b e f = e
 
-pub has_mem : (x : ℕ) (ys : List ℕ) → has x ys ≡ true → Mem ys x
+pub has_mem : (x : ℕ) (ys : List ℕ) → has x ys ≡ true → Contains ys x
 has_mem x [] e = cc
 has_mem x (y ∷ ys) e = go (nat_eq y x) refl e (has_mem x ys)
   where
-    go : (b : Bool) → nat_eq y x ≡ b → (if b then true else has x ys) ≡ true → (has x ys ≡ true → Mem ys x) → Mem (y ∷ ys) x
-    go true t e r = inl (eqb-true y x t)
-    go false t e r = inr (r e)
+    go : (b : Bool) → nat_eq y x ≡ b → (if b then true else has x ys) ≡ true → (has x ys ≡ true → Contains ys x) → Contains (y ∷ ys) x
+    go true t e r = at_head y ys x (sym (eqb-true y x t))
+    go false t e r = in_tail y ys x (r e)
 
-pub mem_has : (x : ℕ) (ys : List ℕ) → Mem ys x → has x ys ≡ true
-mem_has x [] m = absurd m
+pub mem_has : (x : ℕ) (ys : List ℕ) → Contains ys x → has x ys ≡ true
+mem_has x [] m = absurd (none_in_empty x m)
 mem_has x (y ∷ ys) m = go (nat_eq y x) refl m (mem_has x ys)
   where
-    go : (b : Bool) → nat_eq y x ≡ b → Mem (y ∷ ys) x → (Mem ys x → has x ys ≡ true) → (if b then true else has x ys) ≡ true
+    go : (b : Bool) → nat_eq y x ≡ b → Contains (y ∷ ys) x → (Contains ys x → has x ys ≡ true) → (if b then true else has x ys) ≡ true
     go true t m r = refl
-    go false t (inl e) r = let s : nat_eq y x ≡ true = eq-eqb y x e in cc
-    go false t (inr m) r = r m
+    go false t (zero, lt, e) r = let s : nat_eq y x ≡ true = eq-eqb y x e in cc
+    go false t (suc k, lt, e) r = r (k, omega (arith, lt), e)
 
 once_from : (xs : List ℕ) → is_once xs ≡ true → Once xs
-once_from [] e = tt
+once_from [] e = once_none
 once_from (x ∷ xs) e =
     let r = both (not (has x xs)) (is_once xs) e in
-    (λ m. let t : has x xs ≡ true = mem_has x xs m in let f : not (has x xs) ≡ true = r.0 in let g : not true ≡ true = ap not (sym t) ∙ f in cc, once_from xs r.1)
+    once_more x xs (λ m. let t : has x xs ≡ true = mem_has x xs m in let f : not (has x xs) ≡ true = r.0 in let g : not true ≡ true = ap not (sym t) ∙ f in cc) (once_from xs r.1)
 
-none_has : (x : ℕ) (xs : List ℕ) → (Mem xs x → ⊥) → not (has x xs) ≡ true
+none_has : (x : ℕ) (xs : List ℕ) → (Contains xs x → ⊥) → not (has x xs) ≡ true
 none_has x xs n = go (has x xs) refl
   where
     go : (b : Bool) → has x xs ≡ b → not b ≡ true
@@ -47,15 +49,15 @@ none_has x xs n = go (has x xs) refl
 
 pub once_to : (xs : List ℕ) → Once xs → is_once xs ≡ true
 once_to [] o = refl
-once_to (x ∷ xs) o = also (not (has x xs)) (is_once xs) (none_has x xs o.0) (once_to xs o.1)
+once_to (x ∷ xs) o = also (not (has x xs)) (is_once xs) (none_has x xs (once_head x xs o)) (once_to xs (once_tail x xs o))
 
-in_from : (os : List ℕ) (rs : List (List ℕ)) → are_in os rs ≡ true → AllZip (λ (o : ℕ) (r : List ℕ). Mem r o) os rs
+in_from : (os : List ℕ) (rs : List (List ℕ)) → are_in os rs ≡ true → AllZip (λ (o : ℕ) (r : List ℕ). Contains r o) os rs
 in_from [] [] e = tt
 in_from [] (r ∷ rs) e = cc
 in_from (o ∷ os) [] e = cc
 in_from (o ∷ os) (r ∷ rs) e = let b = both (has o r) (are_in os rs) e in (has_mem o r b.0, in_from os rs b.1)
 
-in_to : (os : List ℕ) (rs : List (List ℕ)) → AllZip (λ (o : ℕ) (r : List ℕ). Mem r o) os rs → are_in os rs ≡ true
+in_to : (os : List ℕ) (rs : List (List ℕ)) → AllZip (λ (o : ℕ) (r : List ℕ). Contains r o) os rs → are_in os rs ≡ true
 in_to [] [] a = refl
 in_to [] (r ∷ rs) a = absurd a
 in_to (o ∷ os) [] a = absurd a
@@ -108,12 +110,12 @@ there [] x c e = cc
 there (d ∷ cs) zero c e = omega arith
 there (d ∷ cs) (suc x) c e = let r = there cs x c e in omega arith
 
-all_there : (cs : List (Option Work)) (B M : List ℕ) (ss : List Subtask) → AllZip (Done cs B) M ss → (x : ℕ) → Mem M x → x < length cs
-all_there cs B [] [] a x m = absurd m
+all_there : (cs : List (Option Work)) (B M : List ℕ) (ss : List Subtask) → AllZip (Done cs B) M ss → (x : ℕ) → Contains M x → x < length cs
+all_there cs B [] [] a x m = absurd (none_in_empty x m)
 all_there cs B [] (s ∷ ss) a x m = absurd a
 all_there cs B (y ∷ M) [] a x m = absurd a
-all_there cs B (y ∷ M) (s ∷ ss) a x (inl e) = there cs x (work s.name (map (object_of B) s.terms)) (ap (child_at cs) (sym e) ∙ a.0)
-all_there cs B (y ∷ M) (s ∷ ss) a x (inr m) = all_there cs B M ss a.1 x m
+all_there cs B (y ∷ M) (s ∷ ss) a x (zero, lt, e) = let same : x ≡ y = sym e in there cs x (work s.name (map (object_of B) s.terms)) (ap (child_at cs) same ∙ a.0)
+all_there cs B (y ∷ M) (s ∷ ss) a x (suc k, lt, e) = all_there cs B M ss a.1 x (k, omega (arith, lt), e)
 
 pub zip_len : {X Y : Type 0} (R : X → Y → Type 0) (xs : List X) (ys : List Y) → AllZip R xs ys → length xs ≡ length ys
 zip_len R [] [] a = refl

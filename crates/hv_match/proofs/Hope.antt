@@ -1,14 +1,14 @@
 -- What may still lead to a match.
-use Rattle.std.proofs.Common.{◌≡◌, ℕ, zero, suc, ◌+◌, ◌-◌, ◌<◌, ◌≤◌, Bool, true, false, not, ◌&&◌, List, [], ◌∷◌, ◌++◌, length, map, take, drop, get_or, refl, sym, ap, ◌∙◌, arith, subst, if◌then◌else◌, Option}
+use Rattle.std.proofs.Common.{◌≡◌, ℕ, zero, suc, ◌+◌, ◌-◌, ◌<◌, ◌≤◌, Bool, true, false, not, ◌&&◌, List, [], ◌∷◌, ◌++◌, length, map, take, drop, get_or, refl, sym, ap, ◌∙◌, arith, subst, if◌then◌else◌, Option, Contains}
 use Rattle.std.proofs.lemmas.List.{drop-append-le}
 use Rattle.std.specs.List.{AllZip}
 use Rattle.hv_world.specs.Views.{subtask_view, constraint_view}
 use Rattle.hv_world.specs.declared.formula.Subtask as code_subtask
 use Rattle.hv_world.specs.declared.formula.Constraint as code_constraint
-use Rattle.hv_match.specs.inside.Lists.{Mem}
 use Rattle.hv_match.specs.inside.Search.{below}
 use Rattle.hv_match.specs.inside.States.{rest}
 use Rattle.hv_match.specs.inside.Puzzles.{Work, Puzzle, options, places, values, is_good, Done, Agrees, holds, all_hold}
+use Rattle.hv_match.proofs.Members.{none_in_empty}
 use Rattle.hv_match.proofs.Listing.{none_begins}
 use Rattle.hv_match.proofs.FirstPlaces.{agrees}
 use Rattle.hv_match.proofs.Fitting.{good_match}
@@ -67,10 +67,10 @@ none_holds pz n p size h out k = none_begins (options pz) (is_good pz) k p (λ q
     let f = out xs in cc)
 
 -- a parameter that has no object
-none_in : (rs : List (List ℕ)) (i : ℕ) → i < length rs → get_or rs i [] ≡ [] → (B : List ℕ) → AllZip (λ (o : ℕ) (r : List ℕ). Mem r o) B rs → ⊥
+none_in : (rs : List (List ℕ)) (i : ℕ) → i < length rs → get_or rs i [] ≡ [] → (B : List ℕ) → AllZip (λ (o : ℕ) (r : List ℕ). Contains r o) B rs → ⊥
 none_in [] i h e B a = absurd (omega arith)
 none_in (r ∷ rs) i h e [] a = a
-none_in (r ∷ rs) zero h e (o ∷ B) a = subst (λ z. Mem z o) e a.0
+none_in (r ∷ rs) zero h e (o ∷ B) a = none_in_empty o (subst (λ z. Contains z o) e a.0)
 none_in (r ∷ rs) (suc i) h e (o ∷ B) a = none_in rs i (omega arith) e B a.1
 
 read_at : {R : Type 0} (f : R → List ℕ) (rs : List R) (i : ℕ) (d : R) → i < length rs → get_or (map f rs) i [] ≡ f (get_or rs i d)
@@ -85,7 +85,7 @@ len_at f (r ∷ rs) = ap suc (len_at f rs)
 pub none_wanted : (pz : Puzzle) {R : Type 0} (f : R → List ℕ) (rs : List R) (i : ℕ) (d : R) → pz.ranges ≡ map f rs → i < length rs → f (get_or rs i d) ≡ [] → (k : ℕ) → below (options pz) (is_good pz) k [] 0 ≡ []
 none_wanted pz {R} f rs i d are h e k = none_begins (options pz) (is_good pz) k [] (λ q xs same l g.
     let m = good_match pz q g in
-    none_in (map f rs) i (omega (arith, len_at f rs, h)) (read_at f rs i d h ∙ e) (values pz q) (subst (λ z. AllZip (λ (o : ℕ) (r : List ℕ). Mem r o) (values pz q) z) are m.typed))
+    none_in (map f rs) i (omega (arith, len_at f rs, h)) (read_at f rs i d h ∙ e) (values pz q) (subst (λ z. AllZip (λ (o : ℕ) (r : List ℕ). Contains r o) (values pz q) z) are m.typed))
 
 -- a search that has not begun, or has nothing to find
 pub fresh : (f : List ℕ → List ℕ) (good : List ℕ → Bool) (n : ℕ) (b : Bool) (xs ns : List ℕ) → xs ≡ [] → (b ≡ true → (k : ℕ) → below f good k [] 0 ≡ []) → (if b then [] else rest f good n [] xs ns 0) ≡ below f good n [] 0

@@ -1,13 +1,13 @@
 -- A candidate is a matching of keys.
-use Rattle.std.proofs.Common.{◌≡◌, ℕ, suc, List, [], ◌∷◌, length, map, slice_index, refl, sym, ap, ◌∙◌, arith, inl, inr, Option, Some, None, Contains}
+use Rattle.std.proofs.Common.{◌≡◌, ℕ, suc, List, [], ◌∷◌, length, map, slice_index, refl, sym, ap, ◌∙◌, arith, Option, Some, None, Contains}
 use Rattle.std.specs.List.{AllZip}
+use Rattle.hv_world.specs.Bindings.{object_of}
 use Rattle.hv_world.specs.Values.{Term, object, variable, Subtask, subtask}
 use Rattle.hv_world.specs.Alike.{Key, key_with, key, keys, instance, subtask_instance}
 use Rattle.hv_world.specs.Values.{compound}
-use Rattle.hv_match.specs.inside.Lists.{Mem}
 use Rattle.hv_match.specs.inside.Counting.{IsMatching}
-use Rattle.hv_match.specs.inside.Puzzles.{Work, Puzzle, object_of, child_at, Done, IsMatch}
-use Rattle.hv_match.proofs.Factors.{mem_contains}
+use Rattle.hv_match.specs.inside.Puzzles.{Work, Puzzle, child_at, Done, IsMatch}
+use Rattle.hv_match.proofs.Members.{at_head, in_tail}
 
 work_key : List Subtask → Option Work → Key
 work_key ss None = key_with (compound 0) []
@@ -22,15 +22,15 @@ instances_are B (object o ∷ ts) = ap (λ (l : List Term). object o ∷ l) (ins
 instances_are B (variable v ∷ ts) = ap (λ (l : List Term). object (slice_index B v) ∷ l) (instances_are B ts)
 
 module _ (pz : Puzzle) (instances : (s : Subtask) (g : ℕ → ℕ) → Contains pz.subtasks s → key pz.subtasks (subtask_instance g s) ≡ key pz.subtasks s) where
-  done_key : (B : List ℕ) (x : ℕ) (s : Subtask) → Mem pz.subtasks s → Done pz.children B x s → child_key pz x ≡ key pz.subtasks s
+  done_key : (B : List ℕ) (x : ℕ) (s : Subtask) → Contains pz.subtasks s → Done pz.children B x s → child_key pz x ≡ key pz.subtasks s
   unfolding child_key work_key
-  done_key B x s m d = ap (work_key pz.subtasks) d ∙ ap (λ ts. key pz.subtasks (subtask s.name ts)) (instances_are B s.terms) ∙ instances s (slice_index B) (mem_contains pz.subtasks s m)
+  done_key B x s m d = ap (work_key pz.subtasks) d ∙ ap (λ ts. key pz.subtasks (subtask s.name ts)) (instances_are B s.terms) ∙ instances s (slice_index B) m
 
-  all_keys : (B M : List ℕ) (ss : List Subtask) → ((s : Subtask) → Mem ss s → Mem pz.subtasks s) → AllZip (Done pz.children B) M ss → map (child_key pz) M ≡ map (key pz.subtasks) ss
+  all_keys : (B M : List ℕ) (ss : List Subtask) → ((s : Subtask) → Contains ss s → Contains pz.subtasks s) → AllZip (Done pz.children B) M ss → map (child_key pz) M ≡ map (key pz.subtasks) ss
   all_keys B [] [] i a = refl
   all_keys B [] (s ∷ ss) i a = absurd a
   all_keys B (x ∷ M) [] i a = absurd a
-  all_keys B (x ∷ M) (s ∷ ss) i a = rw (done_key B x s (i s (inl refl)) a.0, all_keys B M ss (λ z n. i z (inr n)) a.1) refl
+  all_keys B (x ∷ M) (s ∷ ss) i a = rw (done_key B x s (i s (at_head s ss s refl)) a.0, all_keys B M ss (λ z n. i z (in_tail s ss z n)) a.1) refl
 
   zip_len : {X Y : Type 0} (R : X → Y → Type 0) (xs : List X) (ys : List Y) → AllZip R xs ys → length xs ≡ length ys
   zip_len R [] [] a = refl

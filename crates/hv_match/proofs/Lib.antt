@@ -17,5 +17,6 @@ pub mod Hope
 pub mod Bridge
 pub mod Ways
 pub mod NodeLemmas
+pub mod NodeTables
 pub mod Checking
 pub mod Found

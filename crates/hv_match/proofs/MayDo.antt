@@ -1,9 +1,11 @@
 -- The places of the children that may do a subtask.
-use Rattle.std.proofs.Common.{◌≡◌, ℕ, zero, suc, ◌+◌, ◌<◌, ◌≤◌, Bool, true, false, List, [], ◌∷◌, ◌++◌, length, map, nat_eq, eq-eqb, refl, ap, arith, inl, inr, if◌then◌else◌, drop, Option, Some, None, MatchOption, IfSome}
+use Rattle.std.proofs.Common.{◌≡◌, ℕ, zero, suc, ◌+◌, ◌<◌, ◌≤◌, Bool, true, false, List, [], ◌∷◌, ◌++◌, length, map, nat_eq, eq-eqb, refl, ap, arith, if◌then◌else◌, drop, Option, Some, None, MatchOption, IfSome, Contains}
+use Rattle.hv_world.specs.Bindings.{object_of}
 use Rattle.hv_world.specs.Alike.{same_name}
 use Rattle.hv_world.specs.Values.{Term, object, variable, Subtask}
-use Rattle.hv_match.specs.inside.Lists.{Mem, Once}
-use Rattle.hv_match.specs.inside.Puzzles.{Work, work, object_of, child_at, is_ground, same_values, may_do, places_where}
+use Rattle.hv_text.specs.Lists.{Once}
+use Rattle.hv_match.specs.inside.Puzzles.{Work, work, child_at, is_ground, same_values, may_do, places_where}
+use Rattle.hv_match.proofs.Members.{at_head, in_tail, none_in_empty, once_none, once_more}
 use Rattle.hv_match.proofs.Factors.{name_itself}
 use Rattle.hv_match.proofs.Fitting.{also}
 use Rattle.hv_match.proofs.Turns.{mem_drop}
@@ -20,32 +22,35 @@ module _ (test : Option Work → Bool) where
       go true r = ap (λ (l : List ℕ). k ∷ l) r
       go false r = r
 
-  pub places_within : (k : ℕ) (cs : List (Option Work)) (x : ℕ) → Mem (places_where test k cs) x → (k ≤ x) × (x < k + length cs)
-  places_within k [] x m = absurd m
+  pub places_within : (k : ℕ) (cs : List (Option Work)) (x : ℕ) → Contains (places_where test k cs) x → (k ≤ x) × (x < k + length cs)
+  places_within k [] x m = absurd (none_in_empty x m)
   places_within k (c ∷ cs) x m = go (test c) m (places_within (k + 1) cs x)
     where
-      go : (b : Bool) → Mem (if b then k ∷ places_where test (k + 1) cs else places_where test (k + 1) cs) x → (Mem (places_where test (k + 1) cs) x → (k + 1 ≤ x) × (x < k + 1 + length cs)) → (k ≤ x) × (x < k + suc (length cs))
-      go true (inl e) r = (omega arith, omega arith)
-      go true (inr m) r = let w = r m in (omega (arith, w.0), omega (arith, w.1))
+      go : (b : Bool) → Contains (if b then k ∷ places_where test (k + 1) cs else places_where test (k + 1) cs) x → (Contains (places_where test (k + 1) cs) x → (k + 1 ≤ x) × (x < k + 1 + length cs)) → (k ≤ x) × (x < k + suc (length cs))
+      go true (zero, lt, e) r = let same : k ≡ x = e in (omega arith, omega arith)
+      go true (suc i, lt, e) r =
+          let within : suc i < suc (length (places_where test (k + 1) cs)) = lt in
+          let w = r (i, omega (arith, within), e) in
+          (omega (arith, w.0), omega (arith, w.1))
       go false m r = let w = r m in (omega (arith, w.0), omega (arith, w.1))
 
   pub places_once : (k : ℕ) (cs : List (Option Work)) → Once (places_where test k cs)
-  places_once k [] = tt
+  places_once k [] = once_none
   places_once k (c ∷ cs) = go (test c) (places_once (k + 1) cs)
     where
       go : (b : Bool) → Once (places_where test (k + 1) cs) → Once (if b then k ∷ places_where test (k + 1) cs else places_where test (k + 1) cs)
-      go true r = (λ m. absurd (omega (arith, (places_within (k + 1) cs k m).0)), r)
+      go true r = once_more k (places_where test (k + 1) cs) (λ m. absurd (omega (arith, (places_within (k + 1) cs k m).0))) r
       go false r = r
 
-  pub places_there : (k : ℕ) (cs : List (Option Work)) (x : ℕ) → test None ≡ false → test (child_at cs x) ≡ true → Mem (places_where test k cs) (k + x)
+  pub places_there : (k : ℕ) (cs : List (Option Work)) (x : ℕ) → test None ≡ false → test (child_at cs x) ≡ true → Contains (places_where test k cs) (k + x)
   places_there k [] x h e = cc
-  places_there k (c ∷ cs) zero h e = let z : k + 0 ≡ k = omega arith in rw (z, e) (inl refl)
+  places_there k (c ∷ cs) zero h e = let z : k + 0 ≡ k = omega arith in rw (z, e) (at_head k (places_where test (k + 1) cs) k refl)
   places_there k (c ∷ cs) (suc x) h e =
       let z : k + suc x ≡ k + 1 + x = omega arith in
       rw z (go (test c) (places_there (k + 1) cs x h e))
     where
-      go : (b : Bool) → Mem (places_where test (k + 1) cs) (k + 1 + x) → Mem (if b then k ∷ places_where test (k + 1) cs else places_where test (k + 1) cs) (k + 1 + x)
-      go true m = inr m
+      go : (b : Bool) → Contains (places_where test (k + 1) cs) (k + 1 + x) → Contains (if b then k ∷ places_where test (k + 1) cs else places_where test (k + 1) cs) (k + 1 + x)
+      go true m = in_tail k (places_where test (k + 1) cs) (k + 1 + x) m
       go false m = m
 
 -- tests that say the same
@@ -67,6 +72,6 @@ done_may s B = also (same_name s.name s.name) _ (name_itself s.name) (go (is_gro
     go true e = ground_values B s.terms e
     go false e = refl
 
-pub chosen_within : (o : Option ℕ) (n m : ℕ) (l : List ℕ) → MatchOption o (length l ≤ n) (λ x. drop n l ≡ x ∷ drop (n + 1) l) → ((x : ℕ) → Mem l x → x < m) → IfSome o (λ x. x < m)
+pub chosen_within : (o : Option ℕ) (n m : ℕ) (l : List ℕ) → MatchOption o (length l ≤ n) (λ x. drop n l ≡ x ∷ drop (n + 1) l) → ((x : ℕ) → Contains l x → x < m) → IfSome o (λ x. x < m)
 chosen_within None n m l e h = tt
 chosen_within (Some x) n m l e h = h x (mem_drop n l x (drop (n + 1) l) e)

@@ -1,86 +1,120 @@
 -- Members of lists, lists with each element once, and their lengths.
-use Rattle.std.proofs.Common.{◌≡◌, ℕ, zero, suc, ◌+◌, ◌<◌, ◌≤◌, ◌≢◌, List, [], ◌∷◌, ◌++◌, length, refl, sym, ap, ◌∙◌, arith, subst, ◌⊎◌, inl, inr}
+use Rattle.std.proofs.Common.{◌≡◌, ℕ, zero, suc, ◌+◌, ◌<◌, ◌≤◌, ◌≢◌, List, [], ◌∷◌, ◌++◌, length, refl, sym, ap, ◌∙◌, arith, subst, ◌⊎◌, inl, inr, map, get_or, Contains}
 use Rattle.std.specs.List.{flat_map}
-use Rattle.hv_match.specs.inside.Lists.{Mem, Once}
+use Rattle.std.proofs.lemmas.List.Elements.{Contains-append_left, Contains-append_right, Contains-append_cases, Contains-get_or}
+use Rattle.std.proofs.lemmas.List.Kept.{AllPairs-cons}
+use Rattle.hv_text.specs.Lists.{Once}
 
-pub mem_left : {X : Type 0} (xs ys : List X) (x : X) → Mem xs x → Mem (xs ++ ys) x
-mem_left [] ys x m = absurd m
-mem_left (z ∷ xs) ys x (inl e) = inl e
-mem_left (z ∷ xs) ys x (inr m) = inr (mem_left xs ys x m)
+-- what a list contains: its head, what is in its tail, and nothing else
+pub at_head : {X : Type 0} (y : X) (ys : List X) (x : X) → x ≡ y → Contains (y ∷ ys) x
+at_head y ys x e = (0, omega arith, sym e)
 
-pub mem_right : {X : Type 0} (xs ys : List X) (x : X) → Mem ys x → Mem (xs ++ ys) x
-mem_right [] ys x m = m
-mem_right (z ∷ xs) ys x m = inr (mem_right xs ys x m)
+pub in_tail : {X : Type 0} (y : X) (ys : List X) (x : X) → Contains ys x → Contains (y ∷ ys) x
+in_tail y ys x h = (suc h.0, omega (arith, h.1), h.2)
 
-pub mem_append : {X : Type 0} (xs ys : List X) (x : X) → Mem (xs ++ ys) x → Mem xs x ⊎ Mem ys x
-mem_append [] ys x m = inr m
-mem_append (z ∷ xs) ys x (inl e) = inl (inl e)
-mem_append (z ∷ xs) ys x (inr m) = elim (mem_append xs ys x m) [ inl a ↦ inl (inr a) | inr b ↦ inr b ]
+pub contains_cases : {X : Type 0} (y : X) (ys : List X) (x : X) → Contains (y ∷ ys) x → (x ≡ y) ⊎ Contains ys x
+contains_cases y ys x (zero, lt, e) = inl (sym e)
+contains_cases y ys x (suc k, lt, e) = inr (k, omega (arith, lt), e)
 
-pub mem_flat : {X Y : Type 0} (f : X → List Y) (xs : List X) (y : Y) → Mem (flat_map f xs) y → (x : X) × Mem xs x × Mem (f x) y
-mem_flat f [] y m = absurd m
-mem_flat {X} {Y} f (x ∷ xs) y m = go (mem_append (f x) (flat_map f xs) y m) (λ b. mem_flat f xs y b)
+pub none_in_empty : {X : Type 0} (x : X) → Contains [] x → ⊥
+none_in_empty x h = let lt : h.0 < 0 = h.1 in omega (arith, lt)
+
+-- a list with each once: its head is not in its tail, and the tail has each once
+pub once_head : {X : Type 0} (x : X) (xs : List X) → Once (x ∷ xs) → Contains xs x → ⊥
+once_head x xs once (k, lt, e) = once 0 (suc k) x (omega arith) (omega (arith, lt)) (sym e)
+
+pub once_tail : {X : Type 0} (x : X) (xs : List X) → Once (x ∷ xs) → Once xs
+once_tail x xs once = λ i j d less within. once (suc i) (suc j) d (omega (arith, less)) (omega (arith, within))
+
+pub once_none : {X : Type 0} → Once {X = X} []
+once_none {X} = λ i j d less within. absurd (let lt : j < 0 = within in omega (arith, lt))
+
+pub once_more : {X : Type 0} (x : X) (xs : List X) → (Contains xs x → ⊥) → Once xs → Once (x ∷ xs)
+once_more x xs absent once = AllPairs-cons ◌≢◌ x xs (λ i d lt e. absent (subst (Contains xs) (sym e) (Contains-get_or xs i d lt))) once
+
+-- what a mapped list contains
+pub mem_map : {X Y : Type 0} (f : X → Y) (xs : List X) (x : X) → Contains xs x → Contains (map f xs) (f x)
+mem_map f [] x m = absurd (none_in_empty x m)
+mem_map f (y ∷ xs) x (zero, lt, e) = at_head (f y) (map f xs) (f x) (ap f (sym e))
+mem_map f (y ∷ xs) x (suc k, lt, e) = in_tail (f y) (map f xs) (f x) (mem_map f xs x (k, omega (arith, lt), e))
+
+pub map_mem : {X Y : Type 0} (f : X → Y) (xs : List X) (y : Y) → Contains (map f xs) y → (x : X) × Contains xs x × (f x ≡ y)
+map_mem f [] y m = absurd (none_in_empty y m)
+map_mem f (x ∷ xs) y (zero, lt, e) = (x, at_head x xs x refl, e)
+map_mem f (x ∷ xs) y (suc k, lt, e) =
+    let within : suc k < suc (length (map f xs)) = lt in
+    let r = map_mem f xs y (k, omega (arith, within), e) in
+    (r.0, in_tail x xs r.0 r.1, r.2)
+
+pub mem_flat : {X Y : Type 0} (f : X → List Y) (xs : List X) (y : Y) → Contains (flat_map f xs) y → (x : X) × Contains xs x × Contains (f x) y
+mem_flat f [] y m = absurd (none_in_empty y m)
+mem_flat {X} {Y} f (x ∷ xs) y m = go (Contains-append_cases (f x) (flat_map f xs) y m) (λ b. mem_flat f xs y b)
   where
-    go : Mem (f x) y ⊎ Mem (flat_map f xs) y → (Mem (flat_map f xs) y → (z : X) × Mem xs z × Mem (f z) y) → (z : X) × Mem (x ∷ xs) z × Mem (f z) y
-    go (inl a) k = (x, inl refl, a)
-    go (inr b) k = let r = k b in (r.0, inr r.1, r.2)
+    go : Contains (f x) y ⊎ Contains (flat_map f xs) y → (Contains (flat_map f xs) y → (z : X) × Contains xs z × Contains (f z) y) → (z : X) × Contains (x ∷ xs) z × Contains (f z) y
+    go (inl a) k = (x, at_head x xs x refl, a)
+    go (inr b) k = let r = k b in (r.0, in_tail x xs r.0 r.1, r.2)
 
-pub flat_mem : {X Y : Type 0} (f : X → List Y) (xs : List X) (x : X) (y : Y) → Mem xs x → Mem (f x) y → Mem (flat_map f xs) y
-flat_mem f [] x y m n = absurd m
-flat_mem {X} {Y} f (z ∷ xs) x y (inl e) n = let P : X → Type 0 = λ w. Mem (f w) y in mem_left (f z) (flat_map f xs) y (subst P (sym e) n)
-flat_mem f (z ∷ xs) x y (inr m) n = mem_right (f z) (flat_map f xs) y (flat_mem f xs x y m n)
+pub flat_mem : {X Y : Type 0} (f : X → List Y) (xs : List X) (x : X) (y : Y) → Contains xs x → Contains (f x) y → Contains (flat_map f xs) y
+flat_mem f [] x y m n = absurd (none_in_empty x m)
+flat_mem {X} {Y} f (z ∷ xs) x y (zero, lt, e) n = let P : X → Type 0 = λ w. Contains (f w) y in Contains-append_left (f z) (flat_map f xs) y (subst P (sym e) n)
+flat_mem f (z ∷ xs) x y (suc k, lt, e) n = Contains-append_right (f z) (flat_map f xs) y (flat_mem f xs x y (k, omega (arith, lt), e) n)
 
-pub once_append : {X : Type 0} (xs ys : List X) → Once xs → Once ys → ((q : X) → Mem xs q → Mem ys q → ⊥) → Once (xs ++ ys)
+pub once_append : {X : Type 0} (xs ys : List X) → Once xs → Once ys → ((q : X) → Contains xs q → Contains ys q → ⊥) → Once (xs ++ ys)
 once_append [] ys h k d = k
 once_append (x ∷ xs) ys h k d =
-    (λ m. elim (mem_append xs ys x m) [ inl a ↦ h.0 a | inr b ↦ d x (inl refl) b ], once_append xs ys h.1 k (λ q a b. d q (inr a) b))
+    once_more x (xs ++ ys) (λ m. elim (Contains-append_cases xs ys x m) [ inl a ↦ once_head x xs h a | inr b ↦ d x (at_head x xs x refl) b ])
+    (once_append xs ys (once_tail x xs h) k (λ q a b. d q (in_tail x xs q a) b))
 
-pub once_flat : {X Y : Type 0} (f : X → List Y) (xs : List X) → Once xs → ((x : X) → Once (f x)) → ((x y : X) (q : Y) → Mem (f x) q → Mem (f y) q → x ≡ y) → Once (flat_map f xs)
-once_flat f [] h k d = tt
+pub once_flat : {X Y : Type 0} (f : X → List Y) (xs : List X) → Once xs → ((x : X) → Once (f x)) → ((x y : X) (q : Y) → Contains (f x) q → Contains (f y) q → x ≡ y) → Once (flat_map f xs)
+once_flat {X} {Y} f [] h k d = once_none {X = Y}
 once_flat {X} {Y} f (x ∷ xs) h k d =
-    once_append (f x) (flat_map f xs) (k x) (once_flat f xs h.1 k d)
-    (λ q a b. let r = mem_flat f xs q b in let P : X → Type 0 = λ w. Mem xs w in h.0 (subst P (sym (d x r.0 q a r.2)) r.1))
+    once_append (f x) (flat_map f xs) (k x) (once_flat f xs (once_tail x xs h) k d)
+    (λ q a b. let r = mem_flat f xs q b in let P : X → Type 0 = λ w. Contains xs w in once_head x xs h (subst P (sym (d x r.0 q a r.2)) r.1))
 
 -- a list without one of its elements
-pub without : {X : Type 0} (zs : List X) (x : X) → Mem zs x → List X
-without [] x m = absurd m
-without (z ∷ zs) x (inl e) = zs
-without (z ∷ zs) x (inr m) = z ∷ without zs x m
+behind : {X : Type 0} (z : X) (zs : List X) (x : X) (k : ℕ) → suc k < length (z ∷ zs) → get_or zs k x ≡ x → Contains zs x
+behind z zs x k lt e = (k, omega (arith, lt), e)
 
-pub without_len : {X : Type 0} (zs : List X) (x : X) (m : Mem zs x) → length (without zs x m) + 1 ≡ length zs
-unfolding without
-without_len [] x m = absurd m
-without_len (z ∷ zs) x (inl e) = omega arith
-without_len (z ∷ zs) x (inr m) = omega (arith, without_len zs x m)
+pub without : {X : Type 0} (zs : List X) (x : X) → Contains zs x → List X
+without [] x m = absurd (none_in_empty x m)
+without (z ∷ zs) x (zero, lt, e) = zs
+without (z ∷ zs) x (suc k, lt, e) = z ∷ without zs x (behind z zs x k lt e)
 
-pub without_mem : {X : Type 0} (zs : List X) (x y : X) (m : Mem zs x) → (x ≡ y → ⊥) → Mem zs y → Mem (without zs x m) y
+pub without_len : {X : Type 0} (zs : List X) (x : X) (m : Contains zs x) → length (without zs x m) + 1 ≡ length zs
 unfolding without
-without_mem [] x y m d n = absurd m
-without_mem (z ∷ zs) x y (inl e) d (inl f) = absurd (d (sym e ∙ f))
-without_mem (z ∷ zs) x y (inl e) d (inr n) = n
-without_mem (z ∷ zs) x y (inr m) d (inl f) = inl f
-without_mem (z ∷ zs) x y (inr m) d (inr n) = inr (without_mem zs x y m d n)
+without_len [] x m = absurd (none_in_empty x m)
+without_len (z ∷ zs) x (zero, lt, e) = omega arith
+without_len (z ∷ zs) x (suc k, lt, e) = omega (arith, without_len zs x (behind z zs x k lt e))
+
+pub without_mem : {X : Type 0} (zs : List X) (x y : X) (m : Contains zs x) → (x ≡ y → ⊥) → Contains zs y → Contains (without zs x m) y
+unfolding without
+without_mem [] x y m d n = absurd (none_in_empty x m)
+without_mem (z ∷ zs) x y (zero, lt, e) d (zero, less, f) = let first : x ≡ z = sym e in let second : z ≡ y = f in absurd (d (first ∙ second))
+without_mem (z ∷ zs) x y (zero, lt, e) d (suc j, less, f) = (j, omega (arith, less), f)
+without_mem (z ∷ zs) x y (suc k, lt, e) d (zero, less, f) = at_head z (without zs x (behind z zs x k lt e)) y (sym f)
+without_mem (z ∷ zs) x y (suc k, lt, e) d (suc j, less, f) =
+    in_tail z (without zs x (behind z zs x k lt e)) y (without_mem zs x y (behind z zs x k lt e) d (j, omega (arith, less), f))
 
 -- pigeons and holes
-pub at_most : {X : Type 0} (xs zs : List X) → Once xs → ((x : X) → Mem xs x → Mem zs x) → length xs ≤ length zs
+pub at_most : {X : Type 0} (xs zs : List X) → Once xs → ((x : X) → Contains xs x → Contains zs x) → length xs ≤ length zs
 at_most [] zs h s = omega arith
 at_most {X} (x ∷ xs) zs h s =
-    let m = s x (inl refl) in
-    let P : X → Type 0 = λ w. Mem xs w in
-    let r = at_most xs (without zs x m) h.1 (λ y n. without_mem zs x y m (λ e. h.0 (subst P (sym e) n)) (s y (inr n))) in
+    let m = s x (at_head x xs x refl) in
+    let P : X → Type 0 = λ w. Contains xs w in
+    let r = at_most xs (without zs x m) (once_tail x xs h) (λ y n. without_mem zs x y m (λ e. once_head x xs h (subst P (sym e) n)) (s y (in_tail x xs y n))) in
     omega (arith, r, without_len zs x m)
 
 same_or_not : (a b : ℕ) → (a ≡ b) ⊎ (a ≡ b → ⊥)
 same_or_not a b = grind arith
 
-pub mem_or_not : (xs : List ℕ) (x : ℕ) → Mem xs x ⊎ (Mem xs x → ⊥)
-mem_or_not [] x = inr (λ m. m)
+pub mem_or_not : (xs : List ℕ) (x : ℕ) → Contains xs x ⊎ (Contains xs x → ⊥)
+mem_or_not [] x = inr (none_in_empty x)
 mem_or_not (y ∷ xs) x = go (same_or_not y x) (mem_or_not xs x)
   where
-    go : (y ≡ x) ⊎ (y ≡ x → ⊥) → Mem xs x ⊎ (Mem xs x → ⊥) → Mem (y ∷ xs) x ⊎ (Mem (y ∷ xs) x → ⊥)
-    go (inl e) r = inl (inl e)
-    go (inr d) (inl m) = inl (inr m)
-    go (inr d) (inr n) = inr (λ m. elim m [ inl e ↦ d e | inr k ↦ n k ])
+    go : (y ≡ x) ⊎ (y ≡ x → ⊥) → Contains xs x ⊎ (Contains xs x → ⊥) → Contains (y ∷ xs) x ⊎ (Contains (y ∷ xs) x → ⊥)
+    go (inl e) r = inl (at_head y xs x (sym e))
+    go (inr d) (inl m) = inl (in_tail y xs x m)
+    go (inr d) (inr n) = inr (λ m. elim (contains_cases y xs x m) [ inl e ↦ d (sym e) | inr k ↦ n k ])
 
 -- the numbers below n
 pub upto : ℕ → List ℕ
@@ -92,17 +126,17 @@ unfolding upto
 upto_len zero = refl
 upto_len (suc n) = ap suc (upto_len n)
 
-upto_mem : (n x : ℕ) → x < n → Mem (upto n) x
+upto_mem : (n x : ℕ) → x < n → Contains (upto n) x
 unfolding upto
 upto_mem zero x h = absurd (omega arith)
-upto_mem (suc n) x h = elim (same_or_not n x) [ inl e ↦ inl e | inr d ↦ inr (upto_mem n x (let d' : n ≢ x = d in omega arith)) ]
+upto_mem (suc n) x h = elim (same_or_not n x) [ inl e ↦ at_head n (upto n) x (sym e) | inr d ↦ in_tail n (upto n) x (upto_mem n x (let d' : n ≢ x = d in omega arith)) ]
 
 -- n different numbers below n are all of them
-pub all_there : (n : ℕ) (xs : List ℕ) → Once xs → length xs ≡ n → ((y : ℕ) → Mem xs y → y < n) → (x : ℕ) → x < n → Mem xs x
+pub all_there : (n : ℕ) (xs : List ℕ) → Once xs → length xs ≡ n → ((y : ℕ) → Contains xs y → y < n) → (x : ℕ) → x < n → Contains xs x
 all_there n xs h e s x lt = go (mem_or_not xs x)
   where
-    go : Mem xs x ⊎ (Mem xs x → ⊥) → Mem xs x
+    go : Contains xs x ⊎ (Contains xs x → ⊥) → Contains xs x
     go (inl m) = m
     go (inr d) =
-        let k : suc (length xs) ≤ length (upto n) = at_most (x ∷ xs) (upto n) (d, h) (λ y m. elim m [ inl f ↦ upto_mem n y (omega arith) | inr r ↦ upto_mem n y (s y r) ]) in
+        let k : suc (length xs) ≤ length (upto n) = at_most (x ∷ xs) (upto n) (once_more x xs d h) (λ y m. elim (contains_cases x xs y m) [ inl f ↦ upto_mem n y (omega arith) | inr r ↦ upto_mem n y (s y r) ]) in
         absurd (omega (arith, k, upto_len n))

@@ -1,21 +1,21 @@
 -- A candidate is a path of the search.
-use Rattle.std.proofs.Common.{◌≡◌, ℕ, zero, suc, ◌+◌, ◌-◌, ◌≤◌, true, List, [], ◌∷◌, ◌++◌, length, get_or, slice_get, refl, sym, ap, ◌∙◌, arith, subst, append_assoc, length-append, inl, Option, Some, None}
+use Rattle.std.proofs.Common.{◌≡◌, ℕ, zero, suc, ◌+◌, ◌-◌, ◌≤◌, true, List, [], ◌∷◌, ◌++◌, length, get_or, slice_get, refl, sym, ap, ◌∙◌, arith, subst, append_assoc, length-append, Option, Some, None, Contains}
 use Rattle.std.proofs.lemmas.List.{append-nil}
 use Rattle.std.specs.List.{AllZip}
 use Rattle.hv_world.specs.Values.{Subtask}
-use Rattle.hv_match.specs.inside.Lists.{Mem}
 use Rattle.hv_match.specs.inside.Search.{IsPath}
 use Rattle.hv_match.specs.inside.Puzzles.{Work, Puzzle, child_at, bound, pick, may_do, places_where, options, Done, IsMatch}
+use Rattle.hv_match.proofs.Members.{at_head}
 use Rattle.hv_match.proofs.MayDo.{places_there, done_may}
 use Rattle.hv_match.proofs.FirstPlaces.{forced_bound}
 
-path_from : (f : List ℕ → List ℕ) (p xs : List ℕ) → ((ys : List ℕ) (x : ℕ) (zs : List ℕ) → xs ≡ ys ++ x ∷ zs → Mem (f (p ++ ys)) x) → IsPath f p xs
+path_from : (f : List ℕ → List ℕ) (p xs : List ℕ) → ((ys : List ℕ) (x : ℕ) (zs : List ℕ) → xs ≡ ys ++ x ∷ zs → Contains (f (p ++ ys)) x) → IsPath f p xs
 path_from f p [] h = tt
 path_from f p (x ∷ xs) h =
     let first = h [] x xs refl in
-    let P : List ℕ → Type 0 = λ l. Mem (f l) x in (
+    let P : List ℕ → Type 0 = λ l. Contains (f l) x in (
       subst P (append-nil p) first,
-      path_from f (p ++ x ∷ []) xs (λ ys z zs e. let Q : List ℕ → Type 0 = λ l. Mem (f l) z in subst Q (sym (append_assoc p (x ∷ []) ys)) (h (x ∷ ys) z zs (ap (λ (l : List ℕ). x ∷ l) e))),
+      path_from f (p ++ x ∷ []) xs (λ ys z zs e. let Q : List ℕ → Type 0 = λ l. Contains (f l) z in subst Q (sym (append_assoc p (x ∷ []) ys)) (h (x ∷ ys) z zs (ap (λ (l : List ℕ). x ∷ l) e))),
     )
 
 -- what stands at a subtask's place does it
@@ -63,17 +63,17 @@ candidate_path pz M B c = path_from (options pz) [] (M ++ B) (λ ys x zs e. go y
     size : length M ≡ length pz.subtasks
     size = zip_len (Done pz.children B) M pz.subtasks c.done
 
-    param : (us : List ℕ) (x : ℕ) (zs : List ℕ) → B ≡ us ++ x ∷ zs → (i : ℕ) → i ≡ length us → (r : Option ℕ) → bound pz (M ++ us) i ≡ r → Mem (pick r (get_or pz.ranges i [])) x
-    param us x zs e i j None b = let P : List ℕ → Type 0 = λ l. AllZip (λ (o : ℕ) (r : List ℕ). Mem r o) l pz.ranges in rw j (zip_split (λ o r. Mem r o) us x zs pz.ranges (subst P e c.typed))
-    param us x zs e i j (Some o) b = let f : o ≡ get_or B i 0 = forced_bound pz M B us i o c b in let k : get_or B i 0 ≡ x = rw (e, j) (at_split us x zs) in inl (f ∙ k)
+    param : (us : List ℕ) (x : ℕ) (zs : List ℕ) → B ≡ us ++ x ∷ zs → (i : ℕ) → i ≡ length us → (r : Option ℕ) → bound pz (M ++ us) i ≡ r → Contains (pick r (get_or pz.ranges i [])) x
+    param us x zs e i j None b = let P : List ℕ → Type 0 = λ l. AllZip (λ (o : ℕ) (r : List ℕ). Contains r o) l pz.ranges in rw j (zip_split (λ o r. Contains r o) us x zs pz.ranges (subst P e c.typed))
+    param us x zs e i j (Some o) b = let f : o ≡ get_or B i 0 = forced_bound pz M B us i o c b in let k : get_or B i 0 ≡ x = rw (e, j) (at_split us x zs) in at_head o [] x (sym (f ∙ k))
 
     go : (ys : List ℕ) (x : ℕ) (zs : List ℕ) → M ++ B ≡ ys ++ x ∷ zs → (o : Option Subtask) → slice_get pz.subtasks (length ys) ≡ o →
-        Mem (elim o [ Some s ↦ places_where (may_do s) 0 pz.children | None ↦ pick (bound pz ys (length ys - length pz.subtasks)) (get_or pz.ranges (length ys - length pz.subtasks) []) ]) x
+        Contains (elim o [ Some s ↦ places_where (may_do s) 0 pz.children | None ↦ pick (bound pz ys (length ys - length pz.subtasks)) (get_or pz.ranges (length ys - length pz.subtasks) []) ]) x
     go ys x zs e (Some s) b =
         let d = done_at pz.children B M B ys x zs pz.subtasks s c.done e b in
         let n : may_do s (child_at pz.children x) ≡ true = ap (may_do s) d ∙ done_may s B in
         let z : 0 + x ≡ x = omega arith in
-        subst (λ y. Mem (places_where (may_do s) 0 pz.children) y) z (places_there (may_do s) 0 pz.children x refl n)
+        subst (λ y. Contains (places_where (may_do s) 0 pz.children) y) z (places_there (may_do s) 0 pz.children x refl n)
     go ys x zs e None b =
         let ge : length pz.subtasks ≤ length ys = past_all pz.subtasks (length ys) b in
         let r = split_right M B ys x zs e (omega (arith, size)) in

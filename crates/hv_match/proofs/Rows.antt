@@ -1,5 +1,5 @@
 -- The rows of places.
-use Rattle.std.proofs.Common.{◌≡◌, ◌≢◌, ℕ, zero, suc, ◌+◌, ◌<◌, ◌≤◌, Bool, true, false, not, List, [], ◌∷◌, ◌++◌, length, map, take, drop, set, get_or, slice_get, refl, sym, ap, ◌∙◌, arith, if◌then◌else◌, cond, ◌&&◌, ◌||◌, nat_lt, Option, Some, None, option_map, get_or-set_same, get_or-set_other, inl, inr, vec_len}
+use Rattle.std.proofs.Common.{◌≡◌, ◌≢◌, ℕ, zero, suc, ◌+◌, ◌<◌, ◌≤◌, Bool, true, false, not, List, [], ◌∷◌, ◌++◌, length, map, take, drop, set, get_or, slice_get, refl, sym, ap, ◌∙◌, arith, if◌then◌else◌, cond, ◌&&◌, ◌||◌, nat_lt, Option, Some, None, option_map, get_or-set_same, get_or-set_other, inl, inr, vec_len, Contains}
 use Rattle.std.proofs.lemmas.Bool.Decides.{nat_tests}
 use Rattle.std.proofs.lemmas.Bool.{ltb-true}
 use Rattle.std.proofs.lemmas.List.{append-nil, length-map, map-set, take_all, drop_all}
@@ -8,12 +8,13 @@ use Rattle.std.specs.Global.{Vec}
 use Rattle.std.specs.Str.{bytes_eq}
 use Rattle.std.specs.List.{AllClonesOf, AllZip, position, position_or_len, list_any}
 use Rattle.indexmap.specs.IndexSet.{insert_key}
+use Rattle.hv_world.specs.Bindings.{object_of}
 use Rattle.hv_world.specs.Alike.{same_name}
 use Rattle.hv_world.specs.Values.{Term, TaskName, compound, primitive, Subtask}
-use Rattle.hv_match.specs.inside.Lists.{Mem}
-use Rattle.hv_match.specs.inside.Puzzles.{Work, object_of, is_ground, same_values, may_do, places_where}
+use Rattle.hv_match.specs.inside.Puzzles.{Work, is_ground, same_values, may_do, places_where}
 use Rattle.hv_match.specs.inside.Tables.{key_head, work_key, subtask_key, has_key, number_of, row_at, AreRows, row_for, AreChildRows}
 use Rattle.hv_match.specs.declared.child_rows.ChildRows.{ChildRows}
+use Rattle.hv_match.proofs.Members.{none_in_empty}
 use Rattle.hv_match.proofs.Factors.{name_is, name_itself}
 use Rattle.hv_match.proofs.Fitting.{both, also, values_from, values_to}
 use Rattle.hv_match.proofs.MayDo.{places_end, places_within, places_same}
@@ -196,16 +197,16 @@ row_is ss cs p j are h = go (slice_get ss j) refl
     go None e = absurd (omega (arith, past_all ss j e, h))
     go (Some s) e = are j s e
 
-pub row_within : (ss : List Subtask) (cs : List (Option Work)) (j x : ℕ) → Mem (elim (slice_get ss j) [ None ↦ [] | Some s ↦ places_where (may_do s) 0 cs ]) x → x < length cs
+pub row_within : (ss : List Subtask) (cs : List (Option Work)) (j x : ℕ) → Contains (elim (slice_get ss j) [ None ↦ [] | Some s ↦ places_where (may_do s) 0 cs ]) x → x < length cs
 row_within ss cs j x m = go (slice_get ss j) m
   where
-    go : (o : Option Subtask) → Mem (elim o [ None ↦ [] | Some s ↦ places_where (may_do s) 0 cs ]) x → x < length cs
-    go None m = absurd m
+    go : (o : Option Subtask) → Contains (elim o [ None ↦ [] | Some s ↦ places_where (may_do s) 0 cs ]) x → x < length cs
+    go None m = absurd (none_in_empty x m)
     go (Some s) m = omega (arith, (places_within (may_do s) 0 cs x m).1)
 
-pub placed : (keys : List (Vec ℕ)) (ss : List Subtask) (cs : List (Option Work)) (p : ChildRows) → map (λ s. number_of (subtask_key s) keys) ss ≡ map Some p.row_of.items → AreRows keys cs p.rows.items → AreChildRows ss cs p
+pub placed : (keys : List (Vec ℕ)) (ss : List Subtask) (cs : List (Option Work)) (p : ChildRows) → map (λ s. number_of (subtask_key s) keys) ss ≡ map Some p.keys.now.row_of.items → AreRows keys cs p.rows.items → AreChildRows ss cs p
 placed keys ss cs p e rows j s h =
-    let r = number_at keys ss p.row_of.items e j s h in
+    let r = number_at keys ss p.keys.now.row_of.items e j s h in
     ap (λ (o : Option ℕ). elim o [ None ↦ [] | Some i ↦ row_at p.rows.items i ]) r.1 ∙ rows (subtask_key s) r.0 r.2 ∙ places_same (has_key (subtask_key s)) (may_do s) (key_says s) 0 cs
 
 -- the rows

@@ -3,13 +3,13 @@ use Rattle.std.proofs.Common.{◌≡◌, ℕ, zero, suc, ◌+◌, ◌<◌, ◌�
 use Rattle.std.specs.Prelude.{◌↔◌}
 use Rattle.std.proofs.lemmas.List.{get_or_default}
 use Rattle.hv_world.specs.Values.{Term, Subtask}
-use Rattle.hv_world.specs.Bindings.{object_number}
+use Rattle.hv_world.specs.Bindings.{object_number, object_of}
 use Rattle.hv_world.specs.Views.{term_view, subtask_view, constraint_view}
 use Rattle.hv_world.specs.declared.id.ObjectId.{ObjectId}
 use Rattle.hv_world.specs.declared.formula.Term as code_term
 use Rattle.hv_world.specs.declared.formula.Subtask as code_subtask
 use Rattle.hv_world.specs.declared.formula.Constraint as code_constraint
-use Rattle.hv_match.specs.inside.Puzzles.{Work, object_of, child_at, has, are_in, same_values, does, all_do, holds, all_hold}
+use Rattle.hv_match.specs.inside.Puzzles.{Work, child_at, has, are_in, same_values, does, all_do, holds, all_hold}
 
 -- the list from a place on, seen through f
 pub from_place : {X Y : Type 0} (f : X → Y) (xs : List X) (i : ℕ) (d : X) → i < length xs → drop i (map f xs) ≡ f (get_or xs i d) ∷ drop (i + 1) (map f xs)

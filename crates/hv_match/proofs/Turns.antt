@@ -1,12 +1,12 @@
 -- How one turn of a search changes what is to come, and how many steps are left.
 use Rattle.std.proofs.lemmas.List.Elements.{All-push}
-use Rattle.std.proofs.Common.{◌^◌, ◌≡◌, ℕ, zero, suc, ◌+◌, ◌-◌, ◌<◌, ◌≤◌, Bool, false, List, [], ◌∷◌, ◌++◌, length, take, drop, refl, sym, ap, ◌∙◌, arith, append_assoc, length-append, inl, inr}
+use Rattle.std.proofs.Common.{◌^◌, ◌≡◌, ℕ, zero, suc, ◌+◌, ◌-◌, ◌<◌, ◌≤◌, Bool, false, List, [], ◌∷◌, ◌++◌, length, take, drop, refl, sym, ap, ◌∙◌, arith, append_assoc, length-append, Contains}
 use Rattle.std.proofs.lemmas.List.{append-nil}
 use Rattle.std.proofs.lemmas.List.Sums.{sum_by-cons}
-use Rattle.hv_match.specs.inside.Lists.{Mem}
 use Rattle.hv_match.specs.inside.Search.{IsPath, below}
 use Rattle.hv_match.specs.inside.States.{rest, effort, left, to_come, steps_left, IsState, AreTold}
 use Rattle.hv_match.specs.declared.state.State.{State}
+use Rattle.hv_match.proofs.Members.{at_head, in_tail}
 
 drop_all : {X : Type 0} (c : ℕ) (l : List X) → length l ≤ c → drop c l ≡ []
 drop_all zero [] h = refl
@@ -14,14 +14,14 @@ drop_all (suc c) [] h = refl
 drop_all zero (y ∷ l) h = absurd (omega arith)
 drop_all (suc c) (y ∷ l) h = drop_all c l (omega arith)
 
-pub mem_drop : {X : Type 0} (c : ℕ) (l : List X) (x : X) (r : List X) → drop c l ≡ x ∷ r → Mem l x
+pub mem_drop : {X : Type 0} (c : ℕ) (l : List X) (x : X) (r : List X) → drop c l ≡ x ∷ r → Contains l x
 mem_drop zero [] x r e = cc
 mem_drop (suc c) [] x r e = cc
-mem_drop zero (y ∷ l) x r e = let h : y ≡ x = cc in inl h
-mem_drop (suc c) (y ∷ l) x r e = inr (mem_drop c l x r e)
+mem_drop zero (y ∷ l) x r e = let h : y ≡ x = cc in at_head y l x (sym h)
+mem_drop (suc c) (y ∷ l) x r e = in_tail y l x (mem_drop c l x r e)
 
 module _ (options : List ℕ → List ℕ) where
-  pub path_push : (p xs : List ℕ) (x : ℕ) → IsPath options p xs → Mem (options (p ++ xs)) x → IsPath options p (xs ++ x ∷ [])
+  pub path_push : (p xs : List ℕ) (x : ℕ) → IsPath options p xs → Contains (options (p ++ xs)) x → IsPath options p (xs ++ x ∷ [])
   path_push p [] x h m = (rw append-nil at m, tt)
   path_push p (y ∷ xs) x h m = (h.0, path_push (p ++ y ∷ []) xs x h.1 (rw (append_assoc p (y ∷ []) xs) m))
 

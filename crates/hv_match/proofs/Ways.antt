@@ -8,18 +8,11 @@ use Rattle.hv_match.specs.Counts.{factorial, product, AreSoMany, free, IsCount}
 use Rattle.hv_match.specs.inside.Counting.{rising}
 use Rattle.hv_match.specs.inside.Puzzles.{Puzzle, widths, ways}
 use Rattle.hv_match.specs.inside.Ranges.{IsRange, AreRanges, IsPuzzleOf}
-use Rattle.hv_match.proofs.Factors.{contains_mem, mem_contains}
 use Rattle.hv_match.proofs.CountLemmas.{one_number}
-use Rattle.hv_match.proofs.Bridge.{pairs_of}
 
 range_size : (w : World) (r : List ℕ) (t n : ℕ) → IsRange w.typing r t → AreSoMany w t n → length r ≡ n
 range_size w r t n a b =
-    one_number w t (length r) n (record {
-      objects = r;
-      exact = λ o. ((λ c. (a.exact o).0 (contains_mem r o c)), (λ f. mem_contains r o ((a.exact o).1 f)));
-      once = pairs_of r a.once;
-      many = refl;
-    }) b
+    one_number w t (length r) n (record { objects = r; exact = a.exact; once = a.once; many = refl }) b
 
 module _ (w : World) (p : Puzzle) (T : ℕ → ℕ) where
   sizes : (rs : List (List ℕ)) (ts : List ℕ) (i : ℕ) (ns : List ℕ) → AreRanges w.typing rs ts

@@ -1,17 +1,17 @@
 -- A node has no more candidates than its count.
-use Rattle.std.proofs.Common.{◌≡◌, ℕ, zero, suc, ◌+◌, ◌-◌, ◌*◌, ◌<◌, ◌≤◌, Bool, true, false, List, [], ◌∷◌, ◌++◌, length, map, nat_lt, get_or, take, drop, slice_get, refl, sym, ap, ◌∙◌, arith, subst, inl, if◌then◌else◌, Option, Some, None, Contains}
+use Rattle.std.proofs.Common.{◌≡◌, ℕ, zero, suc, ◌+◌, ◌-◌, ◌*◌, ◌<◌, ◌≤◌, Bool, true, false, List, [], ◌∷◌, ◌++◌, length, map, nat_lt, get_or, take, drop, slice_get, refl, sym, ap, ◌∙◌, arith, subst, if◌then◌else◌, Option, Some, None, Contains}
 use Rattle.std.proofs.lemmas.Bool.Decides.{nat_tests}
 use Rattle.std.proofs.lemmas.Bool.{ltb-true, ltb-false}
 use Rattle.hv_world.specs.Values.{Subtask}
 use Rattle.hv_world.specs.Alike.{is_free, Key, key, keys, subtask_instance}
-use Rattle.hv_match.specs.inside.Lists.{Mem, Once}
+use Rattle.hv_text.specs.Lists.{Once}
 use Rattle.hv_match.specs.inside.Search.{IsWanted, below}
 use Rattle.hv_match.specs.inside.Puzzles.{Puzzle, bound, pick, may_do, places_where, options, IsMatch, widths, ways}
 use Rattle.hv_match.proofs.MayDo.{places_once}
 use Rattle.hv_match.proofs.FirstPlaces.{free_unbound, bound_some}
 use Rattle.hv_match.specs.Counts.{product}
 use Rattle.hv_match.specs.inside.Counting.{first_alike, rising, tower, IsMatching}
-use Rattle.hv_match.proofs.Members.{at_most}
+use Rattle.hv_match.proofs.Members.{at_most, at_head, none_in_empty, once_none, once_more}
 use Rattle.hv_match.proofs.Bounds.{bounded, few_matches}
 use Rattle.hv_match.proofs.Keys.{child_key, matching}
 
@@ -21,7 +21,7 @@ options_once pz o p = go (slice_get pz.subtasks (length p)) (bound pz p (length 
     go : (b : Option Subtask) (r : Option ℕ) → Once (elim b [ Some s ↦ places_where (may_do s) 0 pz.children | None ↦ pick r (get_or pz.ranges (length p - length pz.subtasks) []) ])
     go (Some s) r = places_once (may_do s) 0 pz.children
     go None None = o (length p - length pz.subtasks)
-    go None (Some x) = (λ m. m, tt)
+    go None (Some x) = once_more x [] (λ m. none_in_empty x m) once_none
 
 no_more : (ss : List Subtask) (i : ℕ) → length ss ≤ i → slice_get ss i ≡ None
 no_more [] i h = refl
@@ -90,7 +90,7 @@ module _ (pz : Puzzle) (instances : (s : Subtask) (g : ℕ → ℕ) → Contains
   factor l = if nat_lt l (length pz.subtasks) then first_alike (drop l (keys pz.subtasks)) else get_or (widths pz 0 pz.ranges) (l - length pz.subtasks) 0
 
   few : (p ys : List ℕ) → length p < length pz.subtasks + length pz.ranges → Once ys →
-      ((y : ℕ) → Mem ys y → Mem (options pz p) y × ((t : List ℕ) × IsWanted (options pz) good (length pz.subtasks + length pz.ranges) (p ++ y ∷ t))) → length ys ≤ factor (length p)
+      ((y : ℕ) → Contains ys y → Contains (options pz p) y × ((t : List ℕ) × IsWanted (options pz) good (length pz.subtasks + length pz.ranges) (p ++ y ∷ t))) → length ys ≤ factor (length p)
   unfolding factor
   few p [] h n f = omega arith
   few p (y0 ∷ ys) h n f = go (nat_lt (length p) (length pz.subtasks)) refl
@@ -118,17 +118,17 @@ module _ (pz : Puzzle) (instances : (s : Subtask) (g : ℕ → ℕ) → Contains
           let width' = rw z at width in
           let most = at_most (y0 ∷ ys) (options pz p) n (λ y k. (f y k).0) in
           let most' : suc (length ys) ≤ length (pick (bound pz p (length p - length pz.subtasks)) (get_or pz.ranges (length p - length pz.subtasks) [])) = omega (arith, most, ap length (object_options pz p ge)) in
-          let q = f y0 (inl refl) in
+          let q = f y0 (at_head y0 ys y0 refl) in
           let cand = right (p ++ y0 ∷ q.1.0) q.1.1.is_good in
           rw width' (wide (length p - length pz.subtasks) (bound pz p (length p - length pz.subtasks)) refl (is_free pz.task pz.subtasks (length p - length pz.subtasks)) refl
           (λ a b. unbound a b (take_front (length pz.subtasks) p (y0 ∷ q.1.0) ge) cand) most')
         where
-          unbound : is_free pz.task pz.subtasks (length p - length pz.subtasks) ≡ false → bound pz p (length p - length pz.subtasks) ≡ None → (us : List ℕ) × (p ≡ take (length pz.subtasks) (p ++ y0 ∷ (f y0 (inl refl)).1.0) ++ us) →
-              IsMatch pz (take (length pz.subtasks) (p ++ y0 ∷ (f y0 (inl refl)).1.0)) (drop (length pz.subtasks) (p ++ y0 ∷ (f y0 (inl refl)).1.0)) → ⊥
+          unbound : is_free pz.task pz.subtasks (length p - length pz.subtasks) ≡ false → bound pz p (length p - length pz.subtasks) ≡ None → (us : List ℕ) × (p ≡ take (length pz.subtasks) (p ++ y0 ∷ (f y0 (at_head y0 ys y0 refl)).1.0) ++ us) →
+              IsMatch pz (take (length pz.subtasks) (p ++ y0 ∷ (f y0 (at_head y0 ys y0 refl)).1.0)) (drop (length pz.subtasks) (p ++ y0 ∷ (f y0 (at_head y0 ys y0 refl)).1.0)) → ⊥
           unbound a b us c =
-              let same : bound pz (take (length pz.subtasks) (p ++ y0 ∷ (f y0 (inl refl)).1.0) ++ us.0) (length p - length pz.subtasks) ≡ None =
+              let same : bound pz (take (length pz.subtasks) (p ++ y0 ∷ (f y0 (at_head y0 ys y0 refl)).1.0) ++ us.0) (length p - length pz.subtasks) ≡ None =
               ap (λ (l : List ℕ). bound pz l (length p - length pz.subtasks)) (sym us.1) ∙ b in
-              bound_some pz (take (length pz.subtasks) (p ++ y0 ∷ (f y0 (inl refl)).1.0)) (drop (length pz.subtasks) (p ++ y0 ∷ (f y0 (inl refl)).1.0)) us.0 (length p - length pz.subtasks) c a same
+              bound_some pz (take (length pz.subtasks) (p ++ y0 ∷ (f y0 (at_head y0 ys y0 refl)).1.0)) (drop (length pz.subtasks) (p ++ y0 ∷ (f y0 (at_head y0 ys y0 refl)).1.0)) us.0 (length p - length pz.subtasks) c a same
 
   pub at_most_count : length (below (options pz) good (length pz.subtasks + length pz.ranges) [] 0) ≤ ways pz
   unfolding factor

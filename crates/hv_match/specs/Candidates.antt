@@ -1,14 +1,19 @@
 -- How the children of a node of a plan's tree can stand for the subtasks of its method.
-use Rattle.std.specs.Prelude.{◌≡◌, ◌↔◌, ◌<◌, ℕ, true, List, map, length, slice_get, slice_index, Option, Some, None, option_map, option_and_then, IsSome, MatchOption, All}
+use Rattle.std.specs.Prelude.{◌≡◌, ◌↔◌, ◌<◌, ℕ, true, List, [], ◌∷◌, map, length, slice_get, slice_index, Option, Some, None, option_map, option_and_then, IsSome, MatchOption, All, Contains, Bool, IsTrue, MatchBool}
 use Rattle.std.specs.List.{AllZip}
 use Rattle.hv_world.specs.Values.{object, Subtask, subtask, Constraint, compound, primitive}
 use Rattle.hv_world.specs.Alike.{instance, subtask_instance}
-use Rattle.hv_world.specs.Bindings.{GroundAction}
+use Rattle.hv_world.specs.Bindings.{GroundAction, object_number}
 use Rattle.hv_text.specs.Lists.{Once}
 use Rattle.hv_world.specs.Worlds.{World, Method, terms_of}
-use Rattle.hv_plan.specs.Fits.{AreOf}
+use Rattle.hv_world.specs.Groundings.{AreOf}
+use Rattle.hv_world.specs.WorldViews.{world_view}
+use Rattle.hv_world.specs.declared.id.ObjectId.{ObjectId}
+use Rattle.hv_world.specs.declared.world.World as code_world
+use Rattle.hv_plan.specs.BuiltTrees.{tree_view}
 use Rattle.hv_plan.specs.Trees.{Item, Act, Task, Pre}
 use Rattle.hv_plan.specs.PlanTrees.{Node, PlanTree}
+use Rattle.hv_plan.specs.declared.tree.Tree as code_tree
 
 -- what an action and a node do: a subtask with objects for terms
 abbrev pub action_task : GroundAction → Subtask
@@ -42,7 +47,7 @@ pub record IsCandidate (w : World) (m : Method) (objects : List ℕ) (children :
   pub once : Once M
   pub within : All (λ x. x < length children) M
   pub all : length M ≡ length children
-  pub typed : AreOf w B m.parameters
+  pub typed : AreOf w.typing B m.parameters
   pub task : map (instance (slice_index B)) (terms_of m.task) ≡ map object objects
   pub done : AllZip (Does children B) M m.network.subtasks
   pub constraints : All (Holds B) m.network.constraints
@@ -70,3 +75,20 @@ pub record Listing : Type 0 where
   pub children : List ℕ
   pub objects : List ℕ
   pub coming : List (List ℕ × List ℕ)
+
+-- to come are just the candidates of the node of a number
+abbrev pub HasAllAt : World → PlanTree → ℕ → Listing → Type 0
+HasAllAt w t v l = (M B : List ℕ) → Contains l.coming (M, B) ↔ IsCandidateAt w t v M B
+
+-- one was to come, which is lent now, and the others are still to come; or none was to come, and none is
+abbrev pub IsAdvance : Listing → Listing → Bool → Type 0
+IsAdvance old new b =
+    MatchBool b (old.coming ≡ (new.children, new.objects) ∷ new.coming) ((old.coming ≡ []) × (new.coming ≡ []))
+
+-- b says whether P holds
+abbrev pub Tells : Type 0 → Bool → Type 0
+Tells P b = IsTrue b ↔ P
+
+-- the code's places and objects are a candidate of the node of a number
+abbrev pub IsCandidateOf : code_world.World → code_tree.Tree → ℕ → List ℕ → List ObjectId → Type 0
+IsCandidateOf w t v M os = IsCandidateAt (world_view w) (tree_view t) v M (map object_number os)

@@ -10,3 +10,5 @@ pub mod PuzzleViews
 pub mod Ranges
 pub mod Parts
 pub mod Checks
+pub mod Ways
+pub mod Codes

@@ -1,25 +1,25 @@
 //! The candidates of a node, one at a time.
 
-ghost use Rattle.std.specs.Prelude.{◌≡◌, ◌≢◌, ◌↔◌, ◌<◌, ◌≤◌, ◌^◌, ◌∷◌, [], ℕ, List, All, AllPairs, Contains, length, map, IfOk, OnErr, MatchBool};
-ghost use Rattle.hv_world.specs.MethodViews.{method_view};
-ghost use Rattle.hv_world.specs.WorldViews.{world_view};
+ghost use Rattle.std.specs.Prelude.{◌≡◌, ◌≢◌, ◌<◌, ◌^◌, [], All, length, map, IfOk, OnErr, MatchBool};
+ghost use Rattle.hv_text.specs.Lists.{Once};
 ghost use Rattle.hv_plan.specs.BuiltTrees.{tree_view};
 ghost use Rattle.hv_plan.specs.PlanTrees.{IsTreeIn};
 ghost use Rattle.hv_plan.specs.TreeViews.{node_view};
-ghost use Rattle.hv_match.specs.Candidates.{IsCandidate, IsCandidateAt, child_tasks};
+ghost use Rattle.hv_match.specs.Candidates.{HasAllAt, IsAdvance};
 ghost use Rattle.hv_world.specs.Bindings.{object_number};
-ghost use Rattle.hv_match.specs.Counts.{IsCount, IsCountAt};
+ghost use Rattle.hv_match.specs.Counts.{IsInCountAt};
 ghost use Rattle.hv_match.specs.inside.PuzzleViews.{puzzle_view};
-ghost use Rattle.hv_match.specs.inside.Parts.{listed};
+ghost use Rattle.hv_match.specs.inside.Parts.{listed, IsWholeBy};
 
 use crate::make::puzzle;
-use crate::parts::node_and_method;
+use crate::matcher::Matcher;
 use crate::puzzle::Puzzle;
 use crate::puzzle_laws::{ways_are_counts, ways_are_enough};
 use crate::state::{State, back, find};
+use crate::table::MethodTable;
 use hv_plan::{Node, Tree};
 use hv_text::Memory;
-use hv_world::{Method, ObjectId, World};
+use hv_world::ObjectId;
 use std::alloc::Global;
 use std::marker::Model;
 
@@ -35,17 +35,14 @@ pub struct Candidates<'a> {
 }
 
 impl<'a> Model for Candidates<'a> {
-    ghost use Rattle.std.specs.Prelude.{◌≡◌, map, length};
-    ghost use Rattle.hv_world.specs.Bindings.{object_number};
     ghost use Rattle.hv_match.specs.Candidates.{Listing};
-    ghost use Rattle.hv_match.specs.inside.PuzzleViews.{puzzle_view};
-    ghost use Rattle.hv_match.specs.inside.Parts.{coming, IsStateOf};
+    ghost use Rattle.hv_match.specs.inside.Parts.{listing, IsListing};
 
     ghost Value = { Listing };
 
-    ghost view = { λ s. record { children = s.children.items; objects = map object_number s.objects.items; coming = coming (puzzle_view s.puzzle) s.at } };
+    ghost view = { λ s. listing s.puzzle s.at s.children.items s.objects.items };
 
-    ghost invariant = { λ s. IsStateOf s.puzzle s.at × (length s.children.items ≡ length s.puzzle.subtasks.now) × (length s.objects.items ≡ length s.puzzle.ranges.items) };
+    ghost invariant = { λ s. IsListing s.puzzle s.at s.children.items s.objects.items };
 }
 
 // Writes places down in 32 bits.
@@ -76,8 +73,8 @@ impl<'a> Candidates<'a> {
     {
         let is_over = puzzle.is_hopeless();
         let made_at = vec![in alloc; 0usize; puzzle.children.len()]?;
-        let children = vec![in alloc; 0u32; puzzle.subtasks.len()]?;
-        let objects = vec![in alloc; ObjectId(0); puzzle.ranges.len()]?;
+        let children = vec![in alloc; 0u32; puzzle.table.subtasks.len()]?;
+        let objects = vec![in alloc; ObjectId(0); puzzle.table.ranges.len()]?;
         let at = State {
             chosen: Vec::new(alloc),
             numbers: Vec::new(alloc),
@@ -93,19 +90,16 @@ impl<'a> Candidates<'a> {
         })
     }
 
-    // All candidates of a node by its method.
-    fn of_method(
+    // All candidates of a node whose method has this table.
+    fn of_table(
         alloc: Global,
-        world: &'a World<'_>,
+        table: &'a MethodTable<'a>,
         tree: &'a Tree<'_, '_>,
         node: &Node<'a>,
-        method: &'a Method<'_>,
     ) -> Result<Candidates<'a>, Memory>
-        ensures exact { IfOk result (λ c. (M B : List ℕ) → Contains c.coming (M, B) ↔ IsCandidate (world_view world.now) (method_view method.now) (node_view node.now).objects (child_tasks (tree_view tree.now) (node_view node.now)) M B) }
-        ensures once { IfOk result (λ c. AllPairs ◌≢◌ c.coming) }
-        ensures few { IfOk result (λ c. (k : ℕ) → IsCount (world_view world.now) (method_view method.now) k → length c.coming ≤ k) }
+        ensures { IfOk result (IsWholeBy table.now (tree_view tree.now) (node_view node.now)) }
     {
-        let puzzle = puzzle(alloc, world, tree, node, method)?;
+        let puzzle = puzzle(alloc, table, tree, node)?;
         ways_are_enough();
         ways_are_counts();
         let candidates = Candidates::of(alloc, puzzle)?;
@@ -116,29 +110,30 @@ impl<'a> Candidates<'a> {
     /// only for want of memory.
     pub fn new(
         alloc: Global,
-        world: &'a World<'_>,
+        matcher: &'a Matcher<'_, '_>,
         tree: &'a Tree<'_, '_>,
         node: u32,
     ) -> Result<Candidates<'a>, Memory>
-        requires tree { IsTreeIn (world_view world.now) (tree_view tree.now) }
+        requires tree { IsTreeIn matcher.now (tree_view tree.now) }
         requires node { node < length (tree_view tree.now).nodes }
-        ensures exact { IfOk result (λ c. (M B : List ℕ) → Contains c.coming (M, B) ↔ IsCandidateAt (world_view world.now) (tree_view tree.now) node M B) }
-        ensures once { IfOk result (λ c. AllPairs ◌≢◌ c.coming) }
-        ensures few { IfOk result (λ c. (k : ℕ) → IsCountAt (world_view world.now) (tree_view tree.now) node k → length c.coming ≤ k) }
+        ensures exact { IfOk result (HasAllAt matcher.now (tree_view tree.now) node) }
+        ensures once { IfOk result (λ c. Once c.coming) }
+        ensures few { IfOk result (IsInCountAt matcher.now (tree_view tree.now) node) }
     {
-        let (node, method) = node_and_method(world, tree, node);
-        Candidates::of_method(alloc, world, tree, &node, method)
+        let (node, table) = matcher.node_and_table(tree, node);
+        let candidates = Candidates::of_table(alloc, table, tree, &node)?;
+        Ok(candidates)
     }
 
-    /// Lends the next candidate, and says whether there was one; if not, there is none for good. After
-    /// want of memory all is as it was.
+    /// Lends the next candidate, and says whether there was one; if not, there is none for good.
+    /// After want of memory all is as it was.
     pub fn advance(&mut self) -> Result<bool, Memory>
-        ensures ok { IfOk result (λ b. MatchBool b (self.old.coming ≡ (self.new.children, self.new.objects) ∷ self.new.coming) ((self.old.coming ≡ []) × (self.new.coming ≡ []))) }
+        ensures ok { IfOk result (IsAdvance self.old self.new) }
         ensures err { OnErr result (self.new ≡ self.old) }
     {
         let is_found = find(&self.puzzle, &mut self.at)?;
         if is_found {
-            let subtasks = self.puzzle.subtasks.len();
+            let subtasks = self.puzzle.table.subtasks.len();
             write_places(&mut self.children, &self.at.chosen[..subtasks]);
             write_objects(&mut self.objects, &self.at.chosen[subtasks..]);
             back(&self.puzzle, &mut self.at);

@@ -1,23 +1,19 @@
 //! Whether children and objects that are given are a candidate of a node.
 
 ghost use Rattle.std.specs.Prelude.{◌≡◌, ◌↔◌, ◌<◌, true, false, map, length, IfOk, IsTrue};
-ghost use Rattle.std.specs.List.{AllZip};
 ghost use Rattle.hv_world.specs.Bindings.{object_number};
-ghost use Rattle.hv_world.specs.MethodViews.{method_view};
-ghost use Rattle.hv_world.specs.Views.{subtask_view};
 ghost use Rattle.hv_world.specs.WorldViews.{world_view};
 ghost use Rattle.hv_plan.specs.BuiltTrees.{tree_view};
 ghost use Rattle.hv_plan.specs.PlanTrees.{IsTreeIn};
-ghost use Rattle.hv_plan.specs.TreeViews.{node_view};
-ghost use Rattle.hv_match.specs.Candidates.{Does, IsCandidateAt};
-ghost use Rattle.hv_match.specs.inside.Checks.{AreAllPlaces, AreObjectsOf, IsCandidateBy, IsMarkedAnew, WasMarked, tasks_of};
+ghost use Rattle.hv_match.specs.Candidates.{IsCandidateOf, Tells};
+ghost use Rattle.hv_match.specs.inside.Checks.{AreAllPlaces, ChildDoes, ChildrenDo, IsCandidateBy, IsMarkedAnew, WasMarked};
 
 use crate::make::{terms, work};
 use crate::parts::node_and_method;
 use crate::puzzle::{all_hold, are_values, work_does};
 use hv_plan::{Child, Node, Tree};
 use hv_text::Memory;
-use hv_world::{Method, ObjectId, Subtask, TypeId, World};
+use hv_world::{Method, ObjectId, Subtask, World};
 use std::alloc::Global;
 
 // Marks a place, and says whether there is one that was not marked.
@@ -48,21 +44,6 @@ fn are_all_places(alloc: Global, places: &[u32], count: usize) -> Result<bool, M
     Ok(true)
 }
 
-// Whether objects are of types, one by one.
-fn are_of(world: &World<'_>, objects: &[ObjectId], types: &[TypeId]) -> bool
-    ensures { IsTrue result ↔ AreObjectsOf (world_view world.now) objects.now types.now }
-{
-    if objects.len() != types.len() {
-        return false;
-    }
-    for place in 0..objects.len() {
-        if !world.is_of(objects[place], types[place]) {
-            return false;
-        }
-    }
-    true
-}
-
 // Whether the child at a place does what a subtask says.
 fn does(
     tree: &Tree<'_, '_>,
@@ -71,7 +52,7 @@ fn does(
     values: &[usize],
     subtask: &Subtask,
 ) -> bool
-    ensures { IsTrue result ↔ Does (tasks_of (tree_view tree.now) children.now) values.now place (subtask_view subtask.now) }
+    ensures { IsTrue result ↔ ChildDoes tree.now children.now values.now place subtask.now }
 {
     if place >= children.len() {
         return false;
@@ -90,7 +71,7 @@ fn all_do(
     values: &[usize],
     subtasks: &[Subtask],
 ) -> bool
-    ensures { IsTrue result ↔ AllZip (Does (tasks_of (tree_view tree.now) children.now) values.now) places.now (map subtask_view subtasks.now) }
+    ensures { IsTrue result ↔ ChildrenDo tree.now children.now values.now places.now subtasks.now }
 {
     if places.len() != subtasks.len() {
         return false;
@@ -130,23 +111,23 @@ fn is_candidate_by(
     children: &[u32],
     objects: &[ObjectId],
 ) -> Result<bool, Memory>
-    ensures { IfOk result (λ b. IsTrue b ↔ IsCandidateBy (world_view world.now) (method_view method.now) (tree_view tree.now) (node_view node.now) children.now objects.now) }
+    ensures { IfOk result (Tells (IsCandidateBy world.now method.now tree.now node.now children.now objects.now)) }
 {
     let values = numbers(alloc, objects)?;
     let network = method.network();
     let is_once = are_all_places(alloc, children, node.children().len())?;
     Ok(
         is_once
-            && are_of(world, objects, method.parameters())
+            && world.are_of(objects, method.parameters())
             && are_values(&values, terms(method), node.objects())
             && all_do(tree, node.children(), children, &values, network.subtasks())
             && all_hold(&values, network.constraints()),
     )
 }
 
-/// Whether these are a candidate of a node: for each subtask in written order the place of its child
-/// among the node's children, and for each parameter of the method its object. Nothing is searched.
-/// Err only for want of memory.
+/// Whether these are a candidate of a node: for each subtask in written order the place of its
+/// child among the node's children, and for each parameter of the method its object. Nothing is
+/// searched. Err only for want of memory.
 pub fn is_candidate(
     alloc: Global,
     world: &World<'_>,
@@ -157,7 +138,7 @@ pub fn is_candidate(
 ) -> Result<bool, Memory>
     requires tree { IsTreeIn (world_view world.now) (tree_view tree.now) }
     requires node { node < length (tree_view tree.now).nodes }
-    ensures { IfOk result (λ b. IsTrue b ↔ IsCandidateAt (world_view world.now) (tree_view tree.now) node children.now (map object_number objects.now)) }
+    ensures { IfOk result (Tells (IsCandidateOf world.now tree.now node children.now objects.now)) }
 {
     let (node, method) = node_and_method(world, tree, node);
     is_candidate_by(alloc, world, tree, &node, method, children, objects)

@@ -1,14 +1,12 @@
 //! The places of the children that may do the subtasks.
 
-ghost use Rattle.std.specs.Prelude.{◌≡◌, ◌++◌, ◌∷◌, [], ℕ, List, Option, Some, length, map, option_map, IfOk, OnOk, if◌then◌else◌};
-ghost use Rattle.std.specs.Str.{bytes_eq};
-ghost use Rattle.hv_world.specs.Alike.Kept as kept;
-ghost use Rattle.hv_world.specs.Bindings.{object_number};
+ghost use Rattle.std.specs.Prelude.{◌≡◌, ◌++◌, [], length, map, option_map, IfOk, OnOk};
+ghost use Rattle.hv_world.specs.inside.Kept as kept;
+ghost use Rattle.hv_world.specs.Bindings.{object_number, object_of};
 ghost use Rattle.hv_world.specs.Views.{name_view, term_view, subtask_view};
 ghost use Rattle.hv_match.specs.inside.Puzzles as puzzles;
-ghost use Rattle.hv_match.specs.inside.Puzzles.{object_of};
 ghost use Rattle.hv_match.specs.inside.Tables as tables;
-ghost use Rattle.hv_match.specs.inside.Tables.{work_view, AreRows, AreChildRows};
+ghost use Rattle.hv_match.specs.inside.Tables.{work_view, AreChildRowsBy, AreKeyNumbers, AreKeys, AreRows, HasPut, HasPutChild, IsKeyNumber, KeepNumbers};
 
 use crate::puzzle::{Work, value};
 use hv_text::Memory;
@@ -16,12 +14,19 @@ use hv_world::{ObjectId, Subtask, TaskName, Term};
 use indexmap::IndexSet;
 use std::alloc::Global;
 
-/// For each subtask a row of places.
+/// For each subtask of a method the key of the children that may do it.
 #[derive(Drop)]
-pub(crate) struct ChildRows {
-    rows: Vec<Vec<usize>>,
-    // For each subtask the number of its row.
+pub(crate) struct RowKeys {
+    keys: IndexSet<Vec<usize>>,
+    // For each subtask the number of its key.
     row_of: Vec<usize>,
+}
+
+/// For each subtask a row of places: for each key the places of the children that have it.
+#[derive(Drop)]
+pub(crate) struct ChildRows<'a> {
+    keys: &'a RowKeys,
+    rows: Vec<Vec<usize>>,
 }
 
 // The row of a number.
@@ -34,12 +39,12 @@ fn row_at(rows: &[Vec<usize>], number: usize) -> &[usize]
     }
 }
 
-impl ChildRows {
+impl ChildRows<'_> {
     /// The places of the children that may do the subtask of a number, ascending.
     pub(crate) fn row(&self, subtask: usize) -> &[usize]
         ensures { result.now ≡ tables.row_for self.now subtask }
     {
-        match self.row_of.get(subtask) {
+        match self.keys.row_of.get(subtask) {
             Some(number) => row_at(&self.rows, *number),
             None => &[],
         }
@@ -123,8 +128,8 @@ fn key_number(
     keys: &mut IndexSet<Vec<usize>>,
     subtask: &Subtask,
 ) -> Result<usize, Memory>
-    ensures found { IfOk result (λ i. tables.number_of (tables.subtask_key (subtask_view subtask.now)) keys.new.keys ≡ Some i) }
-    ensures kept { OnOk result ((k : List ℕ) (i : ℕ) → tables.number_of k keys.old.keys ≡ Some i → tables.number_of k keys.new.keys ≡ Some i) }
+    ensures found { IfOk result (IsKeyNumber keys.new.keys (subtask_view subtask.now)) }
+    ensures kept { OnOk result (KeepNumbers keys.old.keys keys.new.keys) }
 {
     let key = subtask_key(alloc, subtask)?;
     let (number, _) = keys.insert_full(key)?;
@@ -137,7 +142,7 @@ fn key_numbers(
     keys: &mut IndexSet<Vec<usize>>,
     subtasks: &[Subtask],
 ) -> Result<Vec<usize>, Memory>
-    ensures { IfOk result (λ v. map (λ s. tables.number_of (tables.subtask_key s) keys.new.keys) (map subtask_view subtasks.now) ≡ map Some v.items) }
+    ensures { IfOk result (λ v. AreKeyNumbers keys.new.keys (map subtask_view subtasks.now) v.items) }
 {
     let mut numbers = Vec::new(alloc);
     for subtask in subtasks {
@@ -156,7 +161,7 @@ fn put(
 ) -> Result<(), Memory>
     requires { length rows.old ≡ length keys.now.keys }
     ensures size { OnOk result (length rows.new ≡ length rows.old) }
-    ensures rows { OnOk result ((k : List ℕ) (i : ℕ) → tables.number_of k keys.now.keys ≡ Some i → tables.row_at rows.new i ≡ tables.row_at rows.old i ++ (if bytes_eq key.items k then place ∷ [] else [])) }
+    ensures rows { OnOk result (HasPut keys.now.keys key.items place rows.old rows.new) }
 {
     if let Some(number) = keys.get_index_of(&key) {
         rows[number].push(place)?;
@@ -174,7 +179,7 @@ fn put_child(
 ) -> Result<(), Memory>
     requires { length rows.old ≡ length keys.now.keys }
     ensures size { OnOk result (length rows.new ≡ length rows.old) }
-    ensures rows { OnOk result ((cs : List (Option puzzles.Work)) → length cs ≡ place → AreRows keys.now.keys cs rows.old → AreRows keys.now.keys (cs ++ option_map work_view child.entry ∷ []) rows.new) }
+    ensures rows { OnOk result (HasPutChild keys.now.keys (option_map work_view child.entry) place rows.old rows.new) }
 {
     if let Some(work) = child {
         let name = key_head(alloc, work.name, false)?;
@@ -200,16 +205,23 @@ fn rows_of(
     Ok(rows)
 }
 
-/// The places of the children that may do each of the subtasks.
-pub(crate) fn child_rows_for(
-    alloc: Global,
-    subtasks: &[Subtask],
-    children: &[Option<Work<'_>>],
-) -> Result<ChildRows, Memory>
-    ensures { IfOk result (AreChildRows (map subtask_view subtasks.now) (map (option_map work_view) children.now)) }
+/// The keys of these subtasks.
+pub(crate) fn row_keys(alloc: Global, subtasks: &[Subtask]) -> Result<RowKeys, Memory>
+    ensures { IfOk result (AreKeys (map subtask_view subtasks.now)) }
 {
     let mut keys = IndexSet::new(alloc);
     let row_of = key_numbers(alloc, &mut keys, subtasks)?;
-    let rows = rows_of(alloc, &keys, children)?;
-    Ok(ChildRows { rows, row_of })
+    Ok(RowKeys { keys, row_of })
+}
+
+/// The places of the children that may do each of the subtasks that have these keys.
+pub(crate) fn child_rows_for<'a>(
+    alloc: Global,
+    keys: &'a RowKeys,
+    children: &[Option<Work<'_>>],
+) -> Result<ChildRows<'a>, Memory>
+    ensures { IfOk result (AreChildRowsBy keys.now (map (option_map work_view) children.now)) }
+{
+    let rows = rows_of(alloc, &keys.keys, children)?;
+    Ok(ChildRows { keys, rows })
 }

@@ -1,14 +1,14 @@
 //! How many candidates a node may have at most.
 
-ghost use Rattle.std.specs.Prelude.{◌≡◌, ◌↔◌, ◌*◌, ◌-◌, ◌<◌, ◌^◌, ℕ, List, map, min, IsTrue, length, slice_index};
+ghost use Rattle.std.specs.Prelude.{◌≡◌, ◌↔◌, ◌*◌, ◌<◌, ℕ, map, IsTrue, length, slice_index};
 ghost use Rattle.hv_world.specs.MethodViews.{method_view};
 ghost use Rattle.hv_world.specs.WorldViews.{world_view};
 ghost use Rattle.hv_plan.specs.BuiltTrees.{tree_view};
 ghost use Rattle.hv_plan.specs.PlanTrees.{IsTreeIn};
-ghost use Rattle.hv_match.specs.Counts.{factorial, product, free, AreChoices, AreSoMany, IsCount, IsCountAt};
-ghost use Rattle.hv_match.specs.inside.Numbers.{in_64_bits};
+ghost use Rattle.hv_match.specs.Counts.{capped, factorial, product, AreChoicesOf, AreSoMany, CountIs, CountIsAt, TellsIfAbove};
+ghost use Rattle.hv_match.specs.inside.Numbers.{in_64_bits, TimesChoices};
 
-use crate::parts::node_and_method;
+use crate::matcher::Matcher;
 use hv_plan::Tree;
 use hv_world::{Method, TypeId, World};
 
@@ -62,14 +62,14 @@ fn type_of(method: &Method<'_>, parameter: usize) -> TypeId
 // How many objects the parameter of a number may have.
 fn choices(world: &World<'_>, method: &Method<'_>, parameter: usize) -> usize
     requires { parameter < length (method_view method.now).parameters }
-    ensures { AreSoMany (world_view world.now) (slice_index (method_view method.now).parameters parameter) result }
+    ensures { AreChoicesOf (world_view world.now) (method_view method.now) parameter result }
 {
     many(world, type_of(method, parameter))
 }
 
 // As many factors more as there are free parameters.
 fn times_choices(number: Option<u64>, world: &World<'_>, method: &Method<'_>) -> Option<u64>
-    ensures { (ns : List ℕ) × AreChoices (world_view world.now) (method_view method.now) (free (method_view method.now)) ns × ((n : ℕ) → number ≡ in_64_bits n → result ≡ in_64_bits (n * product ns)) }
+    ensures { TimesChoices (world_view world.now) (method_view method.now) number result }
 {
     let mut product = number;
     for parameter in method.free_parameters() {
@@ -78,28 +78,28 @@ fn times_choices(number: Option<u64>, world: &World<'_>, method: &Method<'_>) ->
     product
 }
 
-// The count of a method, if 64 bits hold it.
-fn exact_count(world: &World<'_>, method: &Method<'_>) -> Option<u64>
-    ensures { (k : ℕ) × IsCount (world_view world.now) (method_view method.now) k × (result ≡ in_64_bits k) }
+/// The count of a method, if 64 bits hold it.
+pub(crate) fn exact_count(world: &World<'_>, method: &Method<'_>) -> Option<u64>
+    ensures { CountIs (world_view world.now) (method_view method.now) (λ k. result ≡ in_64_bits k) }
 {
     times_choices(orders(method.network().class_sizes()), world, method)
 }
 
-/// The count of a method, or the greatest `u64` where it is greater.
-pub(crate) fn count_of(world: &World<'_>, method: &Method<'_>) -> u64
-    ensures { (k : ℕ) × IsCount (world_view world.now) (method_view method.now) k × (result ≡ min k (2 ^ 64 - 1)) }
+// The count, or the greatest `u64` where it is greater.
+fn or_greatest(count: Option<u64>) -> u64
+    ensures { (k : ℕ) → count ≡ in_64_bits k → result ≡ capped k }
 {
-    match exact_count(world, method) {
+    match count {
         Some(count) => count,
         None => u64::MAX,
     }
 }
 
-/// Whether the count of a method is greater than a limit.
-pub(crate) fn is_greater(world: &World<'_>, method: &Method<'_>, limit: u64) -> bool
-    ensures { (k : ℕ) × IsCount (world_view world.now) (method_view method.now) k × (IsTrue result ↔ (limit < k)) }
+// Whether the count is greater than a limit.
+fn is_greater(count: Option<u64>, limit: u64) -> bool
+    ensures { (k : ℕ) → count ≡ in_64_bits k → IsTrue result ↔ (limit < k) }
 {
-    match exact_count(world, method) {
+    match count {
         Some(count) => limit < count,
         None => true,
     }
@@ -108,21 +108,21 @@ pub(crate) fn is_greater(world: &World<'_>, method: &Method<'_>, limit: u64) -> 
 /// How many candidates a node may have at most, by its method alone: for each class of alike
 /// subtasks the factorial of its size, times for each free parameter the number of objects of its
 /// type. A greater number than a `u64` holds counts as the greatest that it does.
-pub fn count(world: &World<'_>, tree: &Tree<'_, '_>, node: u32) -> u64
-    requires tree { IsTreeIn (world_view world.now) (tree_view tree.now) }
+pub fn count(matcher: &Matcher<'_, '_>, tree: &Tree<'_, '_>, node: u32) -> u64
+    requires tree { IsTreeIn matcher.now (tree_view tree.now) }
     requires node { node < length (tree_view tree.now).nodes }
-    ensures { (k : ℕ) × IsCountAt (world_view world.now) (tree_view tree.now) node k × (result ≡ min k (2 ^ 64 - 1)) }
+    ensures { CountIsAt matcher.now (tree_view tree.now) node (λ k. result ≡ capped k) }
 {
-    let (_, method) = node_and_method(world, tree, node);
-    count_of(world, method)
+    let (_, table) = matcher.node_and_table(tree, node);
+    or_greatest(table.count)
 }
 
 /// Whether the count of a node, however great it is, is greater than a limit.
-pub fn exceeds(world: &World<'_>, tree: &Tree<'_, '_>, node: u32, limit: u64) -> bool
-    requires tree { IsTreeIn (world_view world.now) (tree_view tree.now) }
+pub fn exceeds(matcher: &Matcher<'_, '_>, tree: &Tree<'_, '_>, node: u32, limit: u64) -> bool
+    requires tree { IsTreeIn matcher.now (tree_view tree.now) }
     requires node { node < length (tree_view tree.now).nodes }
-    ensures { (k : ℕ) × IsCountAt (world_view world.now) (tree_view tree.now) node k × (IsTrue result ↔ (limit < k)) }
+    ensures { TellsIfAbove matcher.now (tree_view tree.now) node limit result }
 {
-    let (_, method) = node_and_method(world, tree, node);
-    is_greater(world, method, limit)
+    let (_, table) = matcher.node_and_table(tree, node);
+    is_greater(table.count, limit)
 }

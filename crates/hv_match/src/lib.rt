@@ -1,4 +1,5 @@
-//! The candidates of the nodes of a plan: which child is which subtask, and which objects the parameters have.
+//! The candidates of the nodes of a plan: which child is which subtask, and which objects the
+//! parameters have.
 
 #![tactic(auto)]
 
@@ -9,14 +10,17 @@ mod counts;
 mod decided;
 mod laws;
 mod make;
+mod matcher;
 mod parts;
 mod puzzle;
 mod puzzle_laws;
 mod rule;
 mod sources;
 mod state;
+mod table;
 
 pub use candidates::Candidates;
 pub use check::is_candidate;
 pub use counts::{count, exceeds};
 pub use laws::{counts_are_one, nodes_have_methods};
+pub use matcher::Matcher;

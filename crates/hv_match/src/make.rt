@@ -1,9 +1,9 @@
-//! The puzzle of the search, made from a world and a node of a tree.
+//! What the search works on, made from a world and a node of a tree.
 
-ghost use Rattle.std.specs.Prelude.{◌≡◌, All, map, option_map, IfOk};
+ghost use Rattle.std.specs.Prelude.{◌≡◌, map, option_map, IfOk};
 ghost use Rattle.std.specs.List.Sorted.{IsStrictlyIncreasing};
 ghost use Rattle.hv_world.specs.Bindings.{object_number, ground_action_view};
-ghost use Rattle.hv_world.specs.Views.{type_number, term_view};
+ghost use Rattle.hv_world.specs.Views.{term_view};
 ghost use Rattle.hv_world.specs.Worlds.{terms_of};
 ghost use Rattle.hv_world.specs.MethodViews.{method_view};
 ghost use Rattle.hv_world.specs.WorldViews.{world_view};
@@ -11,13 +11,17 @@ ghost use Rattle.hv_plan.specs.BuiltTrees.{tree_view};
 ghost use Rattle.hv_plan.specs.TreeViews.{child_view, node_view};
 ghost use Rattle.hv_match.specs.Candidates as candidates;
 ghost use Rattle.hv_match.specs.inside.PuzzleViews.{puzzle_view};
+ghost use Rattle.hv_match.specs.inside.Lists.{AreAscending};
+ghost use Rattle.hv_match.specs.inside.Checks.{tasks_of, tasks_at};
 ghost use Rattle.hv_match.specs.inside.Tables.{work_view};
-ghost use Rattle.hv_match.specs.inside.Ranges.{IsRange, AreRanges, as_subtask, IsPuzzleOf};
+ghost use Rattle.hv_match.specs.inside.Ranges.{AreRangesOf, AreWorks, IsRange, as_subtask, IsTableOf};
 
-use crate::child_rows::child_rows_for;
+use crate::child_rows::{child_rows_for, row_keys};
+use crate::counts::exact_count;
 use crate::decided::decided;
 use crate::puzzle::{Puzzle, Work};
 use crate::sources::sources;
+use crate::table::MethodTable;
 use hv_plan::{Child, Node, Tree};
 use hv_text::Memory;
 use hv_world::{GroundAction, Method, ObjectId, TaskName, Term, TypeId, World};
@@ -37,8 +41,8 @@ pub(crate) fn ranges<'a>(
     world: &'a World<'_>,
     types: &[TypeId],
 ) -> Result<Vec<&'a [ObjectId]>, Memory>
-    ensures ascending { IfOk result (λ v. All (λ r. IsStrictlyIncreasing (map object_number r.now)) v.items) }
-    ensures ranges { IfOk result (λ v. AreRanges (world_view world.now).typing (map (λ r. map object_number r.now) v.items) (map type_number types.now)) }
+    ensures ascending { IfOk result (λ v. AreAscending v.items) }
+    ensures ranges { IfOk result (λ v. AreRangesOf (world_view world.now) v.items types.now) }
 {
     let mut ranges = Vec::new(alloc);
     for of in types {
@@ -92,7 +96,7 @@ fn works<'a>(
     tree: &'a Tree<'_, '_>,
     children: &[Child],
 ) -> Result<Vec<Option<Work<'a>>>, Memory>
-    ensures { IfOk result (λ v. map (option_map as_subtask) (map (option_map work_view) v.items) ≡ map (candidates.child_task (tree_view tree.now)) (map child_view children.now)) }
+    ensures { IfOk result (λ v. AreWorks (map (option_map work_view) v.items) (tasks_of tree.now children.now)) }
 {
     let mut works = Vec::new(alloc);
     for child in children {
@@ -111,37 +115,55 @@ pub(crate) fn terms<'a>(method: &'a Method<'_>) -> &'a [Term]
     }
 }
 
-/// The puzzle of a node and its method.
-pub(crate) fn puzzle<'a>(
+/// The table of a method of a world.
+pub(crate) fn method_table<'w>(
     alloc: Global,
-    world: &'a World<'_>,
-    tree: &'a Tree<'_, '_>,
-    node: &Node<'a>,
-    method: &'a Method<'_>,
-) -> Result<Puzzle<'a>, Memory>
-    ensures { IfOk result (λ p. IsPuzzleOf (world_view world.now) (method_view method.now) (node_view node.now).objects (candidates.child_tasks (tree_view tree.now) (node_view node.now)) (puzzle_view p)) }
+    world: &'w World<'_>,
+    method: &'w Method<'_>,
+) -> Result<MethodTable<'w>, Memory>
+    ensures { IfOk result (IsTableOf (world_view world.now) (method_view method.now)) }
 {
     let ranges = ranges(alloc, world, method.parameters())?;
+    let task = terms(method);
+    let subtasks = method.network().subtasks();
+    let constraints = method.network().constraints();
+    let keys = row_keys(alloc, subtasks)?;
+    let decided = decided(alloc, ranges.len(), constraints)?;
+    let sources = sources(alloc, ranges.len(), task, subtasks)?;
+    let count = exact_count(world, method);
+    Ok(MethodTable {
+        ranges,
+        task,
+        subtasks,
+        constraints,
+        keys,
+        decided,
+        sources,
+        count,
+    })
+}
+
+/// The puzzle of a node whose method has this table.
+pub(crate) fn puzzle<'a>(
+    alloc: Global,
+    table: &'a MethodTable<'a>,
+    tree: &'a Tree<'_, '_>,
+    node: &Node<'a>,
+) -> Result<Puzzle<'a>, Memory>
+    ensures table { IfOk result (λ p. p.table.now ≡ table.now) }
+    ensures given { IfOk result (λ p. (puzzle_view p).objects ≡ (node_view node.now).objects) }
+    ensures works { IfOk result (λ p. AreWorks (puzzle_view p).children (tasks_at tree.now node.now)) }
+{
     let children = works(alloc, tree, node.children())?;
     // 32 bits are enough for the children in every text
     if u32::try_from(children.len()).is_err() {
         return Err(Memory);
     }
-    let constraints = method.network().constraints();
-    let decided = decided(alloc, ranges.len(), constraints)?;
-    let task = terms(method);
-    let subtasks = method.network().subtasks();
-    let places = child_rows_for(alloc, subtasks, &children)?;
-    let sources = sources(alloc, ranges.len(), task, subtasks)?;
+    let places = child_rows_for(alloc, &table.keys, &children)?;
     Ok(Puzzle {
-        ranges,
-        task,
+        table,
         objects: node.objects(),
-        subtasks,
-        constraints,
         children,
         places,
-        decided,
-        sources,
     })
 }

@@ -1,17 +1,18 @@
 //! The candidates of a node as a search has them: what it chooses from, and what it wants.
 
-ghost use Rattle.std.specs.Prelude.{◌≡◌, ◌<◌, ◌≤◌, ◌+◌, ◌^◌, length, map, option_map, [], true, false, IfSome, IsSome, Some, None, slice_get, All};
+ghost use Rattle.std.specs.Prelude.{◌≡◌, ◌<◌, ◌≤◌, ◌+◌, ◌^◌, length, map, option_map, [], true, false, IfSome, IsSome, Some, None, slice_get};
 ghost use Rattle.std.specs.List.Sorted.{IsStrictlyIncreasing};
-ghost use Rattle.hv_world.specs.Bindings.{object_number};
+ghost use Rattle.hv_world.specs.Bindings.{object_number, object_of};
 ghost use Rattle.hv_world.specs.Alike as alike;
 ghost use Rattle.hv_world.specs.Views.{name_view, term_view, subtask_view, constraint_view};
 ghost use Rattle.hv_match.specs.inside.Search.{IsChoice, NothingBegins};
 ghost use Rattle.hv_match.specs.inside.Puzzles as puzzles;
-ghost use Rattle.hv_match.specs.inside.Tables.{work_view, source_view, AreChildRows, AreSources};
+ghost use Rattle.hv_match.specs.inside.Tables.{work_view, source_view, ArePlaces};
 
 use crate::child_rows::ChildRows;
 use crate::rule::Rule;
 use crate::sources::Source;
+use crate::table::MethodTable;
 use hv_world::{Constraint, ObjectId, Subtask, TaskName, Term};
 
 /// What a child does.
@@ -21,25 +22,16 @@ pub(crate) struct Work<'a> {
     pub(crate) objects: &'a [ObjectId],
 }
 
-/// A node and its method, made ready for the search. Each parameter has the objects of its type.
+/// A node and its method, made ready for the search.
 #[derive(Drop)]
 pub(crate) struct Puzzle<'a> {
-    pub(crate) ranges: Vec<&'a [ObjectId]>,
-    pub(crate) task: &'a [Term],
+    pub(crate) table: &'a MethodTable<'a>,
     pub(crate) objects: &'a [ObjectId],
-    pub(crate) subtasks: &'a [Subtask],
-    pub(crate) constraints: &'a [Constraint],
     pub(crate) children: Vec<Option<Work<'a>>>,
     /// For each subtask the places of the children that may do it.
-    pub(crate) places: ChildRows,
-    /// For each parameter the numbers of the constraints that are decided when it has its object.
-    pub(crate) decided: Vec<Vec<usize>>,
-    /// For each parameter the place from which it has its object.
-    pub(crate) sources: Vec<Option<Source>>,
+    pub(crate) places: ChildRows<'a>,
     pub(crate) ghost short: { length children.items < 2 ^ 32 },
-    pub(crate) ghost ascending: { All (λ r. IsStrictlyIncreasing (map object_number r.now)) ranges.items },
-    pub(crate) ghost placed: { AreChildRows (map subtask_view subtasks.now) (map (option_map work_view) children.items) places },
-    pub(crate) ghost sourced: { AreSources (length ranges.items) (map term_view task.now) (map subtask_view subtasks.now) sources.items },
+    pub(crate) ghost placed: { ArePlaces table.now.subtasks.now children.items places },
 }
 
 // The object at a position.
@@ -54,7 +46,7 @@ fn object_at(objects: &[ObjectId], position: usize) -> Option<usize>
 
 /// The object of a term under the objects of the parameters.
 pub(crate) fn value(values: &[usize], term: Term) -> usize
-    ensures { result ≡ puzzles.object_of values.now (term_view term) }
+    ensures { result ≡ object_of values.now (term_view term) }
 {
     match term {
         Term::Object(object) => object.0,
@@ -93,7 +85,8 @@ fn is_known(values: &[usize], term: Term) -> bool
     }
 }
 
-// Whether the first parameters, which have these objects, break a constraint, whatever the others have.
+// Whether the first parameters, which have these objects, break a constraint, whatever the others
+// have.
 fn breaks(values: &[usize], constraint: Constraint) -> bool
     ensures { result ≡ true → puzzles.IsBroken values.now (constraint_view constraint) }
 {
@@ -169,13 +162,13 @@ impl<'a> Puzzle<'a> {
         ensures { result ≡ puzzles.all_do (puzzle_view self.now).children values.now places.now (puzzle_view self.now).subtasks }
     {
         let mut at = 0;
-        while at < places.len() && at < self.subtasks.len() {
-            if !self.does(places[at], values, &self.subtasks[at]) {
+        while at < places.len() && at < self.table.subtasks.len() {
+            if !self.does(places[at], values, &self.table.subtasks[at]) {
                 return false;
             }
             at += 1;
         }
-        places.len() == self.subtasks.len()
+        places.len() == self.table.subtasks.len()
     }
 
     // Whether each parameter has an object that it may have.
@@ -183,24 +176,25 @@ impl<'a> Puzzle<'a> {
         ensures { result ≡ puzzles.are_in values.now (puzzle_view self.now).ranges }
     {
         let mut at = 0;
-        while at < values.len() && at < self.ranges.len() {
-            let range = self.ranges[at];
+        while at < values.len() && at < self.table.ranges.len() {
+            let range = self.table.ranges[at];
             if !is_in(values[at], range) {
                 return false;
             }
             at += 1;
         }
-        values.len() == self.ranges.len()
+        values.len() == self.table.ranges.len()
     }
 
-    // Whether the children at these places, which may be one, do the subtasks with these objects, and all else holds.
+    // Whether the children at these places, which may be one, do the subtasks with these objects, and
+    // all else holds.
     fn suits(&self, places: &[usize], values: &[usize]) -> bool
         ensures { result ≡ puzzles.suits (puzzle_view self.now) places.now values.now }
     {
         self.are_in(values)
-            && are_values(values, self.task, self.objects)
+            && are_values(values, self.table.task, self.objects)
             && self.all_do(values, places)
-            && all_hold(values, self.constraints)
+            && all_hold(values, self.table.constraints)
     }
 
     // The object at a place in a subtask's child, if it has one.
@@ -228,10 +222,10 @@ impl<'a> Puzzle<'a> {
 
     // What the task and the children chosen say of a parameter.
     fn bound(&self, chosen: &[usize], parameter: usize) -> Option<usize>
-        ensures bound { parameter < length self.now.ranges.items → result ≡ puzzles.bound (puzzle_view self.now) chosen.now parameter }
-        ensures other { length self.now.ranges.items ≤ parameter → result ≡ None }
+        ensures bound { parameter < length self.now.table.now.ranges.items → result ≡ puzzles.bound (puzzle_view self.now) chosen.now parameter }
+        ensures other { length self.now.table.now.ranges.items ≤ parameter → result ≡ None }
     {
-        match self.sources.get(parameter) {
+        match self.table.sources.get(parameter) {
             Some(Some(source)) => self.look(chosen, *source),
             _ => None,
         }
@@ -312,7 +306,7 @@ impl Puzzle<'_> {
 
     // The place of a number among those of the children that may do a subtask.
     fn child_choice(&self, subtask: usize, number: usize) -> Option<usize>
-        requires { subtask < length self.now.subtasks.now }
+        requires { subtask < length self.now.table.now.subtasks.now }
         ensures choice { IsChoice (puzzles.children_for (puzzle_view self.now) subtask) number result }
         ensures small { IsSome result → number + 1 < 2 ^ 64 }
         ensures within { IfSome result (λ x. x < length self.now.children.items) }
@@ -325,8 +319,8 @@ impl Puzzle<'_> {
         ensures { result ≡ true → NothingBegins (search_of self.now) [] }
     {
         let mut at = 0;
-        while at < self.ranges.len() {
-            let range = self.ranges[at];
+        while at < self.table.ranges.len() {
+            let range = self.table.ranges[at];
             if range.is_empty() {
                 return true;
             }
@@ -335,25 +329,28 @@ impl Puzzle<'_> {
         false
     }
 
-    // Whether the first parameters, which have these objects, break one of the constraints of these numbers.
+    // Whether the first parameters, which have these objects, break one of the constraints of these
+    // numbers.
     fn is_broken(&self, values: &[usize], numbers: &[usize]) -> bool
         ensures { result ≡ true → puzzles.AreBroken values.now (puzzle_view self.now).constraints }
     {
+        let constraints = self.table.constraints;
         for number in numbers {
-            if *number < self.constraints.len() && breaks(values, self.constraints[*number]) {
+            if *number < constraints.len() && breaks(values, constraints[*number]) {
                 return true;
             }
         }
         false
     }
 
-    // Says no only where nothing that is wanted begins with these children and objects, the last that of a parameter.
+    // Says no only where nothing that is wanted begins with these children and objects, the last that of
+    // a parameter.
     fn is_object_hopeful(&self, chosen: &[usize], parameter: usize) -> bool
-        requires { length self.now.subtasks.now ≤ length chosen.now }
+        requires { length self.now.table.now.subtasks.now ≤ length chosen.now }
         ensures { result ≡ false → NothingBegins (search_of self.now) chosen.now }
     {
-        match self.decided.get(parameter) {
-            Some(numbers) => !self.is_broken(&chosen[self.subtasks.len()..], numbers),
+        match self.table.decided.get(parameter) {
+            Some(numbers) => !self.is_broken(&chosen[self.table.subtasks.len()..], numbers),
             None => true,
         }
     }
@@ -361,10 +358,10 @@ impl Puzzle<'_> {
     // Says no only where nothing that is wanted begins with these children.
     fn is_child_hopeful(&self, chosen: &[usize], last: usize) -> bool
         requires size { length chosen.now ≡ last + 1 }
-        requires low { last < length self.now.subtasks.now }
+        requires low { last < length self.now.table.now.subtasks.now }
         ensures { result ≡ false → NothingBegins (search_of self.now) chosen.now }
     {
-        self.may_do(chosen, chosen[last], &self.subtasks[last])
+        self.may_do(chosen, chosen[last], &self.table.subtasks[last])
     }
 }
 
@@ -374,21 +371,21 @@ impl Rule for Puzzle<'_> {
     ghost search = { search_of };
 
     fn is_whole(&self, count: usize) -> bool {
-        match count.checked_sub(self.subtasks.len()) {
+        match count.checked_sub(self.table.subtasks.len()) {
             None => false,
-            Some(objects) => objects == self.ranges.len(),
+            Some(objects) => objects == self.table.ranges.len(),
         }
     }
 
     fn is_distinct(&self, level: usize) -> bool {
-        level < self.subtasks.len()
+        level < self.table.subtasks.len()
     }
 
     fn option(&self, chosen: &[usize], number: usize) -> Option<usize> {
-        match chosen.len().checked_sub(self.subtasks.len()) {
+        match chosen.len().checked_sub(self.table.subtasks.len()) {
             None => self.child_choice(chosen.len(), number),
             Some(parameter) => {
-                let range = self.ranges[parameter];
+                let range = self.table.ranges[parameter];
                 choice(self.bound(chosen, parameter), range, number)
             }
         }
@@ -398,17 +395,17 @@ impl Rule for Puzzle<'_> {
         match chosen.len().checked_sub(1) {
             None => true,
             Some(last) => {
-                if last < self.subtasks.len() {
+                if last < self.table.subtasks.len() {
                     self.is_child_hopeful(chosen, last)
                 } else {
-                    self.is_object_hopeful(chosen, last - self.subtasks.len())
+                    self.is_object_hopeful(chosen, last - self.table.subtasks.len())
                 }
             }
         }
     }
 
     fn is_good(&self, chosen: &[usize]) -> bool {
-        let subtasks = self.subtasks.len();
+        let subtasks = self.table.subtasks.len();
         subtasks == self.children.len() && self.suits(&chosen[..subtasks], &chosen[subtasks..])
     }
 }

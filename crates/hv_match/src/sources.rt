@@ -1,10 +1,8 @@
 //! The places from which parameters have their objects.
 
-ghost use Rattle.std.specs.Prelude.{◌≡◌, ◌<◌, ℕ, Some, length, map, IfOk, if◌then◌else◌};
-ghost use Rattle.hv_world.specs.Alike.{is_variable};
+ghost use Rattle.std.specs.Prelude.{◌≡◌, length, map, IfOk};
 ghost use Rattle.hv_world.specs.Views.{term_view, subtask_view};
-ghost use Rattle.hv_match.specs.inside.Puzzles.{first_in, first_of};
-ghost use Rattle.hv_match.specs.inside.Tables.{source_at, source_view, AreSources};
+ghost use Rattle.hv_match.specs.inside.Tables.{source_view, AreAllWritten, AreSourcesOf, AreWritten, IsWritten};
 
 use hv_text::Memory;
 use hv_world::{Subtask, Term};
@@ -20,7 +18,7 @@ pub(crate) struct Source {
 // Writes down a source for the parameter that a term is, if it is one.
 fn write(sources: &mut [Option<Source>], term: Term, source: Source)
     ensures size { length sources.new ≡ length sources.old }
-    ensures sources { (i : ℕ) → i < length sources.old → source_at sources.new i ≡ (if is_variable i (term_view term) then Some (source_view source) else source_at sources.old i) }
+    ensures sources { IsWritten sources.old (term_view term) (source_view source) sources.new }
 {
     if let Term::Variable(variable) = term
         && variable < sources.len()
@@ -29,11 +27,11 @@ fn write(sources: &mut [Option<Source>], term: Term, source: Source)
     }
 }
 
-// Writes down a source for each parameter among the terms of a subtask or of the task, from the last to the first, so
-// that the first stays.
+// Writes down a source for each parameter among the terms of a subtask or of the task, from the last
+// to the first, so that the first stays.
 fn write_terms(sources: &mut [Option<Source>], subtask: Option<usize>, terms: &[Term])
     ensures size { length sources.new ≡ length sources.old }
-    ensures sources { (i : ℕ) → i < length sources.old → source_at sources.new i ≡ first_in subtask i 0 (map term_view terms.now) (source_at sources.old i) }
+    ensures sources { AreWritten sources.old subtask (map term_view terms.now) sources.new }
 {
     let mut position = terms.len();
     while position > 0 {
@@ -45,7 +43,7 @@ fn write_terms(sources: &mut [Option<Source>], subtask: Option<usize>, terms: &[
 // The same for all subtasks.
 fn write_subtasks(sources: &mut [Option<Source>], subtasks: &[Subtask])
     ensures size { length sources.new ≡ length sources.old }
-    ensures sources { (i : ℕ) → i < length sources.old → source_at sources.new i ≡ first_of i 0 (map subtask_view subtasks.now) (source_at sources.old i) }
+    ensures sources { AreAllWritten sources.old (map subtask_view subtasks.now) sources.new }
 {
     let mut number = subtasks.len();
     while number > 0 {
@@ -61,7 +59,7 @@ pub(crate) fn sources(
     task: &[Term],
     subtasks: &[Subtask],
 ) -> Result<Vec<Option<Source>>, Memory>
-    ensures { IfOk result (λ v. AreSources parameters (map term_view task.now) (map subtask_view subtasks.now) v.items) }
+    ensures { IfOk result (λ v. AreSourcesOf parameters task.now subtasks.now v.items) }
 {
     let mut sources = vec![in alloc; None; parameters]?;
     write_subtasks(&mut sources, subtasks);

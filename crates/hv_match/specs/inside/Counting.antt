@@ -1,7 +1,7 @@
 -- How many ways there are to match, counted one place after another.
-use Rattle.std.specs.Prelude.{◌≡◌, ℕ, zero, suc, ◌+◌, ◌*◌, ◌<◌, List, [], ◌∷◌, length, map}
+use Rattle.std.specs.Prelude.{◌≡◌, ℕ, zero, suc, ◌+◌, ◌*◌, ◌<◌, List, [], ◌∷◌, length, map, Contains}
 use Rattle.hv_world.specs.Alike.{Key, how_many}
-use Rattle.hv_match.specs.inside.Lists.{Mem, Once}
+use Rattle.hv_text.specs.Lists.{Once}
 
 -- how many of the keys, from the first on, are like the first
 abbrev pub first_alike : List Key → ℕ
@@ -15,7 +15,7 @@ rising (k ∷ ks) = (1 + how_many k ks) * rising ks
 -- M gives to each of the places, whose keys are ks, a number of its own with that key; the numbers are all below the number of places
 pub record IsMatching (key : ℕ → Key) (ks : List Key) (M : List ℕ) : Type 0 where
   pub once : Once M
-  pub below : (x : ℕ) → Mem M x → x < length ks
+  pub below : (x : ℕ) → Contains M x → x < length ks
   pub keys : map key M ≡ ks
 
 -- the product of the factors of k levels from level l on

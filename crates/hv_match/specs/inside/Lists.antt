@@ -1,12 +1,10 @@
--- Words on lists: each element once, and products of factors.
-use Rattle.std.specs.Prelude.{◌≡◌, ◌⊎◌, List, [], ◌∷◌}
+-- Ascending lists of objects.
+use Rattle.std.specs.Borrow.{Bor}
+use Rattle.std.specs.List.Sorted.{IsStrictlyIncreasing}
+use Rattle.std.specs.Prelude.{List, All, map}
+use Rattle.hv_world.specs.Bindings.{object_number}
+use Rattle.hv_world.specs.declared.id.ObjectId.{ObjectId}
 
--- x is in the list
-abbrev pub Mem : {X : Type 0} → List X → X → Type 0
-Mem [] x = ⊥
-Mem (y ∷ ys) x = (y ≡ x) ⊎ Mem ys x
-
--- no element stands twice
-abbrev pub Once : {X : Type 0} → List X → Type 0
-Once [] = Unit {0}
-Once (x ∷ xs) = (Mem xs x → ⊥) × Once xs
+-- the objects of each of these lists ascend
+abbrev pub AreAscending : List (Bor (List ObjectId)) → Type 0
+AreAscending rs = All (λ r. IsStrictlyIncreasing (map object_number r.now)) rs

@@ -1,11 +1,20 @@
 -- What a search finds, as candidates.
-use Rattle.std.specs.Prelude.{ℕ, List, [], map, length, take, drop}
+use Rattle.std.specs.Prelude.{◌≡◌, ◌↔◌, ◌≤◌, ℕ, List, [], map, length, take, drop, Contains}
+use Rattle.hv_text.specs.Lists.{Once}
+use Rattle.hv_world.specs.Bindings.{object_number}
+use Rattle.hv_world.specs.Worlds.{World, Method}
+use Rattle.hv_world.specs.declared.id.ObjectId.{ObjectId}
+use Rattle.hv_plan.specs.PlanTrees.{Node, PlanTree}
+use Rattle.hv_match.specs.Candidates.{IsCandidate, Listing, child_tasks}
+use Rattle.hv_match.specs.Counts.{IsCount}
 use Rattle.hv_match.specs.inside.Search.{below}
 use Rattle.hv_match.specs.inside.States.{to_come, IsState}
 use Rattle.hv_match.specs.inside.Puzzles.{Puzzle, options, levels, is_good}
 use Rattle.hv_match.specs.inside.PuzzleViews.{puzzle_view}
+use Rattle.hv_match.specs.inside.Ranges.{IsTableOf}
 use Rattle.hv_match.specs.declared.puzzle.Puzzle as code
 use Rattle.hv_match.specs.declared.state.State.{State}
+use Rattle.hv_match.specs.declared.table.MethodTable.{MethodTable}
 
 -- the first so many of a whole choice, and the others
 abbrev pub parts : ℕ → List ℕ → List ℕ × List ℕ
@@ -21,4 +30,23 @@ coming p at = map (parts (length p.subtasks)) (to_come (options p) (is_good p) (
 
 -- where the search for the matches of a puzzle may be
 abbrev pub IsStateOf : code.Puzzle → State → Type 0
-IsStateOf p at = IsState (options (puzzle_view p)) (levels (puzzle_view p)) (length p.subtasks.now) (length p.children.items) at
+IsStateOf p at = IsState (options (puzzle_view p)) (levels (puzzle_view p)) (length p.table.now.subtasks.now) (length p.children.items) at
+
+-- a list of candidates, of which one with these children and objects is lent
+abbrev pub listing : code.Puzzle → State → List ℕ → List ObjectId → Listing
+listing p at M os = record { children = M; objects = map object_number os; coming = coming (puzzle_view p) at }
+
+-- the search stands where it may, and what is lent has room for the children and the objects of a match
+abbrev pub IsListing : code.Puzzle → State → List ℕ → List ObjectId → Type 0
+IsListing p at M os =
+    IsStateOf p at × (length M ≡ length p.table.now.subtasks.now) × (length os ≡ length p.table.now.ranges.items)
+
+-- to come are just the candidates of a node by its method, each once, and no more than the count
+pub record IsWhole (w : World) (m : Method) (t : PlanTree) (n : Node) (l : Listing) : Type 0 where
+  pub exact : (M B : List ℕ) → Contains l.coming (M, B) ↔ IsCandidate w m n.objects (child_tasks t n) M B
+  pub once : Once l.coming
+  pub few : (k : ℕ) → IsCount w m k → length l.coming ≤ k
+
+-- so for each method whose table this is
+abbrev pub IsWholeBy : MethodTable → PlanTree → Node → Listing → Type 0
+IsWholeBy table t n l = (w : World) (m : Method) → IsTableOf w m table → IsWhole w m t n l

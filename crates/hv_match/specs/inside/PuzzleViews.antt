@@ -9,11 +9,11 @@ use Rattle.hv_match.specs.declared.puzzle.Puzzle as code
 
 abbrev pub puzzle_view : code.Puzzle → Puzzle
 puzzle_view p = record {
-  ranges = map (λ r. map object_number r.now) p.ranges.items;
-  task = map term_view p.task.now;
+  ranges = map (λ r. map object_number r.now) p.table.now.ranges.items;
+  task = map term_view p.table.now.task.now;
   objects = map object_number p.objects.now;
-  subtasks = map subtask_view p.subtasks.now;
-  constraints = map constraint_view p.constraints.now;
+  subtasks = map subtask_view p.table.now.subtasks.now;
+  constraints = map constraint_view p.table.now.constraints.now;
   children = map (option_map work_view) p.children.items;
 }
 
@@ -23,6 +23,6 @@ search_of p = record {
   options = options (puzzle_view p);
   good = is_good (puzzle_view p);
   levels = levels (puzzle_view p);
-  distinct = length p.subtasks.now;
+  distinct = length p.table.now.subtasks.now;
   width = length p.children.items;
 }

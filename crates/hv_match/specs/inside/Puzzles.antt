@@ -1,10 +1,11 @@
 -- What the search for the candidates of a node works on, and what it tests.
-use Rattle.std.specs.Prelude.{◌≡◌, ◌<◌, ◌*◌, ℕ, ◌+◌, ◌-◌, Bool, true, false, not, ◌&&◌, List, [], ◌∷◌, ◌++◌, map, length, take, drop, nat_eq, slice_get, slice_index, slice_index_or, Option, Some, None, if◌then◌else◌}
+use Rattle.std.specs.Prelude.{◌≡◌, ◌<◌, ◌*◌, ℕ, ◌+◌, ◌-◌, Bool, true, false, not, ◌&&◌, List, [], ◌∷◌, ◌++◌, map, length, take, drop, nat_eq, slice_get, slice_index, slice_index_or, Option, Some, None, if◌then◌else◌, Contains}
 use Rattle.std.specs.List.{AllZip}
 use Rattle.hv_world.specs.Values.{Term, object, variable, TaskName, Subtask, Constraint}
+use Rattle.hv_world.specs.Bindings.{object_of}
 use Rattle.hv_world.specs.Alike.{same_name, is_variable, is_free, keys}
-use Rattle.hv_world.specs.Alike.Kept.{is_object}
-use Rattle.hv_match.specs.inside.Lists.{Mem, Once}
+use Rattle.hv_world.specs.inside.Kept.{is_object}
+use Rattle.hv_text.specs.Lists.{Once}
 use Rattle.hv_match.specs.Counts.{product}
 use Rattle.hv_match.specs.inside.Counting.{rising}
 
@@ -25,11 +26,6 @@ pub record Puzzle : Type 0 where
   pub subtasks : List Subtask
   pub constraints : List Constraint
   pub children : List (Option Work)
-
--- the object of a term under B
-abbrev pub object_of : List ℕ → Term → ℕ
-object_of B (object o) = o
-object_of B (variable v) = slice_index B v
 
 -- the child at a place, and its objects
 abbrev pub child_at : List (Option Work) → ℕ → Option Work
@@ -170,9 +166,9 @@ Done cs B x s = child_at cs x ≡ Some (work s.name (map (object_of B) s.terms))
 -- what the tests are for
 pub record IsMatch (p : Puzzle) (M B : List ℕ) : Type 0 where
   pub once : Once M
-  pub within : (x : ℕ) → Mem M x → x < length p.children
+  pub within : (x : ℕ) → Contains M x → x < length p.children
   pub all : length M ≡ length p.children
-  pub typed : AllZip (λ o r. Mem r o) B p.ranges
+  pub typed : AllZip (λ o r. Contains r o) B p.ranges
   pub task : map (object_of B) p.task ≡ p.objects
   pub done : AllZip (Done p.children B) M p.subtasks
   pub constraints : all_hold B p.constraints ≡ true

@@ -1,12 +1,11 @@
 -- All the lists that a search finds.
-use Rattle.std.specs.Prelude.{ℕ, zero, suc, ◌+◌, ◌<◌, ◌≤◌, ◌≡◌, Bool, List, [], ◌∷◌, ◌++◌, drop, length, true, if◌then◌else◌, Option, MatchOption}
+use Rattle.std.specs.Prelude.{ℕ, zero, suc, ◌+◌, ◌<◌, ◌≤◌, ◌≡◌, Bool, List, [], ◌∷◌, ◌++◌, drop, length, true, if◌then◌else◌, Option, MatchOption, Contains}
 use Rattle.std.specs.List.{flat_map}
-use Rattle.hv_match.specs.inside.Lists.{Mem}
 
 -- each choice is one of those that may follow what stands before it, which begins with p
 abbrev pub IsPath : (List ℕ → List ℕ) → List ℕ → List ℕ → Type 0
 IsPath options p [] = Unit {0}
-IsPath options p (x ∷ xs) = Mem (options p) x × IsPath options (p ++ x ∷ []) xs
+IsPath options p (x ∷ xs) = Contains (options p) x × IsPath options (p ++ x ∷ []) xs
 
 -- all that is wanted with k choices after p, the first of them not among the first c that may follow
 abbrev pub below : (List ℕ → List ℕ) → (List ℕ → Bool) → ℕ → List ℕ → ℕ → List (List ℕ)
@@ -42,7 +41,7 @@ IsWithin s p x = length p < s.distinct → x < s.width
 
 -- where the choice after p is to differ from those before it, it does
 abbrev pub Differs : Search → List ℕ → ℕ → Type 0
-Differs s p x = length p < s.distinct → Mem p x → ⊥
+Differs s p x = length p < s.distinct → Contains p x → ⊥
 
 -- the choice of a number, if there are so many
 abbrev pub IsChoice : List ℕ → ℕ → Option ℕ → Type 0

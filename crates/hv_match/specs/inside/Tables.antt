@@ -2,12 +2,16 @@
 use Rattle.std.specs.Prelude.{◌≡◌, ◌<◌, ◌++◌, ◌||◌, ℕ, suc, Bool, true, false, List, [], ◌∷◌, map, length, Option, None, Some, option_map, slice_get, slice_index_or, if◌then◌else◌}
 use Rattle.std.specs.Global.{Vec}
 use Rattle.std.specs.Str.{bytes_eq}
-use Rattle.hv_world.specs.Bindings.{object_number}
+use Rattle.hv_world.specs.Bindings.{object_number, object_of}
 use Rattle.hv_world.specs.Values.{Term, TaskName, compound, primitive, Subtask}
-use Rattle.hv_world.specs.Views.{name_view}
-use Rattle.hv_match.specs.inside.Puzzles.{Work, work, object_of, is_ground, may_do, places_where, source_of}
+use Rattle.hv_world.specs.Alike.{is_variable}
+use Rattle.hv_world.specs.Views.{name_view, term_view, subtask_view}
+use Rattle.hv_world.specs.declared.formula.Subtask as code_subtask
+use Rattle.hv_world.specs.declared.formula.Term as code_term
+use Rattle.hv_match.specs.inside.Puzzles.{Work, work, is_ground, may_do, places_where, first_in, first_of, source_of}
 use Rattle.hv_match.specs.declared.puzzle.Work as code_work
 use Rattle.hv_match.specs.declared.child_rows.ChildRows.{ChildRows}
+use Rattle.hv_match.specs.declared.child_rows.RowKeys.{RowKeys}
 use Rattle.hv_match.specs.declared.sources.Source.{Source}
 
 abbrev pub work_view : code_work.Work → Work
@@ -43,13 +47,47 @@ row_at rows i = slice_index_or (map (λ v. v.items) rows) i []
 abbrev pub AreRows : List (Vec ℕ) → List (Option Work) → List (Vec ℕ) → Type 0
 AreRows keys cs rows = (k : List ℕ) (i : ℕ) → number_of k keys ≡ Some i → row_at rows i ≡ places_where (has_key k) 0 cs
 
+-- the number of the key of a subtask
+abbrev pub IsKeyNumber : List (Vec ℕ) → Subtask → ℕ → Type 0
+IsKeyNumber keys s i = number_of (subtask_key s) keys ≡ Some i
+
+-- the numbers of the keys of subtasks
+abbrev pub AreKeyNumbers : List (Vec ℕ) → List Subtask → List ℕ → Type 0
+AreKeyNumbers keys ss is = map (λ s. number_of (subtask_key s) keys) ss ≡ map Some is
+
+-- each key has the number that it had
+abbrev pub KeepNumbers : List (Vec ℕ) → List (Vec ℕ) → Type 0
+KeepNumbers old new = (k : List ℕ) (i : ℕ) → number_of k old ≡ Some i → number_of k new ≡ Some i
+
+-- each subtask has the number of its key
+abbrev pub AreKeys : List Subtask → RowKeys → Type 0
+AreKeys ss k = AreKeyNumbers k.keys.keys ss k.row_of.items
+
+-- a place stands behind those of a key, and the other rows are as they were
+abbrev pub HasPut : List (Vec ℕ) → List ℕ → ℕ → List (Vec ℕ) → List (Vec ℕ) → Type 0
+HasPut keys key place old new =
+    (k : List ℕ) (i : ℕ) → number_of k keys ≡ Some i → row_at new i ≡ row_at old i ++ (if bytes_eq key k then place ∷ [] else [])
+
+-- the rows take account of one child more
+abbrev pub HasPutChild : List (Vec ℕ) → Option Work → ℕ → List (Vec ℕ) → List (Vec ℕ) → Type 0
+HasPutChild keys child place old new =
+    (cs : List (Option Work)) → length cs ≡ place → AreRows keys cs old → AreRows keys (cs ++ child ∷ []) new
+
 -- the row of the subtask of a number
 abbrev pub row_for : ChildRows → ℕ → List ℕ
-row_for p j = elim (slice_get p.row_of.items j) [ None ↦ [] | Some i ↦ row_at p.rows.items i ]
+row_for p j = elim (slice_get p.keys.now.row_of.items j) [ None ↦ [] | Some i ↦ row_at p.rows.items i ]
 
 -- the row of each subtask has the places of the children that may do it
 abbrev pub AreChildRows : List Subtask → List (Option Work) → ChildRows → Type 0
 AreChildRows ss cs p = (j : ℕ) (s : Subtask) → slice_get ss j ≡ Some s → row_for p j ≡ places_where (may_do s) 0 cs
+
+-- the same with the subtasks and the children of the code
+abbrev pub ArePlaces : List code_subtask.Subtask → List (Option code_work.Work) → ChildRows → Type 0
+ArePlaces ss cs p = AreChildRows (map subtask_view ss) (map (option_map work_view) cs) p
+
+-- it has them for each of the methods whose subtasks have these keys
+abbrev pub AreChildRowsBy : RowKeys → List (Option Work) → ChildRows → Type 0
+AreChildRowsBy k cs p = (ss : List Subtask) → AreKeys ss k → AreChildRows ss cs p
 
 abbrev pub source_view : Source → Option ℕ × ℕ
 source_view s = (s.subtask, s.position)
@@ -61,3 +99,20 @@ source_at xs i = option_map source_view (slice_index_or xs i None)
 pub record AreSources (n : ℕ) (ts : List Term) (ss : List Subtask) (xs : List (Option Source)) : Type 0 where
   pub size : length xs ≡ n
   pub sources : (i : ℕ) → i < n → source_at xs i ≡ source_of ts ss i
+
+-- the same with the terms and subtasks of the code
+abbrev pub AreSourcesOf : ℕ → List code_term.Term → List code_subtask.Subtask → List (Option Source) → Type 0
+AreSourcesOf n ts ss xs = AreSources n (map term_view ts) (map subtask_view ss) xs
+
+-- the parameter that the term is, if it is one, has the source, and the others have what they had
+abbrev pub IsWritten : List (Option Source) → Term → Option ℕ × ℕ → List (Option Source) → Type 0
+IsWritten old t s new =
+    (i : ℕ) → i < length old → source_at new i ≡ (if is_variable i t then Some s else source_at old i)
+
+-- each parameter among the terms of a subtask or of the task has its first position there for its source
+abbrev pub AreWritten : List (Option Source) → Option ℕ → List Term → List (Option Source) → Type 0
+AreWritten old j ts new = (i : ℕ) → i < length old → source_at new i ≡ first_in j i 0 ts (source_at old i)
+
+-- each parameter among the terms of subtasks has its first position there for its source
+abbrev pub AreAllWritten : List (Option Source) → List Subtask → List (Option Source) → Type 0
+AreAllWritten old ss new = (i : ℕ) → i < length old → source_at new i ≡ first_of i 0 ss (source_at old i)

@@ -8,7 +8,7 @@ use Rattle.hv_world.specs.Views.{subtask_view, constraint_view}
 use Rattle.hv_world.specs.Worlds.{Network, terms_of}
 use Rattle.hv_world.specs.WorldViews.{world_view}
 use Rattle.hv_plan.specs.BuiltTrees.{tree_view}
-use Rattle.hv_plan.specs.Fits.{AreOf}
+use Rattle.hv_world.specs.Groundings.{AreOf}
 use Rattle.hv_plan.specs.TreeViews.{child_view, node_view}
 use Rattle.hv_match.specs.Candidates.{Does, child_task, child_tasks}
 use Rattle.hv_match.specs.inside.Checks.{AreAllPlaces}
@@ -29,7 +29,7 @@ returns c =
     let values : c.in_ok-values.values.items ≡ B = c.in_ok-values.ensures in
     let all : (c.in_ok-is_once.is_once ≡ true → AreAllPlaces (length cs) M) × (AreAllPlaces (length cs) M → c.in_ok-is_once.is_once ≡ true) =
     subst (λ (k : ℕ). (c.in_ok-is_once.is_once ≡ true → AreAllPlaces k M) × (AreAllPlaces k M → c.in_ok-is_once.is_once ≡ true)) many c.in_ok-is_once.ensures in
-    let one : (c.if-is_once.value ≡ true → (c.in_ok-is_once.is_once ≡ true) × AreOf w B m.parameters) × (c.in_ok-is_once.is_once ≡ true → AreOf w B m.parameters → c.if-is_once.value ≡ true) = elim c.if-is_once.branch [
+    let one : (c.if-is_once.value ≡ true → (c.in_ok-is_once.is_once ≡ true) × AreOf w.typing B m.parameters) × (c.in_ok-is_once.is_once ≡ true → AreOf w.typing B m.parameters → c.if-is_once.value ≡ true) = elim c.if-is_once.branch [
       | then-is_once s ↦ (λ e. (s.if-is_once.true, rw s.parameters.ensures at (s.are_of.ensures.0 (sym s.value-is ∙ e))), λ o a. s.value-is ∙ s.are_of.ensures.1 (rw s.parameters.ensures a))
       | else-is_once s ↦ (λ e. absurd (none (sym s.value-is ∙ e) s.if-is_once.false), λ o a. absurd (none o s.if-is_once.false))
     ] in

@@ -1,6 +1,6 @@
 use Rattle.std.proofs.Common.{◌≡◌, ◌++◌, [], map, take}
+use Rattle.hv_world.specs.Bindings.{object_of}
 use Rattle.hv_world.specs.Views.{term_view}
-use Rattle.hv_match.specs.inside.Puzzles.{object_of}
 use Rattle.hv_match.proofs.child_rows.push_terms.Given as goal
 
 abbrev pub invariant-loop-term : goal.invariant-loop-term

@@ -13,4 +13,4 @@ write_places-requires-clause-small c =
     let at = c.find.new.at in
     let good = found_good p at c.in_ok-is_found.is_found c.in_ok-is_found.ensures.found c.if-is_found.true in
     let many : length p.children ≡ length code.children.items = length-map code.children.items (option_map work_view) in
-    rw c.deref.ensures.value (found_small p at.chosen.items (length code.subtasks.now) 4294967296 (length-map code.subtasks.now subtask_view) (omega (arith, many, code.short)) good)
+    rw c.deref.ensures.value (found_small p at.chosen.items (length code.table.now.subtasks.now) 4294967296 (length-map code.table.now.subtasks.now subtask_view) (omega (arith, many, code.short)) good)

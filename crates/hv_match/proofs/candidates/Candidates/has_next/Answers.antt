@@ -6,4 +6,4 @@ use Rattle.hv_match.proofs.candidates.Candidates.has_next.Goals as goal
 pub returns-clause-ok : goal.returns-clause-ok
 returns-clause-ok c =
     let code = c.self.inside.puzzle in
-    found_comes (puzzle_view code) c.find.new.at (length code.subtasks.now) (length code.children.items) c.in_ok-is_left.is_left c.in_ok-is_left.ensures.place c.in_ok-is_left.ensures.found
+    found_comes (puzzle_view code) c.find.new.at (length code.table.now.subtasks.now) (length code.children.items) c.in_ok-is_left.is_left c.in_ok-is_left.ensures.place c.in_ok-is_left.ensures.found

@@ -9,18 +9,18 @@ use Rattle.hv_match.proofs.puzzle.Puzzle.are_in.Goals.{then-loop-at-test+else-at
 pub returns-then-not-is_in : goal.returns-then-not-is_in
 returns-then-not-is_in c =
     let vs = c.args.values.now in
-    let rs = c.args.self.now.ranges.items in
+    let rs = c.args.self.now.table.now.ranges.items in
     let i = c.loop-at.at in
-    let k : i < length rs = omega (arith, c.if-at-len.true, c.len.ensures, c.args.self.now.ranges.ok.0) in
+    let k : i < length rs = omega (arith, c.if-at-len.true, c.len.ensures, c.args.self.now.table.now.ranges.ok.0) in
     let is = c.is_in.ensures ∙ ap (λ (r : Bor (List ObjectId)). has (get_or vs i 0) (map object_number r.now)) c.index-range.ensures in
     sym (c.loop-at.invariant.2 ∙ allowed_no (λ (r : Bor (List ObjectId)). map object_number r.now) vs rs i c.index-range.result.now c.loop-at-test.true k c.is_in.result is c.if-not-is_in.true)
 
 pub loop-at-preserved : goal.loop-at-preserved
 loop-at-preserved c =
     let vs = c.args.values.now in
-    let rs = c.args.self.now.ranges.items in
+    let rs = c.args.self.now.table.now.ranges.items in
     let i = c.loop-at.at in
-    let k : i < length rs = omega (arith, c.if-at-len.true, c.len.ensures, c.args.self.now.ranges.ok.0) in
+    let k : i < length rs = omega (arith, c.if-at-len.true, c.len.ensures, c.args.self.now.table.now.ranges.ok.0) in
     let is = c.is_in.ensures ∙ ap (λ (r : Bor (List ObjectId)). has (get_or vs i 0) (map object_number r.now)) c.index-range.ensures in (
       omega (arith, c.loop-at-test.true),
       omega (arith, k),
@@ -30,11 +30,11 @@ loop-at-preserved c =
 pub returns : goal.returns
 returns c =
     let vs = c.args.values.now in
-    let rs = c.args.self.now.ranges.items in
+    let rs = c.args.self.now.table.now.ranges.items in
     let i = c.loop-at.at in
     let end = allowed_end (λ (r : Bor (List ObjectId)). map object_number r.now) vs rs i c.loop-at.invariant.0 c.loop-at.invariant.1 in
-    let size : c.len-2.result ≡ length rs = omega (arith, c.len-2.ensures, c.args.self.now.ranges.ok.0) in
+    let size : c.len-2.result ≡ length rs = omega (arith, c.len-2.ensures, c.args.self.now.table.now.ranges.ok.0) in
     ap (λ (n : ℕ). nat_eq (length vs) n) size ∙ elim c.loop-at-test.branch [
-      | then-loop-at-test+else-at-len w ↦ sym (c.loop-at.invariant.2 ∙ end (inr (omega (arith, w.if-at-len.false, w.len.ensures, c.args.self.now.ranges.ok.0))))
+      | then-loop-at-test+else-at-len w ↦ sym (c.loop-at.invariant.2 ∙ end (inr (omega (arith, w.if-at-len.false, w.len.ensures, c.args.self.now.table.now.ranges.ok.0))))
       | else-loop-at-test w ↦ sym (c.loop-at.invariant.2 ∙ end (inl w.loop-at-test.false))
     ]

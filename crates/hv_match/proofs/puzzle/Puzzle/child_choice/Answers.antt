@@ -11,14 +11,14 @@ use Rattle.hv_match.proofs.puzzle.Puzzle.child_choice.Goals as goal
 pub returns-clause-choice : goal.returns-clause-choice
 returns-clause-choice c =
     let p = puzzle_view c.args.self.now in
-    let size : length p.subtasks ≡ length c.args.self.now.subtasks.now = length-map c.args.self.now.subtasks.now subtask_view in
+    let size : length p.subtasks ≡ length c.args.self.now.table.now.subtasks.now = length-map c.args.self.now.table.now.subtasks.now subtask_view in
     let are : c.row.result.now ≡ children_for p c.args.subtask = c.row.ensures ∙ row_is p.subtasks p.children c.args.self.now.places c.args.subtask c.args.self.now.placed (omega (arith, c.requires, size)) in
     subst (λ (l : List ℕ). MatchOption c.row_choice.result (length l ≤ c.args.number) (λ x. drop c.args.number l ≡ x ∷ drop (c.args.number + 1) l)) are c.row_choice.ensures.choice
 
 pub returns-clause-within : goal.returns-clause-within
 returns-clause-within c =
     let p = puzzle_view c.args.self.now in
-    let size : length p.subtasks ≡ length c.args.self.now.subtasks.now = length-map c.args.self.now.subtasks.now subtask_view in
+    let size : length p.subtasks ≡ length c.args.self.now.table.now.subtasks.now = length-map c.args.self.now.table.now.subtasks.now subtask_view in
     let width : length p.children ≡ length c.args.self.now.children.items = length-map c.args.self.now.children.items (option_map work_view) in
     let are : c.row.result.now ≡ children_for p c.args.subtask = c.row.ensures ∙ row_is p.subtasks p.children c.args.self.now.places c.args.subtask c.args.self.now.placed (omega (arith, c.requires, size)) in
     let choice = subst (λ (l : List ℕ). MatchOption c.row_choice.result (length l ≤ c.args.number) (λ x. drop c.args.number l ≡ x ∷ drop (c.args.number + 1) l)) are c.row_choice.ensures.choice in

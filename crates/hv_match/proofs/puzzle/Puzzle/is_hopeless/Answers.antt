@@ -11,10 +11,10 @@ empty (o ∷ os) e = absurd (omega arith)
 
 pub returns-then-is_empty : goal.returns-then-is_empty
 returns-then-is_empty c =
-    let rs = c.args.self.now.ranges.items in
+    let rs = c.args.self.now.table.now.ranges.items in
     let i = c.loop-at.at in
     let os = c.index-range.result.now.now in
-    let lt : i < length rs = omega (arith, c.loop-at-test.true, c.len.ensures, c.args.self.now.ranges.ok.0) in
+    let lt : i < length rs = omega (arith, c.loop-at-test.true, c.len.ensures, c.args.self.now.table.now.ranges.ok.0) in
     let none : map object_number os ≡ [] = empty os (eqb-true (length os) 0 (sym c.is_empty.ensures ∙ c.if-is_empty.true)) in
     let there : map object_number (get_or rs i c.index-range.result.now).now ≡ [] = ap (λ (r : Bor (List ObjectId)). map object_number r.now) (sym c.index-range.ensures) ∙ none in
     (λ e k. none_wanted (puzzle_view c.args.self.now) (λ (r : Bor (List ObjectId)). map object_number r.now) rs i c.index-range.result.now refl lt there k)

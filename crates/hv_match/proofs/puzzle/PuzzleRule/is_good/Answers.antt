@@ -9,7 +9,7 @@ use Rattle.hv_match.proofs.puzzle.PuzzleRule.is_good.Goals as goal
 
 pub returns-then-subtasks-len : goal.returns-then-subtasks-len
 returns-then-subtasks-len c =
-    let ss = c.args.self.now.subtasks.now in
+    let ss = c.args.self.now.table.now.subtasks.now in
     let cs = c.args.self.now.children.items in
     let q = c.args.chosen.now in
     let p = puzzle_view c.args.self.now in

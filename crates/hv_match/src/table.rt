@@ -1,0 +1,32 @@
+//! What the search keeps of a method.
+
+ghost use Rattle.std.specs.Prelude.{map, length};
+ghost use Rattle.hv_world.specs.Views.{subtask_view};
+ghost use Rattle.hv_match.specs.inside.Lists.{AreAscending};
+ghost use Rattle.hv_match.specs.inside.Tables.{AreKeys, AreSourcesOf};
+
+use crate::child_rows::RowKeys;
+use crate::sources::Source;
+use hv_world::{Constraint, ObjectId, Subtask, Term};
+
+/// What the search keeps of a method, whichever node it decomposes.
+#[derive(Drop)]
+pub(crate) struct MethodTable<'w> {
+    /// For each parameter the objects of its type.
+    pub(crate) ranges: Vec<&'w [ObjectId]>,
+    /// The terms of the task.
+    pub(crate) task: &'w [Term],
+    pub(crate) subtasks: &'w [Subtask],
+    pub(crate) constraints: &'w [Constraint],
+    /// For each subtask the key of the children that may do it.
+    pub(crate) keys: RowKeys,
+    /// For each parameter the numbers of the constraints that are decided when it has its object.
+    pub(crate) decided: Vec<Vec<usize>>,
+    /// For each parameter the place from which it has its object.
+    pub(crate) sources: Vec<Option<Source>>,
+    /// The count, if 64 bits hold it.
+    pub(crate) count: Option<u64>,
+    pub(crate) ghost ascending: { AreAscending ranges.items },
+    pub(crate) ghost keyed: { AreKeys (map subtask_view subtasks.now) keys },
+    pub(crate) ghost sourced: { AreSourcesOf (length ranges.items) task.now subtasks.now sources.items },
+}
