@@ -1,8 +1,8 @@
 -- The check of a certificate: a choice has an executable sequence with the given indices exactly where
 -- each node keeps the rules.
-use Rattle.std.proofs.Common.{◌≡◌, ℕ, zero, suc, ◌+◌, ◌<◌, ◌≤◌, true, List, [], ◌∷◌, refl, subst, arith}
+use Rattle.std.proofs.Common.{◌≡◌, ℕ, zero, suc, ◌+◌, ◌<◌, ◌≤◌, true, List, [], ◌∷◌, refl, subst, arith, Contains}
 use Rattle.std.specs.Prelude.{◌&&◌, ◌==◌}
-use Rattle.hv_plan.specs.Trees.{Item, Act, Task, Pre, Mem, Tree, AtOrBelow, itself, its_pre, its_child, Reached, IsPrimitive, IsSubtask, IsTree}
+use Rattle.hv_plan.specs.Trees.{Item, Act, Task, Pre, Tree, AtOrBelow, itself, its_pre, its_child, Reached, IsPrimitive, IsSubtask, IsTree}
 use Rattle.hv_order.specs.Meanings.{Choice, AreOrders}
 use Rattle.hv_order.specs.Precedence.{Precedes, of_pre, of_line, of_root}
 use Rattle.hv_order.specs.Networks.{Network, Leads, initial_network, decomposition}
@@ -113,9 +113,9 @@ module _ (t : Tree) (tree : IsTree t) (o : Choice) (at : ℕ → ℕ) (finish : 
   finish_least (suc depth) (Task v) g c low h =
       fin.least v g (h (Pre v) tt (its_pre itself)) (λ x m. finish_least depth x g (tree.child_kind v x m) (smaller x m) (λ z i p. h z i (under t (Task v) x (its_child itself m) p)))
     where
-      smaller : (x : Item) → Mem x (t.children v) → (u : ℕ) → x ≡ Task u → u < depth
+      smaller : (x : Item) → Contains (t.children v) x → (u : ℕ) → x ≡ Task u → u < depth
       smaller x m u e =
-          let a = tree.lower v u (let P : Item → Type 0 = λ w. Mem w (t.children v) in subst P e m) in
+          let a = tree.lower v u (let P : Item → Type 0 = λ w. Contains (t.children v) w in subst P e m) in
           let b = low v refl in
           omega arith
 
@@ -143,20 +143,20 @@ module _ (t : Tree) (tree : IsTree t) (o : Choice) (at : ℕ → ℕ) (finish : 
     root_order = λ x y m k h. root_over x y m k h (first_step t at y (tree.initial_kind y k));
   }
     where
-      from : (v : ℕ) (x : Item) → Reached t (Task v) → Mem x (t.children v) → FirstStep t at x → at v ≤ subtask_start at x
+      from : (v : ℕ) (x : Item) → Reached t (Task v) → Contains (t.children v) x → FirstStep t at x → at v ≤ subtask_start at x
       from v x r m s =
           let a = w.order (Pre v) s.step tt s.is_step (reached_pre t v r) (reached_below t x (reached_child t v x r m) s.below) (of_pre r m s.below) in
           let e = s.begin in
           omega arith
 
-      order : (v : ℕ) (x y : Item) → Reached t (Task v) → Mem x (t.children v) → Mem y (t.children v) → (o.line v).before x y ≡ true → FirstStep t at y → finish x ≤ subtask_start at y
+      order : (v : ℕ) (x y : Item) → Reached t (Task v) → Contains (t.children v) x → Contains (t.children v) y → (o.line v).before x y ≡ true → FirstStep t at y → finish x ≤ subtask_start at y
       order v x y r m k h s =
           finish_below x (subtask_start at y) (tree.child_kind v x m) (λ z i p.
           let a = w.order z s.step i s.is_step (reached_below t x (reached_child t v x r m) p) (reached_below t y (reached_child t v y r k) s.below) (of_line r m k h p s.below) in
           let e = s.begin in
           omega arith)
 
-      root_over : (x y : Item) → Mem x t.initial_tasks → Mem y t.initial_tasks → o.root.before x y ≡ true → FirstStep t at y → finish x ≤ subtask_start at y
+      root_over : (x y : Item) → Contains t.initial_tasks x → Contains t.initial_tasks y → o.root.before x y ≡ true → FirstStep t at y → finish x ≤ subtask_start at y
       root_over x y m k h s =
           finish_below x (subtask_start at y) (tree.initial_kind x m) (λ z i p.
           let a = w.order z s.step i s.is_step (reached_below t x (reached_initial t m) p) (reached_below t y (reached_initial t k) s.below) (of_root m k h p s.below) in

@@ -1,10 +1,11 @@
 -- Every choice has a derivation: the lines from the greatest number down.
-use Rattle.std.proofs.Common.{◌≡◌, ℕ, zero, suc, ◌<◌, List, [], ◌∷◌, refl, sym, subst, inl, inr, arith, ◌⊎◌}
-use Rattle.hv_plan.specs.Trees.{Item, Act, Task, Pre, Mem, Distinct, Tree, IsPrimitive, IsTree, IsWithin}
+use Rattle.std.proofs.Common.{◌≡◌, ℕ, zero, suc, ◌<◌, List, [], ◌∷◌, refl, sym, subst, inl, inr, arith, ◌⊎◌, Contains}
+use Rattle.hv_text.specs.Lists.{Once}
+use Rattle.hv_plan.specs.Trees.{Item, Act, Task, Pre, Tree, IsPrimitive, IsTree, IsWithin}
 use Rattle.hv_order.specs.Meanings.{Choice, AreOrders}
 use Rattle.hv_order.specs.Networks.{Network, initial_network, decomposition, Leads, HasDerivation}
 use Rattle.hv_order.specs.Laws.{DerivationLaw}
-use Rattle.hv_order.proofs.Members.{pre_same, is_member}
+use Rattle.hv_order.proofs.Members.{pre_same, is_member, at_head, in_tail, none_in_empty, once_none, once_more}
 use Rattle.hv_order.proofs.Ancestry.{reached_pre}
 use Rattle.hv_order.proofs.Decomposing.{Origin, old, fresh, origin}
 use Rattle.hv_order.proofs.End
@@ -15,11 +16,11 @@ module _ (t : Tree) (tree : IsTree t) (o : Choice) where
     lines : List ℕ
     end : Network
     leads : Leads t o n lines end
-    done : (x : Item) → Mem x end.items → IsPrimitive x
-    once : Distinct lines
-    below : (u : ℕ) → Mem u lines → u < m
+    done : (x : Item) → Contains end.items x → IsPrimitive x
+    once : Once lines
+    below : (u : ℕ) → Contains lines u → u < m
 
-  smaller : (m : ℕ) (n : Network) → ((u : ℕ) → Mem (Task u) n.items → u < suc m) → (u : ℕ) → Mem (Task u) (decomposition t o m n).items → u < m
+  smaller : (m : ℕ) (n : Network) → ((u : ℕ) → Contains n.items (Task u) → u < suc m) → (u : ℕ) → Contains (decomposition t o m n).items (Task u) → u < m
   smaller m n all_below u k = by_origin (origin m (Pre m ∷ t.children m) (Task u) n.items k)
     where
       by_origin : Origin m (Pre m ∷ t.children m) (Task u) n.items → u < m
@@ -27,38 +28,38 @@ module _ (t : Tree) (tree : IsTree t) (o : Choice) where
           let a = all_below u k in
           let other : u ≡ m → ⊥ = λ e. f (let same : Task u ≡ Task m = cc in same) in
           omega arith
-      by_origin (fresh k (inl e)) = absurd (let clash : Task u ≡ Pre m = e in cc)
-      by_origin (fresh k (inr h)) = tree.lower m u h
+      by_origin (fresh k (zero, lt, e)) = absurd (let clash : Task u ≡ Pre m = sym e in cc)
+      by_origin (fresh k (suc i, lt, e)) = tree.lower m u (i, omega (arith, lt), e)
 
-  complete : (m : ℕ) (n : Network) → ((u : ℕ) → Mem (Task u) n.items → u < m) → Completed n m
+  complete : (m : ℕ) (n : Network) → ((u : ℕ) → Contains n.items (Task u) → u < m) → Completed n m
   complete zero n all_below = record {
     lines = [];
     end = n;
     leads = refl;
     done = primitive;
-    once = tt;
-    below = λ u m. absurd m;
+    once = once_none;
+    below = λ u m. absurd (none_in_empty u m);
   }
     where
-      primitive : (x : Item) → Mem x n.items → IsPrimitive x
+      primitive : (x : Item) → Contains n.items x → IsPrimitive x
       primitive (Act k) m = tt
       primitive (Pre k) m = tt
       primitive (Task u) m = absurd (let a = all_below u m in omega arith)
   complete (suc m) n all_below = by_line (is_member (Task m) n.items) (λ h. complete m (decomposition t o m n) h) (λ h. complete m n h)
     where
-      with_line : Mem (Task m) n.items → Completed (decomposition t o m n) m → Completed n (suc m)
+      with_line : Contains n.items (Task m) → Completed (decomposition t o m n) m → Completed n (suc m)
       with_line here rest = record {
         lines = m ∷ rest.lines;
         end = rest.end;
         leads = (here, rest.leads);
         done = rest.done;
-        once = (λ j. let a = rest.below m j in omega arith, rest.once);
+        once = once_more m rest.lines (λ j. let a = rest.below m j in omega arith) rest.once;
         below = λ u j. still_below u j;
       }
         where
-          still_below : (u : ℕ) → Mem u (m ∷ rest.lines) → u < suc m
-          still_below u (inl e) = omega arith
-          still_below u (inr j) = let a = rest.below u j in omega arith
+          still_below : (u : ℕ) → Contains (m ∷ rest.lines) u → u < suc m
+          still_below u (zero, lt, e) = let same : m ≡ u = e in omega arith
+          still_below u (suc k, lt, e) = let a = rest.below u (k, omega (arith, lt), e) in omega arith
 
       without_line : Completed n m → Completed n (suc m)
       without_line rest = record {
@@ -70,35 +71,35 @@ module _ (t : Tree) (tree : IsTree t) (o : Choice) where
         below = λ u j. let a = rest.below u j in omega arith;
       }
 
-      fewer : (Mem (Task m) n.items → ⊥) → (u : ℕ) → Mem (Task u) n.items → u < m
+      fewer : (Contains n.items (Task m) → ⊥) → (u : ℕ) → Contains n.items (Task u) → u < m
       fewer absent u j =
           let a = all_below u j in
-          let other : u ≡ m → ⊥ = λ e. absent (subst (λ w. Mem (Task w) n.items) e j) in
+          let other : u ≡ m → ⊥ = λ e. absent (subst (λ w. Contains n.items (Task w)) e j) in
           omega arith
 
       by_line :
-          Mem (Task m) n.items ⊎ (Mem (Task m) n.items → ⊥)
-          → (((u : ℕ) → Mem (Task u) (decomposition t o m n).items → u < m) → Completed (decomposition t o m n) m)
-          → (((u : ℕ) → Mem (Task u) n.items → u < m) → Completed n m)
+          Contains n.items (Task m) ⊎ (Contains n.items (Task m) → ⊥)
+          → (((u : ℕ) → Contains (decomposition t o m n).items (Task u) → u < m) → Completed (decomposition t o m n) m)
+          → (((u : ℕ) → Contains n.items (Task u) → u < m) → Completed n m)
           → Completed n (suc m)
       by_line (inl here) step skip = with_line here (step (smaller m n all_below))
       by_line (inr absent) step skip = without_line (skip (fewer absent))
 
   -- a precondition step that came is that of a line that was decomposed
-  used : (v : ℕ) (from to : Network) (lines : List ℕ) → Leads t o from lines to → Mem (Pre v) to.items → Mem v lines ⊎ Mem (Pre v) from.items
-  used v from to [] same m = inr (subst (λ n. Mem (Pre v) n.items) (sym same) m)
+  used : (v : ℕ) (from to : Network) (lines : List ℕ) → Leads t o from lines to → Contains to.items (Pre v) → Contains lines v ⊎ Contains from.items (Pre v)
+  used v from to [] same m = inr (subst (λ n. Contains n.items (Pre v)) (sym same) m)
   used v from to (w ∷ lines) leads m = let (here, rest) = leads in later (used v (decomposition t o w from) to lines rest m)
     where
-      new : Mem (Pre v) (Pre w ∷ t.children w) → Mem v (w ∷ lines) ⊎ Mem (Pre v) from.items
-      new (inl e) = inl (inl (pre_same v w e))
-      new (inr k) = absurd (tree.child_kind w (Pre v) k)
+      new : Contains (Pre w ∷ t.children w) (Pre v) → Contains (w ∷ lines) v ⊎ Contains from.items (Pre v)
+      new (zero, lt, e) = inl (at_head w lines v (pre_same v w (sym e)))
+      new (suc k, lt, e) = absurd (tree.child_kind w (Pre v) (k, omega (arith, lt), e))
 
-      by_origin : Origin w (Pre w ∷ t.children w) (Pre v) from.items → Mem v (w ∷ lines) ⊎ Mem (Pre v) from.items
+      by_origin : Origin w (Pre w ∷ t.children w) (Pre v) from.items → Contains (w ∷ lines) v ⊎ Contains from.items (Pre v)
       by_origin (old k h) = inr k
       by_origin (fresh k h) = new h
 
-      later : Mem v lines ⊎ Mem (Pre v) (decomposition t o w from).items → Mem v (w ∷ lines) ⊎ Mem (Pre v) from.items
-      later (inl k) = inl (inr k)
+      later : Contains lines v ⊎ Contains (decomposition t o w from).items (Pre v) → Contains (w ∷ lines) v ⊎ Contains from.items (Pre v)
+      later (inl k) = inl (in_tail w lines v k)
       later (inr k) = by_origin (origin w (Pre w ∷ t.children w) (Pre v) from.items k)
 
   pub derivation : AreOrders t o → (m : ℕ) → IsWithin t m → HasDerivation t o
@@ -116,7 +117,7 @@ module _ (t : Tree) (tree : IsTree t) (o : Choice) where
         };
       }
     where
-      decomposed : (v : ℕ) (lines : List ℕ) → Mem v lines ⊎ Mem (Pre v) t.initial_tasks → Mem v lines
+      decomposed : (v : ℕ) (lines : List ℕ) → Contains lines v ⊎ Contains t.initial_tasks (Pre v) → Contains lines v
       decomposed v lines (inl k) = k
       decomposed v lines (inr k) = absurd (tree.initial_kind (Pre v) k)
 

@@ -1,12 +1,12 @@
 -- End: the network at the end of a derivation, whatever the order of its decompositions.
-use Rattle.std.proofs.Common.{◌≡◌, ℕ, true, List, [], ◌∷◌, ◌++◌, refl, sym, subst, inl, inr, ◌⊎◌}
+use Rattle.std.proofs.Common.{◌≡◌, ℕ, true, List, [], ◌∷◌, ◌++◌, refl, sym, subst, inl, inr, ◌⊎◌, Contains, zero, suc, arith}
 use Rattle.std.specs.Prelude.{map}
-use Rattle.hv_plan.specs.Trees.{Item, Act, Task, Pre, Mem, Tree, AtOrBelow, itself, its_child, Reached, IsPrimitive, IsTree}
+use Rattle.hv_plan.specs.Trees.{Item, Act, Task, Pre, Tree, AtOrBelow, itself, its_child, Reached, IsPrimitive, IsTree}
 use Rattle.hv_order.specs.Meanings.{Choice, AreOrders}
 use Rattle.hv_order.specs.Networks.{Network, ordered_pairs, inherited, inherited_pairs, initial_network, decomposition, Leads}
 use Rattle.hv_order.specs.Precedence.{Precedes, of_pre, of_line, of_root, IsEnd}
 use Rattle.hv_order.specs.Laws.{EndLaw, SameEndLaw}
-use Rattle.hv_order.proofs.Members.{mem_left, mem_right, mem_cases, mem_map, MappedFrom, mem_map_from, first_same, second_same}
+use Rattle.hv_order.proofs.Members.{mem_left, mem_right, mem_cases, mem_map, MappedFrom, mem_map_from, first_same, second_same, at_head, in_tail}
 use Rattle.hv_order.proofs.Ancestry
 use Rattle.hv_order.proofs.Ancestry.{Below, same_line, the_pre, in_child, below, under, act_alone, pre_alone, New, new_pre, new_child, reached_initial, reached_pre, reached_child, reached_below}
 use Rattle.hv_order.proofs.Decomposing.{IsLine, yes_line, no_line, line_cases, after_old, after_new, Origin, old, fresh, origin, PairOrigin, kept, from_left, from_right, pair_origin, inherited_kept, inherited_left, inherited_right, pair_gives, PairOf, ordered_in, ordered_has}
@@ -14,28 +14,28 @@ use Rattle.hv_order.proofs.Decomposing.{IsLine, yes_line, no_line, line_cases, a
 -- a step of the tree has an item of the network above it
 pub record Covered (t : Tree) (n : Network) (x : Item) : Type 0 where
   pub item : Item
-  pub is_item : Mem item n.items
+  pub is_item : Contains n.items item
   pub above : AtOrBelow t item x
 
 -- What holds of every network of a derivation: its items belong to the tree, none stands below
 -- another, each step of the tree has one above it, and its pairs are those that the tree gives
 pub record Midway (t : Tree) (o : Choice) (n : Network) : Type 0 where
-  pub reached : (x : Item) → Mem x n.items → Reached t x
-  pub apart : (x y : Item) → Mem x n.items → Mem y n.items → AtOrBelow t x y → x ≡ y
+  pub reached : (x : Item) → Contains n.items x → Reached t x
+  pub apart : (x y : Item) → Contains n.items x → Contains n.items y → AtOrBelow t x y → x ≡ y
   pub covered : (x : Item) → IsPrimitive x → Reached t x → Covered t n x
-  pub first_in : (x y : Item) → Mem (x, y) n.pairs → Mem x n.items
-  pub second_in : (x y : Item) → Mem (x, y) n.pairs → Mem y n.items
-  pub precede : (x y : Item) → Mem (x, y) n.pairs → Precedes t o x y
-  pub paired : (x y : Item) → Mem x n.items → Mem y n.items → Precedes t o x y → Mem (x, y) n.pairs
+  pub first_in : (x y : Item) → Contains n.pairs (x, y) → Contains n.items x
+  pub second_in : (x y : Item) → Contains n.pairs (x, y) → Contains n.items y
+  pub precede : (x y : Item) → Contains n.pairs (x, y) → Precedes t o x y
+  pub paired : (x y : Item) → Contains n.items x → Contains n.items y → Precedes t o x y → Contains n.pairs (x, y)
 
 module _ (t : Tree) (tree : IsTree t) (o : Choice) (orders : AreOrders t o) where
   -- an initial task does not stand at or below a child of a line
-  no_initial_child : (x : Item) → Mem x t.initial_tasks → (w : ℕ) (c : Item) → Reached t (Task w) → Mem c (t.children w) → AtOrBelow t c x → ⊥
+  no_initial_child : (x : Item) → Contains t.initial_tasks x → (w : ℕ) (c : Item) → Reached t (Task w) → Contains (t.children w) c → AtOrBelow t c x → ⊥
   no_initial_child x m w c r j p =
       let top : r.ancestor ≡ x = Ancestry.initial_siblings t tree r.ancestor x x r.is_initial m (under t r.ancestor c (its_child r.below j) p) itself in
       Ancestry.no_cycle t tree c w j (under t c x p (subst (λ z. AtOrBelow t z (Task w)) top r.below))
 
-  initial_before : (x y : Item) → Mem x t.initial_tasks → Mem y t.initial_tasks → Precedes t o x y → o.root.before x y ≡ true
+  initial_before : (x y : Item) → Contains t.initial_tasks x → Contains t.initial_tasks y → Precedes t o x y → o.root.before x y ≡ true
   initial_before x y m k (of_pre {v = v} r j p) = absurd (tree.initial_kind (Pre v) m)
   initial_before x y m k (of_line {v = w} {c = c} r j h b p q) = absurd (no_initial_child x m w c r j p)
   initial_before x y m k (of_root {c = c} {d = d} j h b p q) =
@@ -43,7 +43,7 @@ module _ (t : Tree) (tree : IsTree t) (o : Choice) (orders : AreOrders t o) wher
       let f : d ≡ y = Ancestry.initial_siblings t tree d y y h k q itself in
       rw (← e, ← f) b
 
-  initial_pair : (x y : Item) → Mem (x, y) (initial_network t o).pairs → PairOf o.root.before x y t.initial_tasks t.initial_tasks
+  initial_pair : (x y : Item) → Contains (initial_network t o).pairs (x, y) → PairOf o.root.before x y t.initial_tasks t.initial_tasks
   initial_pair x y m = ordered_in o.root.before x y t.initial_tasks t.initial_tasks m
 
   pub midway_initial : Midway t o (initial_network t o)
@@ -57,29 +57,29 @@ module _ (t : Tree) (tree : IsTree t) (o : Choice) (orders : AreOrders t o) wher
     paired = λ x y m k p. ordered_has o.root.before x y t.initial_tasks t.initial_tasks m k (initial_before x y m k p);
   }
 
-  module _ (v : ℕ) (n : Network) (here : Mem (Task v) n.items) (mid : Midway t o n) where
+  module _ (v : ℕ) (n : Network) (here : Contains n.items (Task v)) (mid : Midway t o n) where
     line_reached : Reached t (Task v)
     line_reached = mid.reached (Task v) here
 
-    newly : (x : Item) → Mem x (Pre v ∷ t.children v) → New t tree v x
-    newly x (inl e) = new_pre e
-    newly x (inr m) = new_child m
+    newly : (x : Item) → Contains (Pre v ∷ t.children v) x → New t tree v x
+    newly x (zero, lt, e) = new_pre (sym e)
+    newly x (suc k, lt, e) = let m : Contains (t.children v) x = (k, omega (arith, lt), e) in new_child m
 
-    newly_from : (x : Item) → New t tree v x → Mem x (Pre v ∷ t.children v)
-    newly_from x (new_pre e) = inl e
-    newly_from x (new_child m) = inr m
+    newly_from : (x : Item) → New t tree v x → Contains (Pre v ∷ t.children v) x
+    newly_from x (new_pre e) = at_head (Pre v) (t.children v) x e
+    newly_from x (new_child m) = in_tail (Pre v) (t.children v) x m
 
     -- an old item other than v does not stand at or below v
-    pub outside : (x : Item) → Mem x n.items → (x ≡ Task v → ⊥) → AtOrBelow t (Task v) x → ⊥
+    pub outside : (x : Item) → Contains n.items x → (x ≡ Task v → ⊥) → AtOrBelow t (Task v) x → ⊥
     outside x m f p = f (sym (mid.apart (Task v) x here m p))
 
-    now : (x : Item) → Mem x (decomposition t o v n).items → Origin v (Pre v ∷ t.children v) x n.items
+    now : (x : Item) → Contains (decomposition t o v n).items x → Origin v (Pre v ∷ t.children v) x n.items
     now x m = origin v (Pre v ∷ t.children v) x n.items m
 
-    stays : (x : Item) → Mem x n.items → (x ≡ Task v → ⊥) → Mem x (decomposition t o v n).items
+    stays : (x : Item) → Contains n.items x → (x ≡ Task v → ⊥) → Contains (decomposition t o v n).items x
     stays x m f = after_old v (Pre v ∷ t.children v) x n.items f m
 
-    comes : (x : Item) → New t tree v x → Mem x (decomposition t o v n).items
+    comes : (x : Item) → New t tree v x → Contains (decomposition t o v n).items x
     comes x k = after_new v (Pre v ∷ t.children v) x n.items here (newly_from x k)
 
     step_reached : (x : Item) → Origin v (Pre v ∷ t.children v) x n.items → Reached t x
@@ -116,17 +116,17 @@ module _ (t : Tree) (tree : IsTree t) (o : Choice) (orders : AreOrders t o) wher
         by_item c = by_line c (line_cases v c.item)
 
     -- pairs after the decomposition
-    inherited_pair : (x y : Item) (p : Item × Item) → Mem p n.pairs → Mem (x, y) (inherited v (Pre v ∷ t.children v) p.0 p.1) → Mem (x, y) (decomposition t o v n).pairs
+    inherited_pair : (x y : Item) (p : Item × Item) → Contains n.pairs p → Contains (inherited v (Pre v ∷ t.children v) p.0 p.1) (x, y) → Contains (decomposition t o v n).pairs (x, y)
     inherited_pair x y p m k =
         mem_left (x, y) _ _ (mem_left (x, y) _ _ (pair_gives v (Pre v ∷ t.children v) x y p n.pairs m k))
 
-    pre_pair : (y : Item) → Mem y (t.children v) → Mem (Pre v, y) (decomposition t o v n).pairs
+    pre_pair : (y : Item) → Contains (t.children v) y → Contains (decomposition t o v n).pairs (Pre v, y)
     pre_pair y m = mem_left (Pre v, y) _ _ (mem_right (Pre v, y) (inherited_pairs v (Pre v ∷ t.children v) n.pairs) _ (mem_map (λ (c : Item). (Pre v, c)) y (t.children v) m))
 
-    child_pair : (x y : Item) → Mem x (t.children v) → Mem y (t.children v) → (o.line v).before x y ≡ true → Mem (x, y) (decomposition t o v n).pairs
+    child_pair : (x y : Item) → Contains (t.children v) x → Contains (t.children v) y → (o.line v).before x y ≡ true → Contains (decomposition t o v n).pairs (x, y)
     child_pair x y m k b = mem_right (x, y) _ _ (ordered_has (o.line v).before x y (t.children v) (t.children v) m k b)
 
-    step_paired : (x y : Item) → Origin v (Pre v ∷ t.children v) x n.items → Origin v (Pre v ∷ t.children v) y n.items → Precedes t o x y → Mem (x, y) (decomposition t o v n).pairs
+    step_paired : (x y : Item) → Origin v (Pre v ∷ t.children v) x n.items → Origin v (Pre v ∷ t.children v) y n.items → Precedes t o x y → Contains (decomposition t o v n).pairs (x, y)
     step_paired x y (old m f) (old k g) p = inherited_pair x y (x, y) (mid.paired x y m k p) (inherited_kept v (Pre v ∷ t.children v) x y f g)
     step_paired x y (old m f) (fresh j k) p =
         let q = Ancestry.precedes_line t tree o orders v x y line_reached (newly y k) (outside x m f) p in
@@ -136,16 +136,16 @@ module _ (t : Tree) (tree : IsTree t) (o : Choice) (orders : AreOrders t o) wher
         inherited_pair x y (Task v, y) (mid.paired (Task v) y here m q) (inherited_left v (Pre v ∷ t.children v) x (Task v) y refl k)
     step_paired x y (fresh j k) (fresh j' k') p = by_inside (Ancestry.inside t tree o orders v x y line_reached (newly x k) (newly y k') p)
       where
-        by_inside : Ancestry.Inside t tree o orders v x y → Mem (x, y) (decomposition t o v n).pairs
-        by_inside (Ancestry.pre_first e m) = subst (λ z. Mem (z, y) (decomposition t o v n).pairs) (sym e) (pre_pair y m)
+        by_inside : Ancestry.Inside t tree o orders v x y → Contains (decomposition t o v n).pairs (x, y)
+        by_inside (Ancestry.pre_first e m) = subst (λ z. Contains (decomposition t o v n).pairs (z, y)) (sym e) (pre_pair y m)
         by_inside (Ancestry.children m m' b) = child_pair x y m m' b
 
     record RightPair (x y : Item) : Type 0 where
-      first_in : Mem x (decomposition t o v n).items
-      second_in : Mem y (decomposition t o v n).items
+      first_in : Contains (decomposition t o v n).items x
+      second_in : Contains (decomposition t o v n).items y
       precede : Precedes t o x y
 
-    right_pair : (x y : Item) → Mem (x, y) (decomposition t o v n).pairs → RightPair x y
+    right_pair : (x y : Item) → Contains (decomposition t o v n).pairs (x, y) → RightPair x y
     right_pair x y m = by_part (mem_cases (x, y) _ _ m)
       where
         old_pair : PairOrigin v (Pre v ∷ t.children v) x y n.pairs → RightPair x y
@@ -168,7 +168,7 @@ module _ (t : Tree) (tree : IsTree t) (o : Choice) (orders : AreOrders t o) wher
         pre_first from =
             let x_is : x ≡ Pre v = first_same x (Pre v) y from.source from.image in
             let y_is : y ≡ from.source = second_same x (Pre v) y from.source from.image in
-            let y_child : Mem y (t.children v) = subst (λ z. Mem z (t.children v)) (sym y_is) from.is_member in
+            let y_child : Contains (t.children v) y = subst (λ z. Contains (t.children v) z) (sym y_is) from.is_member in
             record {
               first_in = comes x (new_pre x_is);
               second_in = comes y (new_child y_child);
@@ -183,11 +183,11 @@ module _ (t : Tree) (tree : IsTree t) (o : Choice) (orders : AreOrders t o) wher
               precede = of_line line_reached pair.first pair.second pair.holds itself itself;
             }
 
-        old_or_pre : Mem (x, y) (inherited_pairs v (Pre v ∷ t.children v) n.pairs) ⊎ Mem {X = Item × Item} (x, y) (map (λ (c : Item). (Pre v, c)) (t.children v)) → RightPair x y
+        old_or_pre : Contains (inherited_pairs v (Pre v ∷ t.children v) n.pairs) (x, y) ⊎ Contains {X = Item × Item} (map (λ (c : Item). (Pre v, c)) (t.children v)) (x, y) → RightPair x y
         old_or_pre (inl k) = old_pair (pair_origin v (Pre v ∷ t.children v) x y n.pairs k)
         old_or_pre (inr k) = pre_first (mem_map_from (λ (c : Item). (Pre v, c)) (x, y) (t.children v) k)
 
-        by_part : Mem {X = Item × Item} (x, y) (inherited_pairs v (Pre v ∷ t.children v) n.pairs ++ map (λ (c : Item). (Pre v, c)) (t.children v)) ⊎ Mem (x, y) (ordered_pairs (o.line v).before (t.children v) (t.children v)) → RightPair x y
+        by_part : Contains {X = Item × Item} (inherited_pairs v (Pre v ∷ t.children v) n.pairs ++ map (λ (c : Item). (Pre v, c)) (t.children v)) (x, y) ⊎ Contains (ordered_pairs (o.line v).before (t.children v) (t.children v)) (x, y) → RightPair x y
         by_part (inl k) = old_or_pre (mem_cases (x, y) _ _ k)
         by_part (inr k) = two_children (ordered_in (o.line v).before x y (t.children v) (t.children v) k)
 
@@ -213,7 +213,7 @@ module _ (t : Tree) (tree : IsTree t) (o : Choice) (orders : AreOrders t o) wher
   primitive_alone (Pre k) y s p = pre_alone t k p
   primitive_alone (Task k) y s p = absurd s
 
-  pub is_end : (n : Network) (lines : List ℕ) → Leads t o (initial_network t o) lines n → ((x : Item) → Mem x n.items → IsPrimitive x) → IsEnd t o n
+  pub is_end : (n : Network) (lines : List ℕ) → Leads t o (initial_network t o) lines n → ((x : Item) → Contains n.items x → IsPrimitive x) → IsEnd t o n
   is_end n lines leads done =
       let mid = midway_leads (initial_network t o) n lines leads midway_initial in
       record {
@@ -222,7 +222,7 @@ module _ (t : Tree) (tree : IsTree t) (o : Choice) (orders : AreOrders t o) wher
         complete = λ x s r.
             let c = mid.covered x s r in
             let e : x ≡ c.item = primitive_alone c.item x (done c.item c.is_item) c.above in
-            subst (λ z. Mem z n.items) (sym e) c.is_item;
+            subst (λ z. Contains n.items z) (sym e) c.is_item;
         first_in = mid.first_in;
         second_in = mid.second_in;
         precede = mid.precede;
@@ -233,10 +233,10 @@ pub end_law : EndLaw
 end_law t o lines end tree orders d = is_end t tree o orders end lines d.leads d.done
 
 -- two networks of which End holds are the same
-items_in : (t : Tree) (o : Choice) (m n : Network) → IsEnd t o m → IsEnd t o n → (x : Item) → Mem x m.items → Mem x n.items
+items_in : (t : Tree) (o : Choice) (m n : Network) → IsEnd t o m → IsEnd t o n → (x : Item) → Contains m.items x → Contains n.items x
 items_in t o m n end_m end_n x k = end_n.complete x (end_m.primitive x k) (end_m.reached x k)
 
-pairs_in : (t : Tree) (o : Choice) (m n : Network) → IsEnd t o m → IsEnd t o n → (x y : Item) → Mem (x, y) m.pairs → Mem (x, y) n.pairs
+pairs_in : (t : Tree) (o : Choice) (m n : Network) → IsEnd t o m → IsEnd t o n → (x y : Item) → Contains m.pairs (x, y) → Contains n.pairs (x, y)
 pairs_in t o m n end_m end_n x y k =
     end_n.paired x y (items_in t o m n end_m end_n x (end_m.first_in x y k)) (items_in t o m n end_m end_n y (end_m.second_in x y k)) (end_m.precede x y k)
 

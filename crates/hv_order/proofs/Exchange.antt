@@ -1,7 +1,7 @@
 -- Exchange: the choices and indices at and below one line may be replaced by others that keep to a
 -- window of the line.
-use Rattle.std.proofs.Common.{◌≡◌, ℕ, ◌≤◌, true, refl, sym, subst, inl, inr, arith, ◌⊎◌}
-use Rattle.hv_plan.specs.Trees.{Item, Act, Task, Pre, Mem, Tree, AtOrBelow, itself, its_pre, Reached, IsPrimitive, IsTree, line_tree}
+use Rattle.std.proofs.Common.{◌≡◌, ℕ, ◌≤◌, true, refl, sym, subst, inl, inr, arith, ◌⊎◌, Contains}
+use Rattle.hv_plan.specs.Trees.{Item, Act, Task, Pre, Tree, AtOrBelow, itself, its_pre, Reached, IsPrimitive, IsTree, line_tree}
 use Rattle.hv_order.specs.Meanings.{Meaning, AreOrders}
 use Rattle.hv_order.specs.Precedence.{Precedes, of_pre, of_line}
 use Rattle.hv_order.specs.Schedules.{begins, ends, IsSchedule, Schedule, IsWindow, HasWindow, IsExchange, for_lines}
@@ -15,7 +15,7 @@ use Rattle.hv_order.proofs.InLine.{above_same, line_reached, is_below}
 
 module _ (t : Tree) (tree : IsTree t) (v : ℕ) (rv : Reached t (Task v)) where
   -- a child of a node that is not at or below v, with something at or below v below it, stands above v
-  above_line : (a : Node) (c x : Item) → InTree t a → (IsAbove t (Task v) a → ⊥) → Mem c (kids t a) → AtOrBelow t c x → AtOrBelow t (Task v) x → AtOrBelow t c (Task v)
+  above_line : (a : Node) (c x : Item) → InTree t a → (IsAbove t (Task v) a → ⊥) → Contains (kids t a) c → AtOrBelow t c x → AtOrBelow t (Task v) x → AtOrBelow t c (Task v)
   above_line a c x r out m p q =
       let up = Precedence.parent_of t tree v rv in
       by_meet (Precedence.meet t tree a up.node c (Task v) x r up.in_tree m up.kid p q)
@@ -25,7 +25,7 @@ module _ (t : Tree) (tree : IsTree t) (v : ℕ) (rv : Reached t (Task v)) where
       by_meet (meet_over h) = Precedence.above_kid t tree (Precedence.parent_of t tree v rv).node c (Task v) (Task v) h (Precedence.parent_of t tree v rv).kid itself
       by_meet (meet_under h) = absurd (out h)
 
-  two_above : (a : Node) (c d : Item) → InTree t a → Mem c (kids t a) → Mem d (kids t a) → AtOrBelow t c (Task v) → AtOrBelow t d (Task v) → c ≡ d
+  two_above : (a : Node) (c d : Item) → InTree t a → Contains (kids t a) c → Contains (kids t a) d → AtOrBelow t c (Task v) → AtOrBelow t d (Task v) → c ≡ d
   two_above Root c d r m k p q = Ancestry.initial_siblings t tree c d (Task v) m k p q
   two_above (Line w) c d r m k p q = Ancestry.siblings t tree c d (Task v) w m k p q
 
@@ -40,12 +40,12 @@ module _ (t : Tree) (tree : IsTree t) (v : ℕ) (rv : Reached t (Task v)) where
     same_node (Line w) out = ex.other_line w out
 
     -- pairs of nodes that are not at or below v are a's
-    old_pair : (n : Node) (x y d e : Item) → InTree t n → (IsAbove t (Task v) n → ⊥) → Mem d (kids t n) → Mem e (kids t n) → (of_node c.choice n).before d e ≡ true → AtOrBelow t d x → AtOrBelow t e y → Order t a.choice x y
+    old_pair : (n : Node) (x y d e : Item) → InTree t n → (IsAbove t (Task v) n → ⊥) → Contains (kids t n) d → Contains (kids t n) e → (of_node c.choice n).before d e ≡ true → AtOrBelow t d x → AtOrBelow t e y → Order t a.choice x y
     old_pair n x y d e r out m k h p q =
         let P : Meaning → Type 0 = λ u. u.before d e ≡ true in
         by_node n r m k (subst P (same_node n out) h) p q
 
-    node_out : (n : Node) (d x : Item) → Mem d (kids t n) → AtOrBelow t d x → (AtOrBelow t (Task v) x → ⊥) → IsAbove t (Task v) n → ⊥
+    node_out : (n : Node) (d x : Item) → Contains (kids t n) d → AtOrBelow t d x → (AtOrBelow t (Task v) x → ⊥) → IsAbove t (Task v) n → ⊥
     node_out n d x m p out h = out (Precedence.above_kid t tree n (Task v) d x h m p)
 
     outer_first : (x y : Item) → (AtOrBelow t (Task v) x → ⊥) → Order t c.choice x y → Order t a.choice x y
@@ -65,7 +65,7 @@ module _ (t : Tree) (tree : IsTree t) (v : ℕ) (rv : Reached t (Task v)) where
         subst (λ z. Precedes (line_tree t v) b.choice z y) (sym e) (of_pre (in_line (Task w) up) m (above_same t v d h))
     inner_pair x y p q (by_node n {c = d} {d = e} r m k h i j) = by_case n r m k h (node_below n r)
       where
-        by_case : (n : Node) → InTree t n → Mem d (kids t n) → Mem e (kids t n) → (of_node c.choice n).before d e ≡ true → IsAbove t (Task v) n ⊎ (IsAbove t (Task v) n → ⊥) → Precedes (line_tree t v) b.choice x y
+        by_case : (n : Node) → InTree t n → Contains (kids t n) d → Contains (kids t n) e → (of_node c.choice n).before d e ≡ true → IsAbove t (Task v) n ⊎ (IsAbove t (Task v) n → ⊥) → Precedes (line_tree t v) b.choice x y
         by_case Root r m k h (inl l) = absurd l
         by_case (Line w) r m k h (inl l) =
             let P : Meaning → Type 0 = λ u. u.before d e ≡ true in

@@ -1,15 +1,17 @@
 -- A candidate's layout gives its least finish.
 use Rattle.std.proofs.Common.{◌≡◌, ℕ, zero, suc, ◌≤◌, ◌<◌, List, [], ◌∷◌, refl, sym, ap, ◌∙◌, subst, inl, inr, arith, ◌⊎◌, Option, Some, None, length, drop}
 use Rattle.std.proofs.lemmas.Bool.{cases_lt}
-use Rattle.std.specs.Prelude.{slice_index, MatchOption}
+use Rattle.std.specs.Prelude.{slice_index, replicate}
 use Rattle.hv_order.specs.Tables.{IsLeastAt, IsLeast}
-use Rattle.hv_order.specs.inside.Choosing.{newer}
 use Rattle.hv_order.specs.inside.Layouts.{Lays, PlacedTogether}
-use Rattle.hv_order.specs.inside.Facts.{Facts, AreFits, IsFirstTrue, FitsWith}
-use Rattle.hv_order.specs.inside.Trials.{direct_of, HasFinish, IsTrial, IsTrialOf, IsTrialAs}
-use Rattle.hv_order.specs.inside.Frames.{IsArranged, IsTrying, IsLeastWith, Won}
+use Rattle.hv_order.specs.inside.Children.{child_at, ChildFits}
+use Rattle.hv_order.specs.inside.Facts.{Facts, AreFits, IsFirstTrue, IsFirstStretch, FitsWith}
+use Rattle.hv_order.specs.inside.Trials.{direct_of, HasFinish, IsTrial, IsTrialOf, IsTrialAs, IsUnderCap}
+use Rattle.hv_order.specs.inside.Frames.{IsArranged, IsTrying, IsLeastWith}
 use Rattle.hv_order.specs.declared.trial.Trial.{Trial}
+use Rattle.hv_order.specs.declared.trial.Stretch.{Stretch}
 use Rattle.hv_order.specs.declared.trial.Arranged.{Arranged}
+use Rattle.hv_order.proofs.ChildrenFit.{child_climbs, child_earlier}
 use Rattle.hv_order.proofs.Layouts.{laid_is_least}
 
 module _ (q : Facts) (fits : AreFits q.fits) (s : ℕ) (c : Arranged) (arranged : IsArranged q c) (cap : ℕ) where
@@ -17,7 +19,7 @@ module _ (q : Facts) (fits : AreFits q.fits) (s : ℕ) (c : Arranged) (arranged 
   Is j = j < length c.children.items
 
   abbrev FitOf : ℕ → ℕ → ℕ → Type 0
-  FitOf j = q.fits (slice_index c.children.items j)
+  FitOf j = ChildFits q.fits (child_at c.children.items j)
 
   -- true nowhere
   pub none_true : IsFirstTrue (q.holds c) s cap None → IsLeast (FitsWith q s c) cap None
@@ -34,36 +36,49 @@ module _ (q : Facts) (fits : AreFits q.fits) (s : ℕ) (c : Arranged) (arranged 
     order = w.order;
   }
 
-  first : (at k : ℕ) → IsFirstTrue (q.holds c) s cap (Some at) → s ≤ k → q.holds c k → at ≤ k
-  first at k is late holds = by_order (cases_lt k at)
+  first : (r : Stretch) (k : ℕ) → IsFirstStretch (q.holds c) s cap r → s ≤ k → q.holds c k → r.first ≤ k
+  first r k is late holds = by_order (cases_lt k r.first)
     where
-      by_order : (k < at) ⊎ (at ≤ k) → at ≤ k
-      by_order (inl a) = absurd (is.3 k late a holds)
+      by_order : (k < r.first) ⊎ (r.first ≤ k) → r.first ≤ k
+      by_order (inl a) = absurd (is.none_before k late a holds)
       by_order (inr a) = a
 
-  by_index : (at : ℕ) (o : Option ℕ) → IsFirstTrue (q.holds c) s cap (Some at) → IsLeast (λ f. PlacedTogether Is (q.before c) FitOf at f × (at ≤ f)) cap o → IsLeast (FitsWith q s c) cap o
-  by_index at None is none = λ g a w. none g a (earlier at w.at g (first at w.at is w.late w.holds) w.together, (let b = first at w.at is w.late w.holds in let e = w.early in omega arith))
-  by_index at (Some f) is some = record {
-    reached = record { at = at; late = is.0; early = some.reached.1; holds = is.2; together = some.reached.0 };
+  by_index : (r : Stretch) (o : Option ℕ) → IsFirstStretch (q.holds c) s cap r → IsLeast (λ f. PlacedTogether Is (q.before c) FitOf r.first f × (r.first ≤ f)) cap o → IsLeast (FitsWith q s c) cap o
+  by_index r None is none = λ g a w. none g a (earlier r.first w.at g (first r w.at is w.late w.holds) w.together, (let b = first r w.at is w.late w.holds in let e = w.early in omega arith))
+  by_index r (Some f) is some = record {
+    reached = record { at = r.first; late = is.behind; early = some.reached.1; holds = is.holds r.first (omega arith) is.begun; together = some.reached.0 };
     within = some.within;
-    least = λ g w. some.least g (earlier at w.at g (first at w.at is w.late w.holds) w.together, (let b = first at w.at is w.late w.holds in let e = w.early in omega arith));
+    least = λ g w. some.least g (earlier r.first w.at g (first r w.at is w.late w.holds) w.together, (let b = first r w.at is w.late w.holds in let e = w.early in omega arith));
   }
 
   -- nothing is laid out yet
-  pub begun : (t : Trial) → IsFirstTrue (q.holds c) s cap (Some t.at) → t.cap ≡ cap → t.placed ≡ 0 → t.latest ≡ t.at → length t.finishes.items ≡ length c.children.items → IsTrying q s c t
-  begun t is cap_is placed latest room = record {
+  pub begun : (r : Stretch) (t : Trial) → IsFirstStretch (q.holds c) s cap r → cap ≤ q.last → t.at ≡ r.first → t.last ≡ r.last → t.cap ≡ cap → t.placed ≡ 0 → t.latest ≡ t.at → length t.finishes.items ≡ length c.children.items → ((i : ℕ) → slice_index t.finishes.items i ≤ 0) → IsTrying q s c t
+  begun r t is within at_is last_is cap_is placed latest room nothing = record {
+    under = record { cap = rw cap_is within; at = rw (cap_is, at_is) is.within; finishes = λ i. let a = nothing i in omega arith };
+    late = rw at_is is.behind;
+    holds = λ k a b. is.holds k (rw at_is at a) (rw last_is at b);
     zeros = t.finishes.items;
     room = room;
-    trial = record { room = refl; rest = λ o h. rw (placed, latest) at h };
-    gives = λ o lays. rw cap_is (by_index t.at o is (laid_is_least Is (q.before c) FitOf arranged.strict (λ j. fits.climbs (slice_index c.children.items j)) (λ j. fits.earlier (slice_index c.children.items j)) cap (HasFinish q cap c.children.items) (λ j a r k h. h) (direct_of c.direct.items) arranged.directs t.at is.1 t.finishes.items c.order.items o (λ j k. rw room k) arranged.order (rw cap_is at lays)));
+    trial = record { room = refl; begun = rw (at_is, last_is) is.begun; alike = λ i lt. absurd (omega (arith, placed)); rest = λ o h. rw (placed, latest) at h };
+    gives = λ o lays. rw cap_is (by_index r o is (laid_is_least Is (q.before c) FitOf arranged.strict (λ j. child_climbs q.fits fits (child_at c.children.items j)) (λ j. child_earlier q.fits fits (child_at c.children.items j)) cap (HasFinish q cap c.children.items) (λ j a r k h. h) (direct_of c.direct.items) arranged.directs r.first is.within t.finishes.items c.order.items o (λ j k. rw room k) arranged.order (rw (cap_is, at_is) at lays)));
   }
+
+-- a list of zeros has nothing above zero
+pub zeros_under : (n i : ℕ) → slice_index (replicate n 0) i ≤ 0
+zeros_under zero i = omega arith
+zeros_under (suc n) zero = omega arith
+zeros_under (suc n) (suc i) = zeros_under n i
 
 -- the layout goes on
 pub still_trying :
     (q : Facts) (s : ℕ) (c : Arranged) (t u : Trial) → IsTrying q s c t
     → IsTrialAs q c.children.items c.order.items c.direct.items t u
-    → length u.finishes.items ≡ length c.children.items → u.at ≡ t.at → u.cap ≡ t.cap → IsTrying q s c u
-still_trying q s c t u is on room at_is cap_is = record {
+    → IsUnderCap q u → length u.finishes.items ≡ length c.children.items → u.at ≡ t.at → u.last ≤ t.last
+    → u.cap ≡ t.cap → IsTrying q s c u
+still_trying q s c t u is on under room at_is shorter cap_is = record {
+  under = under;
+  late = rw at_is is.late;
+  holds = λ k a b. is.holds k (rw at_is at a) (omega arith);
   zeros = is.zeros;
   room = room;
   trial =
@@ -72,15 +87,3 @@ still_trying q s c t u is on room at_is cap_is = record {
       there u.cap cap_is;
   gives = λ o lays. rw cap_is (is.gives o (rw (cap_is, at_is) at lays));
 }
-
--- what the winner gives, after a candidate was tried
-pub won_by :
-    (q : Facts) (s cap : ℕ) (best : Option ℕ) (winner c w : Arranged) (o : Option ℕ)
-    → Won q s winner best → cap ≤ q.last → IsLeastWith q s c cap o
-    → MatchOption o (w ≡ winner) (λ f. w ≡ c) → Won q s w (newer best o)
-won_by q s cap best winner c w None won le least same g e = rw same (won g e)
-won_by q s cap best winner c w (Some f) won le least same g e =
-    let k : f ≡ g = (let r : Some f ≡ Some g = e in cc) in
-    let a = least.within in
-    let b : FitsWith q s w f = rw same least.reached in
-    (subst (FitsWith q s w) k b, omega arith)

@@ -3,12 +3,14 @@ use Rattle.std.proofs.Common.{◌≡◌, ℕ, zero, suc, ◌+◌, ◌≤◌, ◌
 use Rattle.std.proofs.lemmas.Bool.{cases_lt}
 use Rattle.std.specs.Prelude.{slice_get}
 use Rattle.hv_order.specs.Tables.{IsLeastAt, IsLeast}
-use Rattle.hv_order.specs.inside.Runs.{IsRow, IsRunOf, IsEarlier, AreRising, AreBefore}
-use Rattle.hv_order.specs.declared.runs.Run.{Run}
+use Rattle.hv_order.specs.inside.Facts.{Facts, IsRunOf}
+use Rattle.hv_order.specs.inside.Nodes.{IsWinnerOf}
+use Rattle.hv_order.specs.inside.Runs.{IsRow, AreWinners, AreRising, AreBefore}
+use Rattle.hv_order.specs.declared.trial.Arranged.{Arranged}
+use Rattle.hv_order.specs.declared.trial.Run.{Run}
 use Rattle.hv_order.specs.declared.runs.Row.{Row}
-use Rattle.hv_order.proofs.Capped.{none_later}
 
-appended : {X : Type 0} (xs : List X) (r : X) (rest : List X) → (xs ++ r ∷ []) ++ rest ≡ xs ++ r ∷ rest
+pub appended : {X : Type 0} (xs : List X) (r : X) (rest : List X) → (xs ++ r ∷ []) ++ rest ≡ xs ++ r ∷ rest
 appended [] r rest = refl
 appended (x ∷ xs) r rest = ap (λ ys. x ∷ ys) (appended xs r rest)
 
@@ -20,30 +22,28 @@ nothing_behind (x ∷ xs) = ap (λ ys. x ∷ ys) (nothing_behind xs)
 pub row_more : (Fit : ℕ → ℕ → Type 0) (n s : ℕ) (runs : List Run) (r : Run) → ((rest : List Run) → IsRow Fit n s rest → IsRow Fit n 0 (runs ++ rest)) → IsRunOf Fit n s r → (rest : List Run) → IsRow Fit n (r.last + 1) rest → IsRow Fit n 0 ((runs ++ r ∷ []) ++ rest)
 row_more Fit n s runs r far is rest h = rw (appended runs r rest) (far (r ∷ rest) (is, h))
 
--- a run without a finish goes on to the last start
-pub to_the_end : (Fit : ℕ → ℕ → Type 0) (n s : ℕ) (r r' : Run) → IsEarlier Fit → IsRunOf Fit n s r → r.finish ≡ None → r'.finish ≡ None → r'.last ≡ n → IsRunOf Fit n s r'
-to_the_end Fit n s r r' earlier is e e' l = record {
-  begun = let a = is.begun in let b = is.within in omega arith;
-  within = omega arith;
-  least = λ x a b. rw e' (none_later Fit n s x earlier a (rw e at (is.least s (omega arith) is.begun)));
-}
+-- one winner more
+pub winners_more : (q : Facts) (v : ℕ) (rs : List Run) (ws : List (Option Arranged)) (r : Run) (w : Option Arranged) → AreWinners q v rs ws → IsWinnerOf q v r w → AreWinners q v (rs ++ r ∷ []) (ws ++ w ∷ [])
+winners_more q v [] [] r w are is = (is, tt)
+winners_more q v [] (x ∷ ws) r w are is = absurd are
+winners_more q v (x ∷ rs) [] r w are is = absurd are
+winners_more q v (x ∷ rs) (y ∷ ws) r w are is = (are.0, winners_more q v rs ws r w are.1 is)
 
--- each row is that of the node of its number
-abbrev AreRowsOf : (ℕ → ℕ → ℕ → Type 0) → ℕ → List Row → Type 0
-AreRowsOf Fit n rows = (v : ℕ) (r : Row) → slice_get rows v ≡ Some r → IsRow (Fit v) n 0 r.runs.items
+-- what is so of each row is so with one more
+abbrev pub AreEach : (ℕ → Row → Type 0) → List Row → Type 0
+AreEach Is rows = (v : ℕ) (r : Row) → slice_get rows v ≡ Some r → Is v r
 
--- one row more
-pub rows_more : (Fit : ℕ → ℕ → ℕ → Type 0) (n : ℕ) (rows : List Row) (r : Row) → AreRowsOf Fit n rows → IsRow (Fit (length rows)) n 0 r.runs.items → AreRowsOf Fit n (rows ++ r ∷ [])
-rows_more Fit n [] r are is zero q e = let k : r ≡ q = (let i : Some r ≡ Some q = e in cc) in rw (sym k) is
-rows_more Fit n [] r are is (suc v) q e = absurd (let i : None ≡ Some q = e in cc)
-rows_more Fit n (x ∷ xs) r are is zero q e = are zero q e
-rows_more Fit n (x ∷ xs) r are is (suc v) q e = rows_more (λ u. Fit (suc u)) n xs r (λ u p i. are (suc u) p i) is v q e
+pub each_more : (Is : ℕ → Row → Type 0) (rows : List Row) (r : Row) → AreEach Is rows → Is (length rows) r → AreEach Is (rows ++ r ∷ [])
+each_more Is [] r are is zero p e = let k : r ≡ p = (let i : Some r ≡ Some p = e in cc) in subst (Is zero) k is
+each_more Is [] r are is (suc v) p e = absurd (let i : None ≡ Some p = e in cc)
+each_more Is (x ∷ xs) r are is zero p e = are zero p e
+each_more Is (x ∷ xs) r are is (suc v) p e = each_more (λ u. Is (suc u)) xs r (λ u o i. are (suc u) o i) is v p e
 
--- the run in which a start lies has its least finish
-pub at_run : (Fit : ℕ → ℕ → Type 0) (n s x : ℕ) (runs : List Run) (i : ℕ) (d : Run) → IsRow Fit n s runs → s ≤ x → i < length runs → ((j : ℕ) → j < i → (get_or runs j d).last < x) → x ≤ (get_or runs i d).last → IsLeast (Fit x) n (get_or runs i d).finish
-at_run Fit n s x [] i d is le lt below here = absurd (omega arith)
-at_run Fit n s x (r ∷ rs) zero d is le lt below here = is.0.least x le here
-at_run Fit n s x (r ∷ rs) (suc i) d is le lt below here = let a = below zero (omega arith) in at_run Fit n (r.last + 1) x rs i d is.1 (omega arith) (omega arith) (λ j k. below (suc j) (omega arith)) here
+-- the run in which a start lies, from that start on
+pub run_here : (Fit : ℕ → ℕ → Type 0) (n s x : ℕ) (runs : List Run) (i : ℕ) (d : Run) → IsRow Fit n s runs → s ≤ x → i < length runs → ((j : ℕ) → j < i → (get_or runs j d).last < x) → x ≤ (get_or runs i d).last → IsRunOf Fit n x (get_or runs i d)
+run_here Fit n s x [] i d is le lt below here = absurd (omega arith)
+run_here Fit n s x (r ∷ rs) zero d is le lt below here = let first = is.0 in record { begun = here; within = first.within; least = λ y a b. first.least y (omega arith) b }
+run_here Fit n s x (r ∷ rs) (suc i) d is le lt below here = let a = below zero (omega arith) in run_here Fit n (r.last + 1) x rs i d is.1 (omega arith) (omega arith) (λ j k. below (suc j) (omega arith)) here
 
 -- ends rise
 pub past : (Fit : ℕ → ℕ → Type 0) (n s : ℕ) (runs : List Run) (i : ℕ) (d : Run) → IsRow Fit n s runs → i < length runs → s ≤ (get_or runs i d).last
@@ -82,3 +82,9 @@ pub same_or : {X : Type 0} (xs : List X) (i : ℕ) (d e : X) → i < length xs �
 same_or [] i d e lt = absurd (omega arith)
 same_or (x ∷ xs) zero d e lt = refl
 same_or (x ∷ xs) (suc i) d e lt = same_or xs i d e (omega arith)
+
+-- a node with a row has one
+pub has_row : (rows : List Row) (v : ℕ) → v < length rows → (r : Row) × (slice_get rows v ≡ Some r)
+has_row [] v lt = absurd (omega arith)
+has_row (x ∷ xs) zero lt = (x, refl)
+has_row (x ∷ xs) (suc v) lt = has_row xs v (omega arith)

@@ -1,15 +1,15 @@
 -- A part can be placed exactly where it has a schedule: a sequence gives the indices, and sorting by
 -- the indices gives a sequence.
-use Rattle.std.proofs.Common.{◌≡◌, ℕ, ◌+◌, ◌*◌, ◌<◌, ◌≤◌, true, List, [], ◌∷◌, refl, ap, inl, inr, arith, ◌⊎◌}
+use Rattle.std.proofs.Common.{◌≡◌, ℕ, ◌+◌, ◌*◌, ◌<◌, ◌≤◌, true, List, [], ◌∷◌, refl, ap, inl, inr, arith, ◌⊎◌, Contains}
 use Rattle.std.proofs.lemmas.Bool.{cases_lt}
-use Rattle.hv_plan.specs.Trees.{Item, Act, Task, Pre, Mem, Tree, Reached, IsPrimitive, IsTree}
+use Rattle.hv_plan.specs.Trees.{Item, Act, Task, Pre, Tree, Reached, IsPrimitive, IsTree}
 use Rattle.hv_order.specs.Meanings.{Choice, AreOrders}
 use Rattle.hv_order.specs.Networks.{Network, HasDerivation}
 use Rattle.hv_order.specs.Precedence.{IsEnd}
 use Rattle.hv_order.specs.Sequences.{IsLinearization, Passes, Placed}
 use Rattle.hv_order.specs.Schedules.{begins, ends, IsSchedule, HasSchedule}
 use Rattle.hv_order.specs.Laws.{ScheduleLaw}
-use Rattle.hv_order.proofs.Members.{code}
+use Rattle.hv_order.proofs.Members.{code, at_head, in_tail}
 use Rattle.hv_order.proofs.Ancestry
 use Rattle.hv_order.proofs.Ancestry.{reached_pre}
 use Rattle.hv_order.proofs.End.{end_law}
@@ -50,29 +50,29 @@ record Between (at : ℕ → ℕ) (s f : ℕ) (x : Item) : Type 0 where
 -- a sorted list of steps can be run
 sorted_passes :
     (o : Choice) (at : ℕ → ℕ) (order : Item → ℕ) (s f : ℕ) (q : List Item) → s ≤ f
-    → IsSorted (place_of at) order q → ((x : Item) → Mem x q → Between at s f x)
-    → ((v : ℕ) → Mem (Pre v) q → (o.line v).true_at (at v) ≡ true) → Passes o s q f
+    → IsSorted (place_of at) order q → ((x : Item) → Contains q x → Between at s f x)
+    → ((v : ℕ) → Contains q (Pre v) → (o.line v).true_at (at v) ≡ true) → Passes o s q f
 sorted_passes o at order s f [] le sort between holds = le
 sorted_passes o at order s f (Act j ∷ q) le sort between holds =
     let (before_rest, rest) = sort in
-    let here = between (Act j) (inl refl) in
-    (here.from, sorted_passes o at order (j + 1) f q here.until rest (λ x m. later x m) (λ v m. holds v (inr m)))
+    let here = between (Act j) (at_head (Act j) q (Act j) refl) in
+    (here.from, sorted_passes o at order (j + 1) f q here.until rest (λ x m. later x m) (λ v m. holds v (in_tail (Act j) q (Pre v) m)))
   where
-    later : (x : Item) → Mem x q → Between at (j + 1) f x
+    later : (x : Item) → Contains q x → Between at (j + 1) f x
     later x m =
         let (before_rest, rest) = sort in
-        let r = between x (inr m) in
+        let r = between x (in_tail (Act j) q x m) in
         record { primitive = r.primitive; from = later_act at order j x r.primitive (before_rest x m); until = r.until }
-sorted_passes o at order s f (Task v ∷ q) le sort between holds = (between (Task v) (inl refl)).primitive
+sorted_passes o at order s f (Task v ∷ q) le sort between holds = (between (Task v) (at_head (Task v) q (Task v) refl)).primitive
 sorted_passes o at order s f (Pre v ∷ q) le sort between holds =
     let (before_rest, rest) = sort in
-    let here = between (Pre v) (inl refl) in
-    (at v, here.from, holds v (inl refl), sorted_passes o at order (at v) f q here.until rest (λ x m. later x m) (λ u m. holds u (inr m)))
+    let here = between (Pre v) (at_head (Pre v) q (Pre v) refl) in
+    (at v, here.from, holds v (at_head (Pre v) q (Pre v) refl), sorted_passes o at order (at v) f q here.until rest (λ x m. later x m) (λ u m. holds u (in_tail (Pre v) q (Pre u) m)))
   where
-    later : (x : Item) → Mem x q → Between at (at v) f x
+    later : (x : Item) → Contains q x → Between at (at v) f x
     later x m =
         let (before_rest, rest) = sort in
-        let r = between x (inr m) in
+        let r = between x (in_tail (Pre v) q x m) in
         record { primitive = r.primitive; from = later_pre at order v x r.primitive (before_rest x m); until = r.until }
 
 -- one step before another in place
@@ -111,18 +111,18 @@ module _ (t : Tree) (tree : IsTree t) (o : Choice) (orders : AreOrders t o) wher
     order_of : Item → ℕ
     order_of x = rank n.pairs x n.items
 
-    pair_before : (x y z : Item) → Mem (z, x) n.pairs → Mem (x, y) n.pairs → Mem (z, y) n.pairs
+    pair_before : (x y z : Item) → Contains n.pairs (z, x) → Contains n.pairs (x, y) → Contains n.pairs (z, y)
     pair_before x y z first second =
         end.paired z y (end.first_in z x first) (end.second_in x y second)
         (from_order t o z y (transitive t tree o orders z x y (to_order t o z x (end.precede z x first)) (to_order t o x y (end.precede x y second))))
 
-    order_less : (x y : Item) → Mem (x, y) n.pairs → order_of x < order_of y
+    order_less : (x y : Item) → Contains n.pairs (x, y) → order_of x < order_of y
     unfolding order_of
     order_less x y m =
         rank_less n.pairs x x y n.items (λ z k j. pair_before x y z j m) (end.first_in x y m)
         (λ j. Ancestry.irreflexive t tree o orders x x (end.precede x x j) refl) m
 
-    in_place : (x y : Item) → Mem (x, y) n.pairs → Less (place_of at) order_of x y
+    in_place : (x y : Item) → Contains n.pairs (x, y) → Less (place_of at) order_of x y
     in_place x y m =
         let first = end.first_in x y m in
         let second = end.second_in x y m in
@@ -131,7 +131,7 @@ module _ (t : Tree) (tree : IsTree t) (o : Choice) (orders : AreOrders t o) wher
         let over = schedule.order x y step_first step_second (end.reached x first) (end.reached y second) (end.precede x y m) in
         by_both (place_of at) order_of x y (ends_place at x y step_first step_second over) (order_less x y m)
 
-    between : (x : Item) → Mem x n.items → Between at s f x
+    between : (x : Item) → Contains n.items x → Between at s f x
     between x m =
         let step = end.primitive x m in
         let reached = end.reached x m in

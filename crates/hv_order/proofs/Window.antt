@@ -1,13 +1,13 @@
 -- Split by indices: the steps of a line lie in a window that no other step meets.
-use Rattle.std.proofs.Common.{◌≡◌, ℕ, ◌≤◌, List, [], ◌∷◌, refl, ap, subst, inl, inr, arith, ◌⊎◌}
+use Rattle.std.proofs.Common.{◌≡◌, ℕ, ◌≤◌, List, [], ◌∷◌, refl, ap, subst, inl, inr, arith, ◌⊎◌, Contains, zero, suc, sym}
 use Rattle.std.specs.Prelude.{max}
-use Rattle.hv_plan.specs.Trees.{Item, Task, Pre, Mem, Tree, AtOrBelow, itself, its_pre, Reached, IsPrimitive, IsTree, line_tree}
+use Rattle.hv_plan.specs.Trees.{Item, Task, Pre, Tree, AtOrBelow, itself, its_pre, Reached, IsPrimitive, IsTree, line_tree}
 use Rattle.hv_order.specs.Meanings.{AreOrders}
 use Rattle.hv_order.specs.Networks.{Network}
 use Rattle.hv_order.specs.Precedence.{Precedes, of_pre, of_line, of_root, IsEnd}
 use Rattle.hv_order.specs.Schedules.{begins, ends, IsSchedule, Schedule, IsWindow, for_lines, HasWindow}
 use Rattle.hv_order.specs.Laws.{WindowLaw}
-use Rattle.hv_order.proofs.Members.{not_true}
+use Rattle.hv_order.proofs.Members.{not_true, at_head, in_tail, none_in_empty}
 use Rattle.hv_order.proofs.Ancestry
 use Rattle.hv_order.proofs.Ancestry.{reached_pre, reached_child, reached_below}
 use Rattle.hv_order.proofs.End.{end_law}
@@ -18,29 +18,29 @@ use Rattle.hv_order.proofs.InLine.{below_same, reached_line, is_below}
 record Bound (P : Item → Type 0) (e : Item → ℕ) (base : ℕ) (xs : List Item) : Type 0 where
   bound : ℕ
   above_base : base ≤ bound
-  upper : (x : Item) → Mem x xs → P x → e x ≤ bound
-  least : (g : ℕ) → base ≤ g → ((x : Item) → Mem x xs → P x → e x ≤ g) → bound ≤ g
+  upper : (x : Item) → Contains xs x → P x → e x ≤ bound
+  least : (g : ℕ) → base ≤ g → ((x : Item) → Contains xs x → P x → e x ≤ g) → bound ≤ g
 
-bound_of : (P : Item → Type 0) (e : Item → ℕ) (base : ℕ) (xs : List Item) → ((x : Item) → Mem x xs → P x ⊎ (P x → ⊥)) → Bound P e base xs
-bound_of P e base [] d = record { bound = base; above_base = omega arith; upper = λ x m p. absurd m; least = λ g h k. h }
-bound_of P e base (y ∷ ys) d = by_first (d y (inl refl)) (bound_of P e base ys (λ x m. d x (inr m)))
+bound_of : (P : Item → Type 0) (e : Item → ℕ) (base : ℕ) (xs : List Item) → ((x : Item) → Contains xs x → P x ⊎ (P x → ⊥)) → Bound P e base xs
+bound_of P e base [] d = record { bound = base; above_base = omega arith; upper = λ x m p. absurd (none_in_empty x m); least = λ g h k. h }
+bound_of P e base (y ∷ ys) d = by_first (d y (at_head y ys y refl)) (bound_of P e base ys (λ x m. d x (in_tail y ys x m)))
   where
-    with_y : (r : Bound P e base ys) → P y → (x : Item) → Mem x (y ∷ ys) → P x → e x ≤ max (e y) r.bound
-    with_y r p x (inl h) q = let k : e x ≡ e y = ap e h in omega arith
-    with_y r p x (inr m) q = let k = r.upper x m q in omega arith
+    with_y : (r : Bound P e base ys) → P y → (x : Item) → Contains (y ∷ ys) x → P x → e x ≤ max (e y) r.bound
+    with_y r p x (zero, lt, h) q = let k : e x ≡ e y = ap e (sym h) in omega arith
+    with_y r p x (suc i, lt, h) q = let k = r.upper x (i, omega (arith, lt), h) q in omega arith
 
-    without_y : (r : Bound P e base ys) → (P y → ⊥) → (x : Item) → Mem x (y ∷ ys) → P x → e x ≤ r.bound
-    without_y r n x (inl h) q = absurd (n (subst P h q))
-    without_y r n x (inr m) q = r.upper x m q
+    without_y : (r : Bound P e base ys) → (P y → ⊥) → (x : Item) → Contains (y ∷ ys) x → P x → e x ≤ r.bound
+    without_y r n x (zero, lt, h) q = absurd (n (subst P (sym h) q))
+    without_y r n x (suc i, lt, h) q = r.upper x (i, omega (arith, lt), h) q
 
     by_first : P y ⊎ (P y → ⊥) → Bound P e base ys → Bound P e base (y ∷ ys)
     by_first (inl p) r = record {
       bound = max (e y) r.bound;
       above_base = let h = r.above_base in omega arith;
       upper = with_y r p;
-      least = λ g h k. let a = k y (inl refl) p in let b = r.least g h (λ x m q. k x (inr m) q) in omega arith;
+      least = λ g h k. let a = k y (at_head y ys y refl) p in let b = r.least g h (λ x m q. k x (in_tail y ys x m) q) in omega arith;
     }
-    by_first (inr n) r = record { bound = r.bound; above_base = r.above_base; upper = without_y r n; least = λ g h k. r.least g h (λ x m q. k x (inr m) q) }
+    by_first (inr n) r = record { bound = r.bound; above_base = r.above_base; upper = without_y r n; least = λ g h k. r.least g h (λ x m q. k x (in_tail y ys x m) q) }
 
 module _ (t : Tree) (v : ℕ) (a : Schedule) (tree : IsTree t) (rv : Reached t (Task v)) (orders : AreOrders t a.choice) (low high : ℕ) (whole : IsSchedule t a.choice a.at low high) where
   in_tree : (x : Item) → AtOrBelow t (Task v) x → Reached t x

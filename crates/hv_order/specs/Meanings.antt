@@ -1,6 +1,6 @@
 -- What may be chosen for each node of the tree, that is for each line and for the root.
-use Rattle.std.specs.Prelude.{◌≡◌, ℕ, Bool, true, false, List}
-use Rattle.hv_plan.specs.Trees.{Item, Task, Mem, Tree, Reached}
+use Rattle.std.specs.Prelude.{◌≡◌, ℕ, Bool, true, false, List, Contains}
+use Rattle.hv_plan.specs.Trees.{Item, Task, Tree, Reached}
 
 -- What a candidate of a node amounts to. A candidate is a matching of the node's children to the
 -- subtasks of its method, with an object for each parameter. Two things of it matter to the order of
@@ -19,9 +19,9 @@ pub record Choice : Type 0 where
 
 -- `before` is a strict partial order on the members of a list
 pub record IsOrder (xs : List Item) (before : Item → Item → Bool) : Type 0 where
-  pub strict : (x : Item) → Mem x xs → before x x ≡ true → ⊥
+  pub strict : (x : Item) → Contains xs x → before x x ≡ true → ⊥
   pub passed :
-      (x y z : Item) → Mem x xs → Mem y xs → Mem z xs → before x y ≡ true → before y z ≡ true
+      (x y z : Item) → Contains xs x → Contains xs y → Contains xs z → before x y ≡ true → before y z ≡ true
       → before x z ≡ true
 
 -- the choice orders the children of each node of the tree
@@ -51,7 +51,7 @@ free_meaning = record { before = λ x y. false; true_at = λ k. true }
 
 -- those of a list, and those of a list for each line
 abbrev pub listed : List Meaning → Meaning → Type 0
-listed cs c = Mem c cs
+listed cs c = Contains cs c
 
 abbrev pub listed_for : (ℕ → List Meaning) → ℕ → Meaning → Type 0
-listed_for lines v c = Mem c (lines v)
+listed_for lines v c = Contains (lines v) c

@@ -2,8 +2,9 @@
 -- decomposition puts the subtasks of a method in the place of a task, and they inherit the task's
 -- place in the order. Here the network of a method holds one step more, the precondition step, which
 -- comes before all subtasks. It stays when the method has no subtask.
-use Rattle.std.specs.Prelude.{◌≡◌, ℕ, Bool, false, if◌then◌else◌, ◌==◌, List, [], ◌∷◌, ◌++◌, map}
-use Rattle.hv_plan.specs.Trees.{Item, Act, Task, Pre, Mem, Distinct, Tree, Reached, IsPrimitive}
+use Rattle.std.specs.Prelude.{◌≡◌, ℕ, Bool, false, if◌then◌else◌, ◌==◌, List, [], ◌∷◌, ◌++◌, map, Contains}
+use Rattle.hv_text.specs.Lists.{Once}
+use Rattle.hv_plan.specs.Trees.{Item, Act, Task, Pre, Tree, Reached, IsPrimitive}
 use Rattle.hv_order.specs.Meanings.{Choice}
 
 -- Items, and pairs (x, y) of them where x must come before y. A list stands for the set of its members
@@ -69,15 +70,15 @@ decomposition t o v n =
 -- each stands in the network when its turn comes
 abbrev pub Leads : Tree → Choice → Network → List ℕ → Network → Type 0
 Leads t o from [] to = from ≡ to
-Leads t o from (v ∷ vs) to = Mem (Task v) from.items × Leads t o (decomposition t o v from) vs to
+Leads t o from (v ∷ vs) to = Contains from.items (Task v) × Leads t o (decomposition t o v from) vs to
 
 -- A derivation: decompositions in some order, of each line of the tree exactly once, that lead from
 -- the initial network to one of actions and precondition steps alone
 pub record Derives (t : Tree) (o : Choice) (lines : List ℕ) (end : Network) : Type 0 where
   pub leads : Leads t o (initial_network t o) lines end
-  pub once : Distinct lines
-  pub all : (v : ℕ) → Reached t (Task v) → Mem v lines
-  pub done : (x : Item) → Mem x end.items → IsPrimitive x
+  pub once : Once lines
+  pub all : (v : ℕ) → Reached t (Task v) → Contains lines v
+  pub done : (x : Item) → Contains end.items x → IsPrimitive x
 
 -- there is a derivation
 pub record HasDerivation (t : Tree) (o : Choice) : Type 0 where

@@ -1,6 +1,7 @@
 -- The table of least finishes, as it is computed: children first, and for each start the least finish.
-use Rattle.std.specs.Prelude.{◌≡◌, ℕ, zero, suc, ◌+◌, ◌-◌, ◌≤◌, Bool, true, if◌then◌else◌, nat_le, nat_lt, max, min, List, [], ◌∷◌, Option, Some, None}
-use Rattle.hv_plan.specs.Trees.{Item, Act, Task, Pre, Mem, Distinct, Tree}
+use Rattle.std.specs.Prelude.{◌≡◌, ℕ, zero, suc, ◌+◌, ◌-◌, ◌≤◌, Bool, true, if◌then◌else◌, nat_le, nat_lt, max, min, List, [], ◌∷◌, Option, Some, None, Contains}
+use Rattle.hv_text.specs.Lists.{Once}
+use Rattle.hv_plan.specs.Trees.{Item, Act, Task, Pre, Tree}
 use Rattle.hv_order.specs.Meanings.{Meaning, IsOrder}
 
 -- f is at most n, and the least number at which P holds
@@ -96,13 +97,13 @@ root_finish t roots root_sort lines sort n depth s =
 -- no member of a list must come before one that stands earlier
 abbrev pub Respects : (Item → Item → Bool) → List Item → Type 0
 Respects before [] = Unit {0}
-Respects before (x ∷ xs) = ((y : Item) → Mem y xs → before y x ≡ true → ⊥) × Respects before xs
+Respects before (x ∷ xs) = ((y : Item) → Contains xs y → before y x ≡ true → ⊥) × Respects before xs
 
 -- ys is a topological sort of xs: the same members, each once, in an order that `before` allows
 pub record IsSort (xs : List Item) (before : Item → Item → Bool) (ys : List Item) : Type 0 where
-  pub has : (x : Item) → Mem x xs → Mem x ys
-  pub only : (x : Item) → Mem x ys → Mem x xs
-  pub distinct : Distinct ys
+  pub has : (x : Item) → Contains xs x → Contains ys x
+  pub only : (x : Item) → Contains ys x → Contains xs x
+  pub distinct : Once ys
   pub respects : Respects before ys
 
 -- there is a topological sort
@@ -114,10 +115,10 @@ pub record HasSort (xs : List Item) (before : Item → Item → Bool) : Type 0 w
 pub record AreSorts
     (children : ℕ → List Item) (lines : ℕ → List Meaning) (sort : ℕ → Meaning → List Item)
     : Type 0 where
-  pub orders : (v : ℕ) (c : Meaning) → Mem c (lines v) → IsOrder (children v) c.before
-  pub sorts : (v : ℕ) (c : Meaning) → Mem c (lines v) → IsSort (children v) c.before (sort v c)
+  pub orders : (v : ℕ) (c : Meaning) → Contains (lines v) c → IsOrder (children v) c.before
+  pub sorts : (v : ℕ) (c : Meaning) → Contains (lines v) c → IsSort (children v) c.before (sort v c)
 
 -- each candidate of the root orders the initial tasks, and `sort` sorts them by it
 pub record AreRootSorts (t : Tree) (roots : List Meaning) (sort : Meaning → List Item) : Type 0 where
-  pub orders : (c : Meaning) → Mem c roots → IsOrder t.initial_tasks c.before
-  pub sorts : (c : Meaning) → Mem c roots → IsSort t.initial_tasks c.before (sort c)
+  pub orders : (c : Meaning) → Contains roots c → IsOrder t.initial_tasks c.before
+  pub sorts : (c : Meaning) → Contains roots c → IsSort t.initial_tasks c.before (sort c)

@@ -3,11 +3,14 @@
 ghost use Rattle.std.specs.Prelude.{◌≡◌, ◌≤◌, ℕ, IfOk, Some, List};
 ghost use Rattle.hv_order.specs.inside.Facts.{AreFits};
 ghost use Rattle.hv_order.specs.inside.Choosing.{newer};
+ghost use Rattle.hv_order.specs.inside.Trials.{WantsOnly};
+ghost use Rattle.hv_order.specs.inside.Winners.{StaysListed};
 ghost use Rattle.hv_order.specs.inside.Frames.{IsArranged, AreArranged, IsHead, IsEarliest, IsBegun, IsNext, IfTurn, TakesWinner, IsFrame, EndsLeast, EndsWon, StaysFrame, StaysTried};
 ghost use Rattle.hv_order.specs.declared.trial.Arranged.{Arranged};
+ghost use Rattle.hv_order.specs.declared.trial.Best.{Best};
 
 use crate::memory::Memory;
-use crate::trial::{Arranged, Progress, Table, Trial, go_on};
+use crate::trial::{Arranged, Best, Progress, Table, Trial, go_on};
 use std::alloc::Global;
 use std::mem::swap;
 
@@ -20,13 +23,13 @@ pub trait Candidates {
         ensures { IfOk result (IsHead (left self.old) (left self.new)) };
 }
 
-/// The best of the candidates that are over, and the one that is laid out now. None ends before
-/// `earliest`.
+/// The best of the candidates that are over, with the last start up to which it stays the best, and the
+/// candidate that is laid out now. None ends before `earliest`.
 #[derive(Drop)]
 pub struct Frame {
     pub start: u32,
     pub earliest: u32,
-    pub best: Option<u32>,
+    pub best: Option<Best>,
     pub winner: Arranged,
     pub candidate: Arranged,
     pub trial: Trial,
@@ -55,13 +58,14 @@ pub fn begin<T: Table>(
 {
     match table.first_true(candidate, start, cap) {
         None => Ok(None),
-        Some(at) => {
+        Some(truth) => {
             let finishes = vec![in alloc; 0; candidate.children.len()]?;
             Ok(Some(Trial {
-                at,
+                at: truth.first,
+                last: truth.last,
                 cap,
                 placed: 0,
-                latest: at,
+                latest: truth.first,
                 finishes,
             }))
         }
@@ -69,14 +73,14 @@ pub fn begin<T: Table>(
 }
 
 /// Takes what the current candidate came to.
-pub fn take(frame: &mut Frame, finish: Option<u32>)
-    ensures best { frame.new.best ≡ newer frame.old.best finish }
-    ensures winner { TakesWinner frame.old frame.new finish }
+pub fn take(frame: &mut Frame, best: Option<Best>)
+    ensures best { frame.new.best ≡ newer frame.old.best best }
+    ensures winner { TakesWinner frame.old frame.new best }
     ensures start { frame.new.start ≡ frame.old.start }
     ensures earliest { frame.new.earliest ≡ frame.old.earliest }
 {
-    if finish.is_some() {
-        frame.best = finish;
+    if best.is_some() {
+        frame.best = best;
         swap(&mut frame.winner, &mut frame.candidate);
     }
 }
@@ -86,26 +90,26 @@ pub fn next_turn<T: Table, C: Candidates>(
     alloc: Global,
     table: &T,
     left: &mut C,
-    best: Option<u32>,
+    best: Option<Best>,
     start: u32,
     earliest: u32,
     last: u32,
 ) -> Result<Option<Turn>, Memory>
     requires last { last ≡ (T.facts table.now).last }
     requires fits { AreFits (T.facts table.now).fits }
-    requires within { (f : ℕ) → best ≡ Some f → f ≤ last }
+    requires within { (b : Best) → best ≡ Some b → b.finish ≤ last }
     requires earliest { IsEarliest (T.facts table.now) start earliest }
-    requires arranged { AreArranged (T.facts table.now) (C.left left.old) }
+    requires arranged { AreArranged (T.facts table.now) (T.size table.now) (C.left left.old) }
     ensures next { IfOk result (IsNext (T.facts table.now) start best (C.left left.old) (C.left left.new)) }
-    ensures turn { IfOk result (IfTurn (T.facts table.now) start best (C.left left.old) (C.left left.new)) }
+    ensures turn { IfOk result (IfTurn (T.facts table.now) (T.size table.now) start best (C.left left.old) (C.left left.new)) }
 {
     let cap = match best {
         None => last,
-        Some(finish) => {
-            if finish <= earliest {
+        Some(found) => {
+            if found.finish <= earliest {
                 return Ok(None);
             }
-            finish - 1
+            found.finish - 1
         }
     };
     while let Some(candidate) = left.next()? {
@@ -127,12 +131,15 @@ pub fn advance<T: Table, C: Candidates>(
 ) -> Result<Progress, Memory>
     requires last { last ≡ (T.facts table.now).last }
     requires fits { AreFits (T.facts table.now).fits }
+    requires sound { T.sound table.now }
     requires earliest { IsEarliest (T.facts table.now) frame.old.start frame.old.earliest }
-    requires frame { IsFrame (T.facts table.now) frame.old.start frame.old (C.left left.old) }
+    requires frame { IsFrame (T.facts table.now) (T.size table.now) frame.old.start frame.old (C.left left.old) }
     ensures over { IfOk result (EndsLeast (T.facts table.now) frame.old (C.left left.old)) }
     ensures won { IfOk result (EndsWon (T.facts table.now) frame.old frame.new) }
-    ensures frame { IfOk result (StaysFrame (T.facts table.now) frame.old frame.new (C.left left.new)) }
+    ensures frame { IfOk result (StaysFrame (T.facts table.now) (T.size table.now) frame.old frame.new (C.left left.new)) }
     ensures tried { IfOk result (StaysTried (T.facts table.now) frame.old frame.new (C.left left.old) (C.left left.new)) }
+    ensures listed { IfOk result (StaysListed frame.old frame.new (C.left left.old) (C.left left.new)) }
+    ensures unknown { IfOk result (WantsOnly (T.unknown table.now)) }
     ensures start { frame.new.start ≡ frame.old.start }
 {
     loop {
@@ -142,11 +149,12 @@ pub fn advance<T: Table, C: Candidates>(
             &candidate.children,
             &candidate.order,
             &candidate.direct,
+            last,
             &mut frame.trial,
         ) {
             Progress::Wants(child, start) => return Ok(Progress::Wants(child, start)),
-            Progress::Over(finish) => {
-                take(frame, finish);
+            Progress::Over(best) => {
+                take(frame, best);
                 match next_turn(
                     alloc,
                     table,

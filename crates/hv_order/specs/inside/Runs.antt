@@ -1,28 +1,41 @@
 -- The row of a node as runs of starts.
-use Rattle.std.specs.Prelude.{◌≡◌, ℕ, ◌+◌, ◌-◌, ◌<◌, ◌≤◌, List, [], ◌∷◌, length, Some, slice_get, get_or}
+use Rattle.std.specs.Prelude.{◌≡◌, ℕ, zero, suc, ◌+◌, ◌-◌, ◌/◌, ◌<◌, ◌≤◌, ◌⊎◌, List, [], ◌∷◌, length, take, Option, Some, slice_get, get_or, Contains}
+use Rattle.hv_text.specs.Lists.{Once}
 use Rattle.hv_order.specs.Tables.{IsLeast}
-use Rattle.hv_order.specs.inside.Facts.{Facts}
-use Rattle.hv_order.specs.declared.runs.Run.{Run}
+use Rattle.hv_order.specs.inside.Facts.{Facts, IsRunOf}
+use Rattle.hv_order.specs.inside.Nodes.{IsWinnerOf}
+use Rattle.hv_order.specs.declared.trial.Arranged.{Arranged}
+use Rattle.hv_order.specs.declared.trial.Run.{Run}
 use Rattle.hv_order.specs.declared.runs.Row.{Row}
-
--- what fits from a start fits from an earlier one
-abbrev pub IsEarlier : (ℕ → ℕ → Type 0) → Type 0
-IsEarlier Fit = (s s' f : ℕ) → s' ≤ s → Fit s f → Fit s' f
-
--- a run gives the least finish for each start from s to its last
-pub record IsRunOf (Fit : ℕ → ℕ → Type 0) (n s : ℕ) (r : Run) : Type 0 where
-  pub begun : s ≤ r.last
-  pub within : r.last ≤ n
-  pub least : (x : ℕ) → s ≤ x → x ≤ r.last → IsLeast (Fit x) n r.finish
+use Rattle.hv_order.specs.declared.runs.Place.{Place}
 
 -- runs cover the starts from s to n, one behind the other
 abbrev pub IsRow : (ℕ → ℕ → Type 0) → ℕ → ℕ → List Run → Type 0
 IsRow Fit n s [] = s ≡ n + 1
 IsRow Fit n s (r ∷ rs) = IsRunOf Fit n s r × IsRow Fit n (r.last + 1) rs
 
+-- each run of a node has its winner
+abbrev pub AreWinners : Facts → ℕ → List Run → List (Option Arranged) → Type 0
+AreWinners q v [] [] = Unit {0}
+AreWinners q v [] (w ∷ ws) = ⊥
+AreWinners q v (r ∷ rs) [] = ⊥
+AreWinners q v (r ∷ rs) (w ∷ ws) = IsWinnerOf q v r w × AreWinners q v rs ws
+
+-- the first of these runs has another finish than the run before it
+abbrev pub IsApartFrom : Run → List Run → Type 0
+IsApartFrom r [] = Unit {0}
+IsApartFrom r (x ∷ xs) = r.finish ≡ x.finish → ⊥
+
+-- no run has the same finish as the next
+abbrev pub AreApart : List Run → Type 0
+AreApart [] = Unit {0}
+AreApart (r ∷ rs) = IsApartFrom r rs × AreApart rs
+
 -- it is the row of a node
-abbrev pub IsRowOf : Facts → ℕ → Row → Type 0
-IsRowOf q v r = IsRow (q.fits v) q.last 0 r.runs.items
+pub record IsRowOf (q : Facts) (v : ℕ) (r : Row) : Type 0 where
+  pub runs : IsRow (q.fits v) q.last 0 r.runs.items
+  pub apart : AreApart r.runs.items
+  pub winners : AreWinners q v r.runs.items r.winners.items
 
 -- each row is that of the node of its number
 abbrev pub AreRows : Facts → List Row → Type 0
@@ -40,3 +53,69 @@ AreBefore runs i start = (j : ℕ) (d : Run) → j < i → (get_or runs j d).las
 -- the run at place i ends no earlier than the start
 abbrev pub Reaches : List Run → ℕ → ℕ → Type 0
 Reaches runs i start = (d : Run) → start ≤ (get_or runs i d).last
+
+-- the last of these runs has this finish
+pub record EndsWith (runs : List Run) (finish : Option ℕ) : Type 0 where
+  pub run : Run
+  pub is_last : slice_get runs (length runs - 1) ≡ Some run
+  pub finish_is : run.finish ≡ finish
+
+-- both lists are as they were, and the last run had another finish
+pub record StaysWhole
+    (runs : List Run) (ws : List (Option Arranged)) (finish : Option ℕ) (runs' : List Run)
+    (ws' : List (Option Arranged)) : Type 0 where
+  pub other : EndsWith runs finish → ⊥
+  pub runs_are : runs' ≡ runs
+  pub winners_are : ws' ≡ ws
+
+-- the last run had this finish, and is gone with its winner
+pub record LosesLast
+    (runs : List Run) (ws : List (Option Arranged)) (finish : Option ℕ) (runs' : List Run)
+    (ws' : List (Option Arranged)) : Type 0 where
+  pub last : EndsWith runs finish
+  pub runs_are : runs' ≡ take (length runs - 1) runs
+  pub winners_are : ws' ≡ take (length runs - 1) ws
+
+-- how the runs of a row go on where the next one has this finish
+abbrev pub IsTrimmed :
+    List Run → List (Option Arranged) → Option ℕ → List Run → List (Option Arranged) → Type 0
+IsTrimmed runs ws finish runs' ws' =
+    StaysWhole runs ws finish runs' ws' ⊎ LosesLast runs ws finish runs' ws'
+
+-- a number has so many binary digits, or more: one where it is not 0, the others in its half
+abbrev pub HasDigits : ℕ → ℕ → Type 0
+HasDigits m zero = Unit {0}
+HasDigits m (suc k) = (1 ≤ m) × HasDigits (m / 2) k
+
+-- so many of these runs were looked at: one or more, and at most as many as their number has binary
+-- digits
+pub record AreFew (runs : List Run) (looked : ℕ) : Type 0 where
+  pub one : 1 ≤ looked
+  pub few : HasDigits (length runs) looked
+
+-- so of the runs of a node
+abbrev pub AreFewOf : List Row → ℕ → ℕ → Type 0
+AreFewOf rows v looked = (r : Row) → slice_get rows v ≡ Some r → AreFew r.runs.items looked
+
+-- where a start was found among runs, and how many of them were looked at
+pub record IsPlace (runs : List Run) (start : ℕ) (p : Place) : Type 0 where
+  pub within : p.at < length runs
+  pub behind : AreBefore runs p.at start
+  pub here : Reaches runs p.at start
+  pub few : AreFew runs p.looked
+
+-- so many different answers has the node for its starts, none counted as one
+pub record IsNumberOfAnswers (Fit : ℕ → ℕ → Type 0) (n count : ℕ) : Type 0 where
+  pub answers : List (Option ℕ)
+  pub as_many : length answers ≡ count
+  pub once : Once answers
+  pub has : (s : ℕ) (o : Option ℕ) → s ≤ n → IsLeast (Fit s) n o → Contains answers o
+  pub only : (o : Option ℕ) → Contains answers o → (s : ℕ) × (s ≤ n) × IsLeast (Fit s) n o
+
+-- so many runs were looked at for an answer of the node: one or more, and at most as many as the number
+-- of its different answers has binary digits
+pub record IsCounted (q : Facts) (v looked : ℕ) : Type 0 where
+  pub answers : ℕ
+  pub is_number : IsNumberOfAnswers (q.fits v) q.last answers
+  pub one : 1 ≤ looked
+  pub few : HasDigits answers looked

@@ -5,5 +5,5 @@ use Rattle.hv_order.proofs.runs.build.Given as goal
 abbrev pub invariant-loop-node : goal.invariant-loop-node
 invariant-loop-node g l = record {
   count : length l.rows.items ≡ l.node;
-  rows : AreRows (g.S.Settle.facts l.nodes) l.rows.items;
+  rows : AreRows (g.N.Nodes.facts l.nodes) l.rows.items;
 }

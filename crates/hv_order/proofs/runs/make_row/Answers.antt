@@ -1,14 +1,35 @@
-use Rattle.std.proofs.Common.{rules, ◌≡◌, ◌<◌, ◌≤◌, ◌+◌, ◌++◌, ℕ, length, IfOk, Some, None, Option, ◌-◌, List, [], ◌∷◌, refl, sym, arith}
-use Rattle.hv_order.specs.inside.Runs.{IsRow, AreRows, IsRunOf, IsEarlier}
-use Rattle.hv_order.specs.Tables.{IsLeast}
-use Rattle.hv_order.proofs.RunLemmas.{row_more, to_the_end, nothing_behind}
+use Rattle.std.proofs.Common.{rules, ◌≡◌, ◌<◌, ◌≤◌, ◌+◌, ◌++◌, ℕ, length, Some, None, Option, ◌-◌, List, [], ◌∷◌, refl, sym, subst, arith}
+use Rattle.hv_order.specs.inside.Facts.{IsRunOf}
+use Rattle.hv_order.specs.inside.Runs.{IsRow}
+use Rattle.hv_order.proofs.RunLemmas.{nothing_behind}
+use Rattle.hv_order.proofs.Merging.{IsRowSoFar, far_more}
 use Rattle.hv_order.proofs.runs.make_row.Goals as goal
 
 pub returns : goal.returns
 returns g c =
-    let last = c.last-last.ensures in
+    let last = c.last-last.ensures.last in
     let a = c.loop-start-test.false in
-    let b = c.loop-start.invariant.within in
+    let inv = c.loop-start.invariant in
+    let b = inv.within in
     let e : c.loop-start.start ≡ c.last-last.result + 1 = omega arith in
-    let h = c.loop-start.invariant.rest [] e in
-    rw (sym last.0, sym (nothing_behind c.loop-start.runs.items)) h
+    let h = inv.rest [] e in
+    record { runs = rw (sym last, sym (nothing_behind c.loop-start.runs.items)) h; apart = inv.apart; winners = inv.winners }
+
+pub loop-start-preserved : goal.loop-start-preserved
+loop-start-preserved g c =
+    let q = g.N.Nodes.facts c.args.nodes.now in
+    let v = length c.args.rows.now in
+    let inv = c.loop-start.invariant in
+    let made = c.in_ok-settled.ensures in
+    let settled = c.in_ok-settled.settled in
+    let P : ℕ → Type 0 = λ n. IsRunOf (q.fits v) n c.loop-start.start settled.run in
+    let run : P c.last-last.result = subst P (sym c.last-last.ensures.last) made.run in
+    let end : settled.run.last ≤ c.last-last.result = run.within in
+    let so_far : IsRowSoFar q v c.last-last.result c.loop-start.start c.loop-start.runs.items c.loop-start.winners.items = record { rest = inv.rest; apart = inv.apart; winners = inv.winners } in
+    let far = far_more q v c.last-last.result c.loop-start.start c.loop-start.runs.items c.loop-start.winners.items settled.run settled.winner so_far run made.winner c.trim.new.runs.items c.trim.new.winners.items c.trim.ensures in
+    record {
+      within = omega arith;
+      rest = λ rest h. rw c.in_ok-push.ensures.items (far.rest rest h);
+      apart = rw c.in_ok-push.ensures.items far.apart;
+      winners = rw (c.in_ok-push.ensures.items, c.in_ok-push-2.ensures.items) far.winners;
+    }

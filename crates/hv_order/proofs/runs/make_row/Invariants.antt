@@ -1,13 +1,15 @@
 use Rattle.std.proofs.Common.{◌+◌, ◌-◌, ◌++◌, ◌≡◌, ◌<◌, ◌≤◌, ℕ, length, Some, None, Option, List}
-use Rattle.hv_order.specs.inside.Runs.{IsRow}
-use Rattle.hv_order.specs.declared.runs.Run.{Run}
+use Rattle.hv_order.specs.inside.Runs.{IsRow, AreApart, AreWinners}
+use Rattle.hv_order.specs.declared.trial.Run.{Run}
 use Rattle.hv_order.proofs.runs.make_row.Given as goal
 
 -- what the rest comes to, the whole row does
 abbrev pub invariant-loop-start : goal.invariant-loop-start
 invariant-loop-start g l = record {
   within : l.start ≤ l.last + 1;
-  rest : (rest : List Run) → IsRow ((g.S.Settle.facts l.nodes).fits (length l.rows)) l.last l.start rest → IsRow ((g.S.Settle.facts l.nodes).fits (length l.rows)) l.last 0 (l.runs.items ++ rest);
+  rest : (rest : List Run) → IsRow ((g.N.Nodes.facts l.nodes).fits (length l.rows)) l.last l.start rest → IsRow ((g.N.Nodes.facts l.nodes).fits (length l.rows)) l.last 0 (l.runs.items ++ rest);
+  apart : AreApart l.runs.items;
+  winners : AreWinners (g.N.Nodes.facts l.nodes) (length l.rows) l.runs.items l.winners.items;
 }
 
 abbrev pub decreases-loop-start : goal.decreases-loop-start
