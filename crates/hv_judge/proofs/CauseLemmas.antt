@@ -1,9 +1,9 @@
 -- What the reading functions find is the cause by its definition.
-use Rattle.std.proofs.Common.{◌≡◌, ◌==◌, ◌||◌, ◌&&◌, ◌+◌, ℕ, Bool, true, false, not, List, [], ◌∷◌, ◌++◌, append_assoc, map, length, Option, Some, None, refl, sym, ap, ◌∙◌, subst, inl, inr, ◌⊎◌, cond, map-id, arith, if◌then◌else◌}
+use Rattle.std.proofs.Common.{◌≡◌, ◌==◌, ◌&&◌, ◌+◌, ℕ, Bool, true, false, not, List, [], ◌∷◌, ◌++◌, append_assoc, map, length, Option, Some, None, refl, sym, ap, ◌∙◌, subst, inl, inr, ◌⊎◌, cond, map-id, arith, if◌then◌else◌, Contains, zero, suc, ◌<◌}
 use Rattle.std.specs.List.{list_all, find, filter_map, cons_option}
 use Rattle.std.specs.Option.{option_map}
 use Rattle.std.specs.Str.{bytes_eq}
-use Rattle.hv_plan.specs.Trees.{Mem, Distinct}
+use Rattle.hv_text.specs.Lists.{Once}
 use Rattle.hv_plan.specs.Values.{Action, Plan}
 use Rattle.hv_judge.specs.Counting.{multiplicity, stands_in}
 use Rattle.hv_judge.specs.declared.answer.Cause.{Cause}
@@ -11,9 +11,9 @@ use Rattle.hv_judge.specs.declared.answer.CauseKind.{CauseKind}
 use Rattle.hv_judge.specs.declared.answer.CauseKind.TheVariants as kinds
 use Rattle.hv_judge.specs.Trees.{at_line, at_action, at_root, ids_of, occurs, repeated, has_arguments, name_of, child_names, or_else, repeated_id as find_repeated, unknown_child as find_unknown_child, two_parents as find_two_parents, unreached as find_unreached, unknown_task as find_unknown_task, unknown_object as find_unknown_object, child_count as find_count, other_names as find_names, tree_cause, fit_cause, children_cause, cause_of}
 use Rattle.hv_judge.specs.Causes.{IdsDiffer, ChildrenAreLines, ChildrenDiffer, IsReached, FormTree, NameActions, HaveNoArguments, FitActions, AreAsMany, IsAsOften, Fits, IsFirst, IsTreeCause, repeated_id, unknown_child, two_parents, unreached, unknown_task, unknown_object, other_count, other_names}
-use Rattle.hv_judge.proofs.Members.{SameNumber, equal_numbers, other_numbers, number_cases, not_true, mem_left, mem_right, MappedFrom, mem_map_from}
+use Rattle.hv_judge.proofs.Members.{SameNumber, equal_numbers, other_numbers, number_cases, not_true, mem_left, mem_right, MappedFrom, mem_map_from, at_head, in_tail, contains_cases, none_in_empty, once_head, once_tail, once_none, once_more}
 use Rattle.hv_judge.proofs.Occurrences.{mem_from_occurs, occurs_from_mem}
-use Rattle.hv_judge.proofs.CountLemmas.{same_key, key_same}
+use Rattle.hv_judge.proofs.CountLemmas.{same_key, stands_mem, mem_stands}
 
 -- tests and what they tell
 pub record Tells {A : Type 0} (test : A → Bool) (Has : A → Type 0) : Type 0 where
@@ -30,62 +30,62 @@ module _ (test : Action → Bool) (Has : Action → Type 0) (tells : Tells test 
       tell true here e later =
           let same : x ≡ a = (let both : Some x ≡ Some a = e in cc) in
           subst (λ y. IsFirst (x ∷ xs) Has y) same
-          (record { before = []; after = xs; split = refl; none_before = λ b m h. m; has = tells.yes x here })
+          (record { before = []; after = xs; split = refl; none_before = λ b m h. none_in_empty b m; has = tells.yes x here })
       tell false here e later =
           let rest = later e in
           record { before = x ∷ rest.before; after = rest.after; split = ap (λ ys. x ∷ ys) rest.split; none_before = none rest; has = rest.has }
         where
-          none : (rest : IsFirst xs Has a) → (b : Action) → Mem b (x ∷ rest.before) → Has b → ⊥
-          none rest b (inl same) h = tells.no x here (subst Has same h)
-          none rest b (inr m) h = rest.none_before b m h
+          none : (rest : IsFirst xs Has a) → (b : Action) → Contains (x ∷ rest.before) b → Has b → ⊥
+          none rest b (zero, lt, same) h = tells.no x here (subst Has (sym same) h)
+          none rest b (suc k, lt, same) h = rest.none_before b (k, omega (arith, lt), same) h
 
-  found_among : (before after : List Action) (a : Action) → ((b : Action) → Mem b before → Has b → ⊥) → Has a → find test (before ++ a ∷ after) ≡ Some a
+  found_among : (before after : List Action) (a : Action) → ((b : Action) → Contains before b → Has b → ⊥) → Has a → find test (before ++ a ∷ after) ≡ Some a
   found_among [] after a none has = tell (test a) refl
     where
       tell : (b : Bool) → test a ≡ b → cond b (Some a) (find test after) ≡ Some a
       tell true here = refl
       tell false here = absurd (tells.no a here has)
-  found_among (x ∷ before) after a none has = tell (test x) refl (found_among before after a (λ b m h. none b (inr m) h) has)
+  found_among (x ∷ before) after a none has = tell (test x) refl (found_among before after a (λ b m h. none b (in_tail x before b m) h) has)
     where
       tell : (b : Bool) → test x ≡ b → find test (before ++ a ∷ after) ≡ Some a → cond b (Some x) (find test (before ++ a ∷ after)) ≡ Some a
-      tell true here later = absurd (none x (inl refl) (tells.yes x here))
+      tell true here later = absurd (none x (at_head x before x refl) (tells.yes x here))
       tell false here later = later
 
   found : (xs : List Action) (a : Action) → IsFirst xs Has a → find test xs ≡ Some a
   found xs a h = ap (find test) h.split ∙ found_among h.before h.after a h.none_before h.has
 
-  none_has : (xs : List Action) → find test xs ≡ None → (a : Action) → Mem a xs → Has a → ⊥
-  none_has [] e a m h = absurd m
-  none_has (x ∷ xs) e a m h = tell (test x) refl e (λ f k. none_has xs f a k h) m
+  none_has : (xs : List Action) → find test xs ≡ None → (a : Action) → Contains xs a → Has a → ⊥
+  none_has [] e a m h = absurd (none_in_empty a m)
+  none_has (x ∷ xs) e a m h = tell (test x) refl e (λ f k. none_has xs f a k h) (contains_cases x xs a m)
     where
-      tell : (b : Bool) → test x ≡ b → cond b (Some x) (find test xs) ≡ None → (find test xs ≡ None → Mem a xs → ⊥) → (a ≡ x) ⊎ Mem a xs → ⊥
+      tell : (b : Bool) → test x ≡ b → cond b (Some x) (find test xs) ≡ None → (find test xs ≡ None → Contains xs a → ⊥) → (a ≡ x) ⊎ Contains xs a → ⊥
       tell true here e later m = let clash : Some x ≡ None = e in cc
       tell false here e later (inl same) = tells.no x here (subst Has same h)
       tell false here e later (inr k) = later e k
 
-  none_found : (xs : List Action) → ((a : Action) → Mem a xs → Has a → ⊥) → find test xs ≡ None
+  none_found : (xs : List Action) → ((a : Action) → Contains xs a → Has a → ⊥) → find test xs ≡ None
   none_found [] none = refl
-  none_found (x ∷ xs) none = tell (test x) refl (none_found xs (λ a m h. none a (inr m) h))
+  none_found (x ∷ xs) none = tell (test x) refl (none_found xs (λ a m h. none a (in_tail x xs a m) h))
     where
       tell : (b : Bool) → test x ≡ b → find test xs ≡ None → cond b (Some x) (find test xs) ≡ None
-      tell true here later = absurd (none x (inl refl) (tells.yes x here))
+      tell true here later = absurd (none x (at_head x xs x refl) (tells.yes x here))
       tell false here later = later
 
 -- all that pass a test, or one that does not
-all_tell : {A : Type 0} (test : A → Bool) (xs : List A) → ((a : A) → Mem a xs → test a ≡ true) → list_all test xs ≡ true
+all_tell : {A : Type 0} (test : A → Bool) (xs : List A) → ((a : A) → Contains xs a → test a ≡ true) → list_all test xs ≡ true
 all_tell test [] all = refl
-all_tell test (x ∷ xs) all = tell (test x) (all x (inl refl)) (all_tell test xs (λ a m. all a (inr m)))
+all_tell test (x ∷ xs) all = tell (test x) (all x (at_head x xs x refl)) (all_tell test xs (λ a m. all a (in_tail x xs a m)))
   where
     tell : (b : Bool) → b ≡ true → list_all test xs ≡ true → (b && list_all test xs) ≡ true
     tell true e later = later
     tell false e later = not_true e
 
-one_told : {A : Type 0} (test : A → Bool) (xs : List A) → list_all test xs ≡ true → (a : A) → Mem a xs → test a ≡ true
-one_told test [] e a m = absurd m
-one_told test (x ∷ xs) e a m = tell (test x) refl e (λ f k. one_told test xs f a k) m
+one_told : {A : Type 0} (test : A → Bool) (xs : List A) → list_all test xs ≡ true → (a : A) → Contains xs a → test a ≡ true
+one_told test [] e a m = absurd (none_in_empty a m)
+one_told test (x ∷ xs) e a m = tell (test x) refl e (λ f k. one_told test xs f a k) (contains_cases x xs a m)
   where
-    tell : (b : Bool) → test x ≡ b → (b && list_all test xs) ≡ true → (list_all test xs ≡ true → Mem a xs → test a ≡ true)
-        → (a ≡ x) ⊎ Mem a xs → test a ≡ true
+    tell : (b : Bool) → test x ≡ b → (b && list_all test xs) ≡ true → (list_all test xs ≡ true → Contains xs a → test a ≡ true)
+        → (a ≡ x) ⊎ Contains xs a → test a ≡ true
     tell true here e later (inl same) = ap test same ∙ here
     tell true here e later (inr k) = later e k
     tell false here e later m = not_true e
@@ -93,45 +93,45 @@ one_told test (x ∷ xs) e a m = tell (test x) refl e (λ f k. one_told test xs 
 -- the first whose number stands before it
 module _ {A : Type 0} (number : A → ℕ) where
   record Apart (seen : List ℕ) (xs : List A) : Type 0 where
-    distinct : Distinct (map number xs)
-    fresh : (i : ℕ) → Mem i (map number xs) → Mem i seen → ⊥
+    distinct : Once (map number xs)
+    fresh : (i : ℕ) → Contains (map number xs) i → Contains seen i → ⊥
 
   record Repetition (seen : List ℕ) (xs : List A) (a : A) : Type 0 where
     before : List A
     after : List A
     split : xs ≡ before ++ a ∷ after
     none_before : Apart seen before
-    repeats : Mem (number a) (seen ++ map number before)
+    repeats : Contains (seen ++ map number before) (number a)
 
   apart_more : (seen : List ℕ) (x : A) (xs : List A) → Apart seen (x ∷ xs) → Apart (seen ++ number x ∷ []) xs
-  apart_more seen x xs h = record { distinct = h.distinct.1; fresh = λ i m k. fresh i m (split_mem seen i k) }
+  apart_more seen x xs h = record { distinct = once_tail (number x) (map number xs) h.distinct; fresh = λ i m k. fresh i m (split_mem seen i k) }
     where
-      split_mem : (ys : List ℕ) (i : ℕ) → Mem i (ys ++ number x ∷ []) → Mem i ys ⊎ (i ≡ number x)
-      split_mem [] i (inl e) = inr e
-      split_mem [] i (inr m) = absurd m
-      split_mem (y ∷ ys) i (inl e) = inl (inl e)
-      split_mem (y ∷ ys) i (inr m) = widen (split_mem ys i m)
+      split_mem : (ys : List ℕ) (i : ℕ) → Contains (ys ++ number x ∷ []) i → Contains ys i ⊎ (i ≡ number x)
+      split_mem [] i (zero, lt, e) = inr (sym e)
+      split_mem [] i (suc k, lt, e) = absurd (let few : suc k < 1 = lt in omega (arith, few))
+      split_mem (y ∷ ys) i (zero, lt, e) = inl (at_head y ys i (sym e))
+      split_mem (y ∷ ys) i (suc k, lt, e) = let within : suc k < suc (length (ys ++ number x ∷ [])) = lt in widen (split_mem ys i (k, omega (arith, within), e))
         where
-          widen : Mem i ys ⊎ (i ≡ number x) → Mem i (y ∷ ys) ⊎ (i ≡ number x)
-          widen (inl m) = inl (inr m)
+          widen : Contains ys i ⊎ (i ≡ number x) → Contains (y ∷ ys) i ⊎ (i ≡ number x)
+          widen (inl m) = inl (in_tail y ys i m)
           widen (inr e) = inr e
 
-      fresh : (i : ℕ) → Mem i (map number xs) → Mem i seen ⊎ (i ≡ number x) → ⊥
-      fresh i m (inl k) = h.fresh i (inr m) k
-      fresh i m (inr e) = h.distinct.0 (subst (λ j. Mem j (map number xs)) e m)
+      fresh : (i : ℕ) → Contains (map number xs) i → Contains seen i ⊎ (i ≡ number x) → ⊥
+      fresh i m (inl k) = h.fresh i (in_tail (number x) (map number xs) i m) k
+      fresh i m (inr e) = once_head (number x) (map number xs) h.distinct (subst (λ j. Contains (map number xs) j) e m)
 
   apart_first : (seen : List ℕ) (x : A) (xs : List A) → occurs (number x) seen ≡ false → Apart (seen ++ number x ∷ []) xs → Apart seen (x ∷ xs)
-  apart_first seen x xs new h = record { distinct = (first, h.distinct); fresh = fresh }
+  apart_first seen x xs new h = record { distinct = once_more (number x) (map number xs) first h.distinct; fresh = fresh }
     where
-      first : Mem (number x) (map number xs) → ⊥
-      first m = h.fresh (number x) m (mem_right (number x) seen (number x ∷ []) (inl refl))
+      first : Contains (map number xs) (number x) → ⊥
+      first m = h.fresh (number x) m (mem_right (number x) seen (number x ∷ []) (at_head (number x) [] (number x) refl))
 
-      fresh : (i : ℕ) → Mem i (number x ∷ map number xs) → Mem i seen → ⊥
-      fresh i (inl e) k = not_true (sym new ∙ occurs_from_mem (number x) seen (subst (λ j. Mem j seen) e k))
-      fresh i (inr m) k = h.fresh i m (mem_left i seen (number x ∷ []) k)
+      fresh : (i : ℕ) → Contains (number x ∷ map number xs) i → Contains seen i → ⊥
+      fresh i (zero, lt, e) k = not_true (sym new ∙ occurs_from_mem (number x) seen (subst (λ j. Contains seen j) (sym e) k))
+      fresh i (suc n, lt, e) k = h.fresh i (n, omega (arith, lt), e) (mem_left i seen (number x ∷ []) k)
 
   new_number : (seen : List ℕ) (x : A) (xs : List A) → Apart seen (x ∷ xs) → (b : Bool) → occurs (number x) seen ≡ b → b ≡ false
-  new_number seen x xs h true e = absurd (h.fresh (number x) (inl refl) (mem_from_occurs (number x) seen e))
+  new_number seen x xs h true e = absurd (h.fresh (number x) (at_head (number x) (map number xs) (number x) refl) (mem_from_occurs (number x) seen e))
   new_number seen x xs h false e = refl
 
   repeated_from : (seen : List ℕ) (xs : List A) (a : A) → repeated number seen xs ≡ Some a → Repetition seen xs a
@@ -146,7 +146,7 @@ module _ {A : Type 0} (number : A → ℕ) where
             before = [];
             after = xs;
             split = refl;
-            none_before = record { distinct = tt; fresh = λ i m k. m };
+            none_before = record { distinct = once_none; fresh = λ i m k. none_in_empty i m };
             repeats = mem_left (number x) seen [] (mem_from_occurs (number x) seen here);
           })
       tell false here e later =
@@ -156,10 +156,10 @@ module _ {A : Type 0} (number : A → ℕ) where
             after = rest.after;
             split = ap (λ ys. x ∷ ys) rest.split;
             none_before = apart_first seen x rest.before here rest.none_before;
-            repeats = subst (λ is. Mem (number a) is) (append_assoc seen (number x ∷ []) (map number rest.before)) rest.repeats;
+            repeats = subst (λ is. Contains is (number a)) (append_assoc seen (number x ∷ []) (map number rest.before)) rest.repeats;
           }
 
-  repeated_among : (seen : List ℕ) (before after : List A) (a : A) → Apart seen before → Mem (number a) (seen ++ map number before)
+  repeated_among : (seen : List ℕ) (before after : List A) (a : A) → Apart seen before → Contains (seen ++ map number before) (number a)
       → repeated number seen (before ++ a ∷ after) ≡ Some a
   repeated_among seen [] after a h m = tell (occurs (number a) seen) refl
     where
@@ -167,15 +167,15 @@ module _ {A : Type 0} (number : A → ℕ) where
       tell true here = refl
       tell false here = not_true (sym here ∙ occurs_from_mem (number a) seen (short seen (number a) m))
         where
-          short : (is : List ℕ) (i : ℕ) → Mem i (is ++ []) → Mem i is
+          short : (is : List ℕ) (i : ℕ) → Contains (is ++ []) i → Contains is i
           short [] i m = m
-          short (j ∷ is) i (inl e) = inl e
-          short (j ∷ is) i (inr k) = inr (short is i k)
+          short (j ∷ is) i (zero, lt, e) = at_head j is i (sym e)
+          short (j ∷ is) i (suc n, lt, e) = let within : suc n < suc (length (is ++ [])) = lt in in_tail j is i (short is i (n, omega (arith, within), e))
   repeated_among seen (x ∷ before) after a h m =
       let new = new_number seen x before h (occurs (number x) seen) refl in
       rw new
       (repeated_among (seen ++ number x ∷ []) before after a (apart_more seen x before h)
-      (subst (λ is. Mem (number a) is) (sym (append_assoc seen (number x ∷ []) (map number before))) m))
+      (subst (λ is. Contains is (number a)) (sym (append_assoc seen (number x ∷ []) (map number before))) m))
 
   none_repeated : (seen : List ℕ) (xs : List A) → Apart seen xs → repeated number seen xs ≡ None
   none_repeated seen [] h = refl
@@ -184,7 +184,7 @@ module _ {A : Type 0} (number : A → ℕ) where
       rw new (none_repeated (seen ++ number x ∷ []) xs (apart_more seen x xs h))
 
   apart_none : (seen : List ℕ) (xs : List A) → repeated number seen xs ≡ None → Apart seen xs
-  apart_none seen [] e = record { distinct = tt; fresh = λ i m k. m }
+  apart_none seen [] e = record { distinct = once_none; fresh = λ i m k. none_in_empty i m }
   apart_none seen (x ∷ xs) e = tell (occurs (number x) seen) refl e (apart_none (seen ++ number x ∷ []) xs)
     where
       tell : (b : Bool) → occurs (number x) seen ≡ b → (if b then Some x else repeated number (seen ++ number x ∷ []) xs) ≡ None
@@ -192,59 +192,41 @@ module _ {A : Type 0} (number : A → ℕ) where
       tell true here e later = absurd (let clash : Some x ≡ None = e in cc)
       tell false here e later = apart_first seen x xs here (later e)
 
-  distinct_apart : (xs : List A) → Distinct (map number xs) → Apart [] xs
-  distinct_apart xs d = record { distinct = d; fresh = λ i m k. k }
-
--- names that stand among names
-mem_from_stands : (vs : List (List ℕ)) (w : List ℕ) → stands_in vs w ≡ true → Mem w vs
-mem_from_stands [] w e = not_true e
-mem_from_stands (v ∷ vs) w e = tell (bytes_eq w v) refl e (mem_from_stands vs w)
-  where
-    tell : (b : Bool) → bytes_eq w v ≡ b → (b || stands_in vs w) ≡ true → (stands_in vs w ≡ true → Mem w vs) → Mem w (v ∷ vs)
-    tell true here e later = inl (same_key w v here)
-    tell false here e later = inr (later e)
-
-stands_from_mem : (vs : List (List ℕ)) (w : List ℕ) → Mem w vs → stands_in vs w ≡ true
-stands_from_mem [] w m = absurd m
-stands_from_mem (v ∷ vs) w (inl e) = rw (e, key_same v) refl
-stands_from_mem (v ∷ vs) w (inr m) = tell (bytes_eq w v) (stands_from_mem vs w m)
-  where
-    tell : (b : Bool) → stands_in vs w ≡ true → (b || stands_in vs w) ≡ true
-    tell true e = refl
-    tell false e = e
+  distinct_apart : (xs : List A) → Once (map number xs) → Apart [] xs
+  distinct_apart xs d = record { distinct = d; fresh = λ i m k. none_in_empty i k }
 
 -- names that all stand among names
-pub all_among : (vs ws : List (List ℕ)) → list_all (stands_in vs) ws ≡ true → (w : List ℕ) → Mem w ws → Mem w vs
-all_among vs ws e w m = mem_from_stands vs w (one_told (stands_in vs) ws e w m)
+pub all_among : (vs ws : List (List ℕ)) → list_all (stands_in vs) ws ≡ true → (w : List ℕ) → Contains ws w → Contains vs w
+all_among vs ws e w m = stands_mem vs w (one_told (stands_in vs) ws e w m)
 
 -- a name that does not stand among names is there no time
-never : (vs : List (List ℕ)) (w : List ℕ) → (Mem w vs → ⊥) → multiplicity w vs ≡ 0
+never : (vs : List (List ℕ)) (w : List ℕ) → (Contains vs w → ⊥) → multiplicity w vs ≡ 0
 never [] w none = refl
-never (v ∷ vs) w none = tell (bytes_eq w v) refl (never vs w (λ m. none (inr m)))
+never (v ∷ vs) w none = tell (bytes_eq w v) refl (never vs w (λ m. none (in_tail v vs w m)))
   where
     tell : (b : Bool) → bytes_eq w v ≡ b → multiplicity w vs ≡ 0 → (if b then 1 else 0) + multiplicity w vs ≡ 0
-    tell true here later = absurd (none (inl (same_key w v here)))
+    tell true here later = absurd (none (at_head v vs w (same_key w v here)))
     tell false here later = let z : 0 + multiplicity w vs ≡ 0 = omega (arith, later) in z
 
 -- the names of children are names of lines
-line_name : (ls : List Action) (i : ℕ) (w : List ℕ) → name_of ls i ≡ Some w → Mem w (map (λ (a : Action). a.name) ls)
+line_name : (ls : List Action) (i : ℕ) (w : List ℕ) → name_of ls i ≡ Some w → Contains (map (λ (a : Action). a.name) ls) w
 line_name [] i w e = absurd (let clash : None ≡ Some w = e in cc)
 line_name (l ∷ ls) i w e = tell (i == l.id) e (line_name ls i w)
   where
     tell : (t : Bool) → option_map (λ (a : Action). a.name) (cond t (Some l) (find (λ (a : Action). i == a.id) ls)) ≡ Some w
-        → (name_of ls i ≡ Some w → Mem w (map (λ (a : Action). a.name) ls)) → Mem w (map (λ (a : Action). a.name) (l ∷ ls))
-    tell true e later = inl (let both : Some l.name ≡ Some w = e in cc)
-    tell false e later = inr (later e)
+        → (name_of ls i ≡ Some w → Contains (map (λ (a : Action). a.name) ls) w) → Contains (map (λ (a : Action). a.name) (l ∷ ls)) w
+    tell true e later = at_head l.name (map (λ (a : Action). a.name) ls) w (let both : Some l.name ≡ Some w = e in cc)
+    tell false e later = in_tail l.name (map (λ (a : Action). a.name) ls) w (later e)
 
-child_name : (ls : List Action) (is : List ℕ) (w : List ℕ) → Mem w (filter_map (name_of ls) is) → Mem w (map (λ (a : Action). a.name) ls)
-child_name ls [] w m = absurd m
+child_name : (ls : List Action) (is : List ℕ) (w : List ℕ) → Contains (filter_map (name_of ls) is) w → Contains (map (λ (a : Action). a.name) ls) w
+child_name ls [] w m = absurd (none_in_empty w m)
 child_name ls (i ∷ is) w m = tell (name_of ls i) refl m (child_name ls is w)
   where
-    tell : (o : Option (List ℕ)) → name_of ls i ≡ o → Mem w (cons_option o (filter_map (name_of ls) is))
-        → (Mem w (filter_map (name_of ls) is) → Mem w (map (λ (a : Action). a.name) ls)) → Mem w (map (λ (a : Action). a.name) ls)
+    tell : (o : Option (List ℕ)) → name_of ls i ≡ o → Contains (cons_option o (filter_map (name_of ls) is)) w
+        → (Contains (filter_map (name_of ls) is) w → Contains (map (λ (a : Action). a.name) ls) w) → Contains (map (λ (a : Action). a.name) ls) w
     tell None here m later = later m
-    tell (Some v) here (inl e) later = line_name ls i w (here ∙ ap (λ x. Some x) (sym e))
-    tell (Some v) here (inr m) later = later m
+    tell (Some v) here (zero, lt, e) later = let same : v ≡ w = e in line_name ls i w (here ∙ ap (λ x. Some x) same)
+    tell (Some v) here (suc k, lt, e) later = let within : suc k < suc (length (filter_map (name_of ls) is)) = lt in later (k, omega (arith, within), e)
 
 -- tests of what is not
 denied_tells : (test : Action → Bool) (P : Action → Type 0) → ((a : Action) → test a ≡ true → P a) → ((a : Action) → P a → test a ≡ true)
@@ -338,7 +320,7 @@ test_some true x h = absurd (h refl)
 test_some false x h = refl
 
 -- each step, and what its absence says
-module _ (declared subtasks : List (List ℕ)) (all_declared : (w : List ℕ) → Mem w subtasks → Mem w declared) (p : Plan) where
+module _ (declared subtasks : List (List ℕ)) (all_declared : (w : List ℕ) → Contains subtasks w → Contains declared w) (p : Plan) where
   ids_none : IdsDiffer p → find_repeated p ≡ None
   ids_none h = ap (at_action kinds.RepeatedId) (none_repeated (λ (a : Action). a.id) [] p.actions (distinct_apart (λ (a : Action). a.id) p.actions h))
 
@@ -355,23 +337,23 @@ module _ (declared subtasks : List (List ℕ)) (all_declared : (w : List ℕ) �
   lines_none h = rw (lines_pass h) refl
 
   children_none : ChildrenDiffer p → repeated (λ i. i) [] p.root.ids ≡ None
-  children_none h = none_repeated (λ i. i) [] p.root.ids (distinct_apart (λ i. i) p.root.ids (subst Distinct (sym (map-id p.root.ids)) h))
+  children_none h = none_repeated (λ i. i) [] p.root.ids (distinct_apart (λ i. i) p.root.ids (subst Once (sym (map-id p.root.ids)) h))
 
   children_differ : repeated (λ i. i) [] p.root.ids ≡ None → ChildrenDiffer p
-  children_differ e = subst Distinct (map-id p.root.ids) (apart_none (λ i. i) [] p.root.ids e).distinct
+  children_differ e = subst Once (map-id p.root.ids) (apart_none (λ i. i) [] p.root.ids e).distinct
 
   reached_tells : Tells (λ (a : Action). not (occurs a.id p.root.ids)) (λ a. IsReached p a → ⊥)
   reached_tells = denied_tells (λ (a : Action). occurs a.id p.root.ids) (IsReached p) (λ a e. mem_from_occurs a.id p.root.ids e) (λ a m. occurs_from_mem a.id p.root.ids m)
 
-  named_tells : Tells (λ (a : Action). not (stands_in declared a.name)) (λ a. Mem a.name declared → ⊥)
-  named_tells = denied_tells (λ (a : Action). stands_in declared a.name) (λ a. Mem a.name declared) (λ a e. mem_from_stands declared a.name e) (λ a m. stands_from_mem declared a.name m)
+  named_tells : Tells (λ (a : Action). not (stands_in declared a.name)) (λ a. Contains declared a.name → ⊥)
+  named_tells = denied_tells (λ (a : Action). stands_in declared a.name) (λ a. Contains declared a.name) (λ a e. stands_mem declared a.name e) (λ a m. mem_stands declared a.name m)
 
   bare_tells : Tells has_arguments (λ a. a.arguments ≡ [] → ⊥)
   bare_tells = denied_tells (λ (a : Action). length a.arguments == 0) (λ a. a.arguments ≡ []) (λ a e. no_members a.arguments (equal_by_test _ 0 e)) (λ a e. rw e refl)
 
   -- where no line fails a test, all pass it
   all_by : (test : Action → Bool) (P : Action → Type 0) → ((a : Action) → test a ≡ true → P a) → find (λ a. not (test a)) p.actions ≡ None
-      → (a : Action) → Mem a p.actions → P a
+      → (a : Action) → Contains p.actions a → P a
   all_by test P passes e a m = tell (test a) refl
     where
       tell : (b : Bool) → test a ≡ b → P a
@@ -379,16 +361,16 @@ module _ (declared subtasks : List (List ℕ)) (all_declared : (w : List ℕ) �
       tell false here =
           absurd (none_has (λ c. not (test c)) (λ c. not (test c) ≡ true) (record { yes = λ c f. f; no = λ c f g. not_true (sym f ∙ g) }) p.actions e a m (ap not here))
 
-  all_reached : find (λ (a : Action). not (occurs a.id p.root.ids)) p.actions ≡ None → (a : Action) → Mem a p.actions → IsReached p a
+  all_reached : find (λ (a : Action). not (occurs a.id p.root.ids)) p.actions ≡ None → (a : Action) → Contains p.actions a → IsReached p a
   all_reached e = all_by (λ a. occurs a.id p.root.ids) (IsReached p) (λ a f. mem_from_occurs a.id p.root.ids f) e
 
   all_named : find (λ (a : Action). not (stands_in declared a.name)) p.actions ≡ None → NameActions declared p
-  all_named e = all_by (λ a. stands_in declared a.name) (λ a. Mem a.name declared) (λ a f. mem_from_stands declared a.name f) e
+  all_named e = all_by (λ a. stands_in declared a.name) (λ a. Contains declared a.name) (λ a f. stands_mem declared a.name f) e
 
   all_bare : find has_arguments p.actions ≡ None → HaveNoArguments p
   all_bare e = all_by (λ a. length a.arguments == 0) (λ a. a.arguments ≡ []) (λ a f. no_members a.arguments (equal_by_test _ 0 f)) e
 
-  none_unreached : ((a : Action) → Mem a p.actions → IsReached p a) → find_unreached p ≡ None
+  none_unreached : ((a : Action) → Contains p.actions a → IsReached p a) → find_unreached p ≡ None
   none_unreached h = ap (at_action kinds.Unreached) (none_found _ _ reached_tells p.actions (λ a m deny. deny (h a m)))
 
   none_unnamed : NameActions declared p → find_unknown_task declared p ≡ None
@@ -401,21 +383,21 @@ module _ (declared subtasks : List (List ℕ)) (all_declared : (w : List ℕ) �
   number_none e = rw (test_of_equal _ _ e) refl
 
   -- a name that is not declared is that of no child and of no subtask
-  undeclared_often : NameActions declared p → (w : List ℕ) → (Mem w declared → ⊥) → IsAsOften subtasks p w
+  undeclared_often : NameActions declared p → (w : List ℕ) → (Contains declared w → ⊥) → IsAsOften subtasks p w
   undeclared_often names w none =
       never (child_names p) w (λ m. none (of_line (mem_map_from (λ (a : Action). a.name) w p.actions (child_name p.actions p.root.ids w m))))
       ∙ sym (never subtasks w (λ m. none (all_declared w m)))
     where
-      of_line : MappedFrom (λ (a : Action). a.name) w p.actions → Mem w declared
-      of_line from = subst (λ v. Mem v declared) (sym from.image) (names from.source from.is_member)
+      of_line : MappedFrom (λ (a : Action). a.name) w p.actions → Contains declared w
+      of_line from = subst (λ v. Contains declared v) (sym from.image) (names from.source from.is_member)
 
   all_often : NameActions declared p → list_all (λ w. multiplicity w (child_names p) == multiplicity w subtasks) declared ≡ true → (w : List ℕ) → IsAsOften subtasks p w
   all_often names e w = tell (stands_in declared w) refl
     where
       tell : (b : Bool) → stands_in declared w ≡ b → IsAsOften subtasks p w
       tell true here =
-          equal_by_test _ _ (one_told (λ w. multiplicity w (child_names p) == multiplicity w subtasks) declared e w (mem_from_stands declared w here))
-      tell false here = undeclared_often names w (λ m. not_true (sym here ∙ stands_from_mem declared w m))
+          equal_by_test _ _ (one_told (λ w. multiplicity w (child_names p) == multiplicity w subtasks) declared e w (stands_mem declared w here))
+      tell false here = undeclared_often names w (λ m. not_true (sym here ∙ mem_stands declared w m))
 
   names_pass : ((w : List ℕ) → IsAsOften subtasks p w) → list_all (λ w. multiplicity w (child_names p) == multiplicity w subtasks) declared ≡ true
   names_pass h = all_tell (λ w. multiplicity w (child_names p) == multiplicity w subtasks) declared (λ w m. test_of_equal _ _ (h w))

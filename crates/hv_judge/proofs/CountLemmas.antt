@@ -1,5 +1,5 @@
 -- The product of factorials over the declared names is the count, and how a table of multiplicities grows.
-use Rattle.std.proofs.Common.{◌≡◌, ℕ, zero, suc, ◌+◌, ◌-◌, ◌*◌, ◌<◌, ◌≤◌, ◌&&◌, ◌||◌, Bool, true, false, not, List, [], ◌∷◌, ◌++◌, length, map, take, drop, get_or, slice_set, refl, sym, ap, ◌∙◌, arith, subst, ◌⊎◌, inl, inr, replicate, nat_lt, None, Some, position, cond, add-one, add-zero, ◌^◌, if◌then◌else◌}
+use Rattle.std.proofs.Common.{◌≡◌, ℕ, zero, suc, ◌+◌, ◌-◌, ◌*◌, ◌<◌, ◌≤◌, ◌&&◌, ◌||◌, Bool, true, false, not, List, [], ◌∷◌, ◌++◌, length, map, take, drop, get_or, slice_set, refl, sym, ap, ◌∙◌, arith, subst, replicate, nat_lt, None, Some, position, cond, add-one, add-zero, ◌^◌, if◌then◌else◌, Contains}
 use Rattle.std.specs.Str.{bytes_eq}
 use Rattle.std.specs.List.{list_any, list_all, position_or_len, IsDistinct, AllByRecursion}
 use Rattle.std.proofs.lemmas.Slice.Eq.{bytes_eq-Decides}
@@ -8,21 +8,12 @@ use Rattle.std.proofs.lemmas.Bool.Decides.{nat_tests}
 use Rattle.std.proofs.lemmas.Simd.{splat_is_map}
 use Rattle.std.proofs.lemmas.List.{length-map, length-take}
 use Rattle.std.proofs.Math.Seq.{drop-cons}
-use Rattle.hv_plan.specs.Forms.{is_id, greatest}
-use Rattle.hv_plan.specs.Views.{as_number}
+use Rattle.hv_text.specs.Lists.{Once}
+use Rattle.hv_plan.specs.Forms.{as_number, is_id, greatest}
 use Rattle.hv_text.specs.declared.name.Name.{Name}
 use Rattle.hv_text.specs.Names.{text_of}
 use Rattle.hv_judge.specs.Counting.{multiplicity, multiplicities, stands_in, classes, factorial, product, count}
-
--- a name is among names
-abbrev pub Mem : List (List ℕ) → List ℕ → Type 0
-Mem [] x = ⊥
-Mem (y ∷ ys) x = (y ≡ x) ⊎ Mem ys x
-
--- no name stands twice
-abbrev pub Once : List (List ℕ) → Type 0
-Once [] = Unit {0}
-Once (x ∷ xs) = (Mem xs x → ⊥) × Once xs
+use Rattle.hv_judge.proofs.Members.{at_head, in_tail, none_in_empty, once_head, once_tail, once_none, once_more}
 
 -- the factors, one name after another
 abbrev pub rising : List (List ℕ) → ℕ
@@ -35,34 +26,34 @@ same_key k j e = (bytes_eq-Decides k j).0 e
 pub key_same : (k : List ℕ) → bytes_eq k k ≡ true
 key_same k = (bytes_eq-Decides k k).1 refl
 
-pub stands_mem : (ks : List (List ℕ)) (k : List ℕ) → stands_in ks k ≡ true → Mem ks k
+pub stands_mem : (ks : List (List ℕ)) (k : List ℕ) → stands_in ks k ≡ true → Contains ks k
 stands_mem [] k e = cc
 stands_mem (j ∷ ks) k e = go (bytes_eq k j) refl e (stands_mem ks k)
   where
-    go : (b : Bool) → bytes_eq k j ≡ b → (b || stands_in ks k) ≡ true → (stands_in ks k ≡ true → Mem ks k) → Mem (j ∷ ks) k
-    go true b e h = inl (sym (same_key k j b))
-    go false b e h = inr (h e)
+    go : (b : Bool) → bytes_eq k j ≡ b → (b || stands_in ks k) ≡ true → (stands_in ks k ≡ true → Contains ks k) → Contains (j ∷ ks) k
+    go true b e h = at_head j ks k (same_key k j b)
+    go false b e h = in_tail j ks k (h e)
 
-pub mem_stands : (ks : List (List ℕ)) (k : List ℕ) → Mem ks k → stands_in ks k ≡ true
-mem_stands [] k m = absurd m
+pub mem_stands : (ks : List (List ℕ)) (k : List ℕ) → Contains ks k → stands_in ks k ≡ true
+mem_stands [] k m = absurd (none_in_empty k m)
 mem_stands (j ∷ ks) k m = go (bytes_eq k j) refl m (mem_stands ks k)
   where
-    go : (b : Bool) → bytes_eq k j ≡ b → Mem (j ∷ ks) k → (Mem ks k → stands_in ks k ≡ true) → (b || stands_in ks k) ≡ true
+    go : (b : Bool) → bytes_eq k j ≡ b → Contains (j ∷ ks) k → (Contains ks k → stands_in ks k ≡ true) → (b || stands_in ks k) ≡ true
     go true b m h = refl
-    go false b (inl e) h = let P : List ℕ → Type 0 = λ l. bytes_eq l j ≡ true in let c : bytes_eq k j ≡ true = subst P e (key_same j) in cc
-    go false b (inr m) h = h m
+    go false b (zero, lt, e) h = let P : List ℕ → Type 0 = λ l. bytes_eq l j ≡ true in let c : bytes_eq k j ≡ true = subst P e (key_same j) in cc
+    go false b (suc i, lt, e) h = h (i, omega (arith, lt), e)
 
 -- over different names, one more of a name that is not among them adds no factor
-none_more : (k : List ℕ) (ks ds : List (List ℕ)) → (Mem ds k → ⊥)
+none_more : (k : List ℕ) (ks ds : List (List ℕ)) → (Contains ds k → ⊥)
     → product (map (λ d. factorial (multiplicity d (k ∷ ks))) ds) ≡ product (map (λ d. factorial (multiplicity d ks)) ds)
 none_more k ks [] n = refl
-none_more k ks (d ∷ ds) n = go (bytes_eq d k) refl (none_more k ks ds (λ m. n (inr m)))
+none_more k ks (d ∷ ds) n = go (bytes_eq d k) refl (none_more k ks ds (λ m. n (in_tail d ds k m)))
   where
     go : (b : Bool) → bytes_eq d k ≡ b
         → product (map (λ (z : List ℕ). factorial (multiplicity z (k ∷ ks))) ds) ≡ product (map (λ (z : List ℕ). factorial (multiplicity z ks)) ds)
         → factorial ((if b then 1 else 0) + multiplicity d ks) * product (map (λ (z : List ℕ). factorial (multiplicity z (k ∷ ks))) ds)
         ≡ factorial (multiplicity d ks) * product (map (λ (z : List ℕ). factorial (multiplicity z ks)) ds)
-    go true b r = absurd (n (inl (same_key d k b)))
+    go true b r = absurd (n (at_head d ds k (sym (same_key d k b))))
     go false b r = let z : 0 + multiplicity d ks ≡ multiplicity d ks = omega arith in rw (z, r) refl
 
 shuffle : (n m f a : ℕ) → m ≡ n → (suc n * f) * a ≡ (1 + m) * (f * a)
@@ -72,71 +63,74 @@ swap : (f m a : ℕ) → f * ((1 + m) * a) ≡ (1 + m) * (f * a)
 swap f m a = grind arith
 
 -- and one more of a name that is among them adds one
-one_more : (k : List ℕ) (ks ds : List (List ℕ)) → Once ds → Mem ds k
+one_more : (k : List ℕ) (ks ds : List (List ℕ)) → Once ds → Contains ds k
     → product (map (λ d. factorial (multiplicity d (k ∷ ks))) ds) ≡ (1 + multiplicity k ks) * product (map (λ d. factorial (multiplicity d ks)) ds)
-one_more k ks [] o m = absurd m
+one_more k ks [] o m = absurd (none_in_empty k m)
 one_more k ks (d ∷ ds) o m =
-    go (bytes_eq d k) refl (product (map (λ (z : List ℕ). factorial (multiplicity z ks)) ds)) (product (map (λ (z : List ℕ). factorial (multiplicity z (k ∷ ks))) ds)) m (one_more k ks ds o.1) (none_more k ks ds)
+    go (bytes_eq d k) refl (product (map (λ (z : List ℕ). factorial (multiplicity z ks)) ds)) (product (map (λ (z : List ℕ). factorial (multiplicity z (k ∷ ks))) ds)) m (one_more k ks ds (once_tail d ds o)) (none_more k ks ds)
   where
-    go : (b : Bool) → bytes_eq d k ≡ b → (a c : ℕ) → Mem (d ∷ ds) k → (Mem ds k → c ≡ (1 + multiplicity k ks) * a) → ((Mem ds k → ⊥) → c ≡ a)
+    go : (b : Bool) → bytes_eq d k ≡ b → (a c : ℕ) → Contains (d ∷ ds) k → (Contains ds k → c ≡ (1 + multiplicity k ks) * a) → ((Contains ds k → ⊥) → c ≡ a)
         → factorial ((if b then 1 else 0) + multiplicity d ks) * c ≡ (1 + multiplicity k ks) * (factorial (multiplicity d ks) * a)
     go true b a c m r n =
         let e : d ≡ k = same_key d k b in
-        let P : List ℕ → Type 0 = λ l. Mem ds l → ⊥ in
-        let out : Mem ds k → ⊥ = subst P e o.0 in
+        let P : List ℕ → Type 0 = λ l. Contains ds l → ⊥ in
+        let out : Contains ds k → ⊥ = subst P e (once_head d ds o) in
         let one : 1 + multiplicity d ks ≡ suc (multiplicity d ks) = omega arith in
         let same : multiplicity k ks ≡ multiplicity d ks = ap (λ (l : List ℕ). multiplicity l ks) (sym e) in
         rw (n out, one) (shuffle (multiplicity d ks) (multiplicity k ks) (factorial (multiplicity d ks)) a same)
-    go false b a c (inl e) r n = let P : List ℕ → Type 0 = λ l. bytes_eq d l ≡ true in let t : bytes_eq d k ≡ true = subst P e (key_same d) in cc
-    go false b a c (inr m) r n = let z : 0 + multiplicity d ks ≡ multiplicity d ks = omega arith in rw (z, r m) (swap (factorial (multiplicity d ks)) (multiplicity k ks) a)
+    go false b a c (zero, lt, e) r n = let P : List ℕ → Type 0 = λ l. bytes_eq d l ≡ true in let t : bytes_eq d k ≡ true = subst P e (key_same d) in cc
+    go false b a c (suc i, lt, e) r n =
+        let m : Contains ds k = (i, omega (arith, lt), e) in
+        let z : 0 + multiplicity d ks ≡ multiplicity d ks = omega arith in
+        rw (z, r m) (swap (factorial (multiplicity d ks)) (multiplicity k ks) a)
 
 nothing : (ds : List (List ℕ)) → product (map (λ d. factorial (multiplicity d [])) ds) ≡ 1
 nothing [] = refl
 nothing (d ∷ ds) = rw (nothing ds) refl
 
-over_names : (ks ds : List (List ℕ)) → Once ds → ((k : List ℕ) → Mem ks k → Mem ds k) → product (map (λ d. factorial (multiplicity d ks)) ds) ≡ rising ks
+over_names : (ks ds : List (List ℕ)) → Once ds → ((k : List ℕ) → Contains ks k → Contains ds k) → product (map (λ d. factorial (multiplicity d ks)) ds) ≡ rising ks
 over_names [] ds o s = nothing ds
-over_names (k ∷ ks) ds o s = one_more k ks ds o (s k (inl refl)) ∙ ap (λ (n : ℕ). (1 + multiplicity k ks) * n) (over_names ks ds o (λ j m. s j (inr m)))
+over_names (k ∷ ks) ds o s = one_more k ks ds o (s k (at_head k ks k refl)) ∙ ap (λ (n : ℕ). (1 + multiplicity k ks) * n) (over_names ks ds o (λ j m. s j (in_tail k ks j m)))
 
-classes_from : (ks : List (List ℕ)) (k : List ℕ) → Mem (classes ks) k → Mem ks k
+classes_from : (ks : List (List ℕ)) (k : List ℕ) → Contains (classes ks) k → Contains ks k
 classes_from [] k m = m
 classes_from (j ∷ ks) k m = go (stands_in ks j) m (classes_from ks k)
   where
-    go : (b : Bool) → Mem (if b then classes ks else j ∷ classes ks) k → (Mem (classes ks) k → Mem ks k) → Mem (j ∷ ks) k
-    go true m r = inr (r m)
-    go false (inl e) r = inl e
-    go false (inr m) r = inr (r m)
+    go : (b : Bool) → Contains (if b then classes ks else j ∷ classes ks) k → (Contains (classes ks) k → Contains ks k) → Contains (j ∷ ks) k
+    go true m r = in_tail j ks k (r m)
+    go false (zero, lt, e) r = at_head j ks k (sym e)
+    go false (suc i, lt, e) r = let within : suc i < suc (length (classes ks)) = lt in in_tail j ks k (r (i, omega (arith, within), e))
 
-classes_to : (ks : List (List ℕ)) (k : List ℕ) → Mem ks k → Mem (classes ks) k
+classes_to : (ks : List (List ℕ)) (k : List ℕ) → Contains ks k → Contains (classes ks) k
 classes_to [] k m = m
 classes_to (j ∷ ks) k m = go (stands_in ks j) refl m (classes_to ks k)
   where
-    go : (b : Bool) → stands_in ks j ≡ b → Mem (j ∷ ks) k → (Mem ks k → Mem (classes ks) k) → Mem (if b then classes ks else j ∷ classes ks) k
-    go true b (inl e) r = let P : List ℕ → Type 0 = λ l. Mem ks l in r (subst P e (stands_mem ks j b))
-    go true b (inr m) r = r m
-    go false b (inl e) r = inl e
-    go false b (inr m) r = inr (r m)
+    go : (b : Bool) → stands_in ks j ≡ b → Contains (j ∷ ks) k → (Contains ks k → Contains (classes ks) k) → Contains (if b then classes ks else j ∷ classes ks) k
+    go true b (zero, lt, e) r = let P : List ℕ → Type 0 = λ l. Contains ks l in r (subst P e (stands_mem ks j b))
+    go true b (suc i, lt, e) r = r (i, omega (arith, lt), e)
+    go false b (zero, lt, e) r = at_head j (classes ks) k (sym e)
+    go false b (suc i, lt, e) r = in_tail j (classes ks) k (r (i, omega (arith, lt), e))
 
 classes_once : (ks : List (List ℕ)) → Once (classes ks)
-classes_once [] = tt
+classes_once [] = once_none
 classes_once (j ∷ ks) = go (stands_in ks j) refl (classes_once ks)
   where
     go : (b : Bool) → stands_in ks j ≡ b → Once (classes ks) → Once (if b then classes ks else j ∷ classes ks)
     go true b o = o
-    go false b o = (λ m. let t : stands_in ks j ≡ true = mem_stands ks j (classes_from ks j m) in cc, o)
+    go false b o = once_more j (classes ks) (λ m. let t : stands_in ks j ≡ true = mem_stands ks j (classes_from ks j m) in cc) o
 
 fused : (ds ws : List (List ℕ)) → product (map factorial (multiplicities ds ws)) ≡ product (map (λ d. factorial (multiplicity d ws)) ds)
 fused [] ws = refl
 fused (d ∷ ds) ws = ap (λ (n : ℕ). factorial (multiplicity d ws) * n) (fused ds ws)
 
 all_stand_by : (ds : List (List ℕ)) (w : List ℕ) (ws : List (List ℕ)) (b : Bool) → stands_in ds w ≡ b → (b && list_all (stands_in ds) ws) ≡ true
-    → (list_all (stands_in ds) ws ≡ true → (k : List ℕ) → Mem ws k → Mem ds k) → (k : List ℕ) → Mem (w ∷ ws) k → Mem ds k
-all_stand_by ds w ws true e h again k (inl same) = let P : List ℕ → Type 0 = λ l. Mem ds l in subst P same (stands_mem ds w e)
-all_stand_by ds w ws true e h again k (inr m) = again h k m
+    → (list_all (stands_in ds) ws ≡ true → (k : List ℕ) → Contains ws k → Contains ds k) → (k : List ℕ) → Contains (w ∷ ws) k → Contains ds k
+all_stand_by ds w ws true e h again k (zero, lt, same) = let P : List ℕ → Type 0 = λ l. Contains ds l in subst P same (stands_mem ds w e)
+all_stand_by ds w ws true e h again k (suc i, lt, same) = again h k (i, omega (arith, lt), same)
 all_stand_by ds w ws false e h again k m = cc
 
-all_stand : (ds ws : List (List ℕ)) → list_all (stands_in ds) ws ≡ true → (k : List ℕ) → Mem ws k → Mem ds k
-all_stand ds [] h k m = absurd m
+all_stand : (ds ws : List (List ℕ)) → list_all (stands_in ds) ws ≡ true → (k : List ℕ) → Contains ws k → Contains ds k
+all_stand ds [] h k m = absurd (none_in_empty k m)
 all_stand ds (w ∷ ws) h k m = all_stand_by ds w ws (stands_in ds w) refl h (all_stand ds ws) k m
 
 -- where each name is declared, and no declared name stands twice, the table's product is the count
@@ -144,16 +138,16 @@ pub table_counts : (ds ws : List (List ℕ)) → Once ds → list_all (stands_in
 table_counts ds ws o h =
     fused ds ws ∙ over_names ws ds o (all_stand ds ws h) ∙ sym (over_names ws (classes ws) (classes_once ws) (classes_to ws))
 
-none_equal : (q : List ℕ) (ns : List Name) → AllByRecursion (λ y. bytes_eq q (text_of y) ≡ false) ns → Mem (map text_of ns) q → ⊥
-none_equal q [] h m = m
-none_equal q (n ∷ ns) h (inl e) = let P : List ℕ → Type 0 = λ l. bytes_eq q l ≡ false in let no : bytes_eq q q ≡ false = subst P e h.0 in let yes = key_same q in cc
-none_equal q (n ∷ ns) h (inr m) = none_equal q ns h.1 m
+none_equal : (q : List ℕ) (ns : List Name) → AllByRecursion (λ y. bytes_eq q (text_of y) ≡ false) ns → Contains (map text_of ns) q → ⊥
+none_equal q [] h m = none_in_empty q m
+none_equal q (n ∷ ns) h (zero, lt, e) = let P : List ℕ → Type 0 = λ l. bytes_eq q l ≡ false in let no : bytes_eq q q ≡ false = subst P e h.0 in let yes = key_same q in cc
+none_equal q (n ∷ ns) h (suc i, lt, e) = let within : suc i < suc (length (map text_of ns)) = lt in none_equal q ns h.1 (i, omega (arith, within), e)
 
 -- no name of a set stands twice
 pub once_declared : (ns : List Name) → IsDistinct (λ a b. bytes_eq (text_of a) (text_of b)) ns → Once (map text_of ns)
 unfolding IsDistinct
-once_declared [] h = tt
-once_declared (n ∷ ns) h = (none_equal (text_of n) ns h.0, once_declared ns h.1)
+once_declared [] h = once_none
+once_declared (n ∷ ns) h = once_more (text_of n) (map text_of ns) (none_equal (text_of n) ns h.0) (once_declared ns h.1)
 
 -- a table before the first name
 pub empty_table : (ds : List (List ℕ)) (n : ℕ) → n ≡ length ds → replicate n 0 ≡ multiplicities ds []
@@ -191,9 +185,9 @@ push_same d v ws e =
     sym (multiplicity-push d v ws ∙ rw yes refl)
 
 -- a name that is not declared changes no entry
-pub not_counted : (ds : List (List ℕ)) (v : List ℕ) (ws : List (List ℕ)) → (Mem ds v → ⊥) → multiplicities ds ws ≡ multiplicities ds (ws ++ v ∷ [])
+pub not_counted : (ds : List (List ℕ)) (v : List ℕ) (ws : List (List ℕ)) → (Contains ds v → ⊥) → multiplicities ds ws ≡ multiplicities ds (ws ++ v ∷ [])
 not_counted [] v ws n = refl
-not_counted (d ∷ ds) v ws n = rw (← push_other d v ws (λ e. n (inl e)), ← not_counted ds v ws (λ m. n (inr m))) refl
+not_counted (d ∷ ds) v ws n = rw (← push_other d v ws (λ e. n (at_head d ds v (sym e))), ← not_counted ds v ws (λ m. n (in_tail d ds v m))) refl
 
 -- the place of a name in a list: its first
 abbrev pub place : List ℕ → List (List ℕ) → ℕ
@@ -203,7 +197,7 @@ place v ds = position_or_len (bytes_eq v) ds
 pub counted : (ds : List (List ℕ)) (v : List ℕ) (ws : List (List ℕ)) (x : ℕ) → Once ds → place v ds < length ds
     → slice_set (multiplicities ds ws) (place v ds) (get_or (multiplicities ds ws) (place v ds) x + 1) ≡ multiplicities ds (ws ++ v ∷ [])
 counted [] v ws x o h = absurd (omega arith)
-counted (d ∷ ds) v ws x o h = go (bytes_eq v d) refl h (counted ds v ws x o.1)
+counted (d ∷ ds) v ws x o h = go (bytes_eq v d) refl h (counted ds v ws x (once_tail d ds o))
   where
     go : (b : Bool) → bytes_eq v d ≡ b → cond (not b) (1 + place v ds) 0 < suc (length ds)
         → (place v ds < length ds → slice_set (multiplicities ds ws) (place v ds) (get_or (multiplicities ds ws) (place v ds) x + 1) ≡ multiplicities ds (ws ++ v ∷ []))
@@ -211,8 +205,8 @@ counted (d ∷ ds) v ws x o h = go (bytes_eq v d) refl h (counted ds v ws x o.1)
         ≡ multiplicities (d ∷ ds) (ws ++ v ∷ [])
     go true e h again =
         let same : v ≡ d = same_key v d e in
-        let P : List ℕ → Type 0 = λ l. Mem ds l → ⊥ in
-        rw (push_same d v ws (sym same), ← not_counted ds v ws (subst P (sym same) o.0)) refl
+        let P : List ℕ → Type 0 = λ l. Contains ds l → ⊥ in
+        rw (push_same d v ws (sym same), ← not_counted ds v ws (subst P (sym same) (once_head d ds o))) refl
     go false e h again =
         let one : 1 + place v ds ≡ suc (place v ds) = omega arith in
         let differ : d ≡ v → ⊥ = λ (s : d ≡ v). let P : List ℕ → Type 0 = λ l. bytes_eq v l ≡ true in let yes : bytes_eq v d ≡ true = subst P (sym s) (key_same v) in cc in
@@ -258,8 +252,8 @@ module _ (ns vs : List Name) (v : Name) (i : ℕ) (table : List ℕ) (h : i < le
   -- a name that is not found changes nothing
   pub table_kept : false ≡ list_any (λ n. bytes_eq (text_of v) (text_of n)) ns → table ≡ multiplicities (map text_of ns) (map text_of (take (i + 1) vs))
   table_kept f =
-      let out : Mem (map text_of ns) (text_of v) → ⊥
-      = λ (m : Mem (map text_of ns) (text_of v)). let no = stands-map (text_of v) ns in let yes = mem_stands (map text_of ns) (text_of v) m in cc in
+      let out : Contains (map text_of ns) (text_of v) → ⊥
+      = λ (m : Contains (map text_of ns) (text_of v)). let no = stands-map (text_of v) ns in let yes = mem_stands (map text_of ns) (text_of v) m in cc in
       rw (add-one i, names_more vs i v h is, so_far) (not_counted (map text_of ns) (text_of v) (map text_of (take i vs)) out)
 
   -- an entry has room for one more

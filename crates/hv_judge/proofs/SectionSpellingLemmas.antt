@@ -1,8 +1,8 @@
 -- What the table of sections spells is what is read.
-use Rattle.std.proofs.Common.{◌≡◌, ◌&&◌, ◌||◌, ℕ, Bool, true, false, not, List, [], ◌∷◌, ◌++◌, map, Option, Some, None, Result, Ok, Err, ◌↔◌, ◌⊎◌, inl, inr, refl, sym, ap, ◌∙◌, subst, codes, option_map, if◌then◌else◌}
+use Rattle.std.proofs.Common.{◌≡◌, ◌&&◌, ◌||◌, ℕ, Bool, true, false, not, List, [], ◌∷◌, ◌++◌, map, Option, Some, None, Result, Ok, Err, ◌↔◌, ◌⊎◌, inl, inr, refl, sym, ap, ◌∙◌, subst, codes, option_map, if◌then◌else◌, Contains, zero, suc, arith, ◌<◌}
 use Rattle.std.specs.Prelude.{option_and_then}
 use Rattle.std.specs.Option.{is_some}
-use Rattle.hv_plan.specs.Trees.{Mem, Distinct}
+use Rattle.hv_text.specs.Lists.{Once}
 use Rattle.hv_text.specs.Trees.{Tree, word, list, Trees, none, more, place_of}
 use Rattle.hv_text.specs.declared.span.Span.{Span}
 use Rattle.hv_syntax.specs.declared.fault.SyntaxKind.{SyntaxKind}
@@ -26,7 +26,7 @@ use Rattle.hv_judge.specs.Sections.{headed, occurs, refused, is_title, is_one_na
 use Rattle.hv_judge.specs.Domains.{DomainSection, requires_much, declares, has_action, formula_at, effect_at, action_named, action_of, domain_standing, domain_section_by, no_domain, add_section, domain_in, domain_of}
 use Rattle.hv_judge.specs.Problems.{ProblemSection, says_nothing, has_subtasks, begins_with, asks_for, subtasks_at, network_of, goal_by, problem_standing, aside_if, problem_section_by, problem_section, no_problem, add_part, is_whole, members, if_whole, problem_in, problem_of}
 use Rattle.hv_judge.specs.SectionSpellings.{Field, field_of, SpellFields, no_fields, more_fields, AreFields, StandsIn, absent, here, further, SpellsNothing, no_field, empty_list, SpellsPrecondition, no_precondition, a_precondition, SpellsEffect, no_effect, an_effect, SpellsAction, an_action, SpellsNetwork, a_network, AreKeywords, no_keywords, more_keywords, SpellsDomainSection, requirements, predicates, action, SpellsProblemSection, domain_name, requirements as problem_requirements, network, initial, goal, AreOnce, Defines, a_definition, together, SpellsDomain, a_domain, SpellsProblem, a_problem}
-use Rattle.hv_judge.proofs.Members.{not_true}
+use Rattle.hv_judge.proofs.Members.{not_true, at_head, in_tail, contains_cases, none_in_empty, once_head, once_tail, once_none, once_more}
 use Rattle.hv_judge.proofs.CountLemmas.{same_key}
 use Rattle.hv_judge.proofs.SpellingLemmas.{formula_table, subtasks_table, effect_table, atoms_table, literals_table}
 
@@ -71,23 +71,23 @@ slot_is slots.Subtasks slots.Effect e = not_true e
 slot_is slots.Subtasks slots.Other e = not_true e
 slot_is slots.Other s e = not_true e
 
-is_in_mem : (allowed : List Slot) (s : Slot) → is_in allowed s ≡ true → Mem s allowed
+is_in_mem : (allowed : List Slot) (s : Slot) → is_in allowed s ≡ true → Contains allowed s
 is_in_mem [] s e = not_true e
 is_in_mem (r ∷ rs) s e = tell (same_slot r s) refl e (is_in_mem rs s)
   where
-    tell : (b : Bool) → same_slot r s ≡ b → (b || is_in rs s) ≡ true → (is_in rs s ≡ true → Mem s rs) → Mem s (r ∷ rs)
-    tell true h e later = inl (sym (slot_is r s h))
-    tell false h e later = inr (later e)
+    tell : (b : Bool) → same_slot r s ≡ b → (b || is_in rs s) ≡ true → (is_in rs s ≡ true → Contains rs s) → Contains (r ∷ rs) s
+    tell true h e later = at_head r rs s (sym (slot_is r s h))
+    tell false h e later = in_tail r rs s (later e)
 
 -- a slot that a field may have
 IsSlot : Slot → Type 0
 IsSlot s = same_slot s s ≡ true
 
-mem_is_in : (allowed : List Slot) (s : Slot) → IsSlot s → Mem s allowed → is_in allowed s ≡ true
+mem_is_in : (allowed : List Slot) (s : Slot) → IsSlot s → Contains allowed s → is_in allowed s ≡ true
 unfolding IsSlot
-mem_is_in [] s own m = absurd m
-mem_is_in (r ∷ rs) s own (inl e) = rw (sym e, own) refl
-mem_is_in (r ∷ rs) s own (inr m) = tell (same_slot r s) (mem_is_in rs s own m)
+mem_is_in [] s own m = absurd (none_in_empty s m)
+mem_is_in (r ∷ rs) s own (zero, lt, e) = let same : r ≡ s = e in rw (same, own) refl
+mem_is_in (r ∷ rs) s own (suc k, lt, e) = tell (same_slot r s) (mem_is_in rs s own (k, omega (arith, lt), e))
   where
     tell : (b : Bool) → is_in rs s ≡ true → (b || is_in rs s) ≡ true
     tell true e = refl
@@ -128,17 +128,17 @@ field_stands s own _ _ (more_fields w p t ts fs h) = tell (same_slot (slot_of w)
     tell false e k =
         further (field_of (slot_of w) t) fs (field s ts) (λ same. not_true (sym e ∙ subst (λ x. same_slot x s ≡ true) (sym same) own)) k
 
-slot_absent : (s : Slot) (fs : List Field) → (Mem s (map (λ f. f.slot) fs) → ⊥) → StandsIn s fs None
+slot_absent : (s : Slot) (fs : List Field) → (Contains (map (λ f. f.slot) fs) s → ⊥) → StandsIn s fs None
 slot_absent s [] empty = absent
-slot_absent s (f ∷ fs) empty = further f fs None (λ e. empty (inl (sym e))) (slot_absent s fs (λ m. empty (inr m)))
+slot_absent s (f ∷ fs) empty = further f fs None (λ e. empty (at_head f.slot (map (λ (g : Field). g.slot) fs) s (sym e))) (slot_absent s fs (λ m. empty (in_tail f.slot (map (λ (g : Field). g.slot) fs) s m)))
 
-slot_there : (s : Slot) → IsSlot s → (ts : Trees) (fs : List Field) → SpellFields ts fs → field s ts ≡ None → Mem s (map (λ f. f.slot) fs) → ⊥
+slot_there : (s : Slot) → IsSlot s → (ts : Trees) (fs : List Field) → SpellFields ts fs → field s ts ≡ None → Contains (map (λ f. f.slot) fs) s → ⊥
 unfolding IsSlot
-slot_there s own _ _ no_fields e m = m
-slot_there s own _ _ (more_fields w p t ts fs h) e m = tell (same_slot (slot_of w) s) refl e m (slot_there s own ts fs h)
+slot_there s own _ _ no_fields e m = none_in_empty s m
+slot_there s own _ _ (more_fields w p t ts fs h) e m = tell (same_slot (slot_of w) s) refl e (contains_cases (slot_of w) (map (λ (g : Field). g.slot) fs) s m) (slot_there s own ts fs h)
   where
-    tell : (b : Bool) → same_slot (slot_of w) s ≡ b → (if b then Some t else field s ts) ≡ None → (s ≡ slot_of w) ⊎ Mem s (map (λ f. f.slot) fs)
-        → (field s ts ≡ None → Mem s (map (λ f. f.slot) fs) → ⊥) → ⊥
+    tell : (b : Bool) → same_slot (slot_of w) s ≡ b → (if b then Some t else field s ts) ≡ None → (s ≡ slot_of w) ⊎ Contains (map (λ f. f.slot) fs) s
+        → (field s ts ≡ None → Contains (map (λ f. f.slot) fs) s → ⊥) → ⊥
     tell true same e m later = none_some t (sym e)
     tell false other e (inl same) later = not_true (sym other ∙ subst (λ x. same_slot x s ≡ true) same own)
     tell false other e (inr m) later = later e m
@@ -152,19 +152,19 @@ none_by_test None e = refl
 none_by_test (Some t) e = not_true e
 
 OwnSlots : List Slot → Type 0
-OwnSlots allowed = (s : Slot) → Mem s allowed → IsSlot s
+OwnSlots allowed = (s : Slot) → Contains allowed s → IsSlot s
 
-fields_pass : (allowed : List Slot) → OwnSlots allowed → (ts : Trees) (fs : List Field) → SpellFields ts fs → ((s : Slot) → Mem s (map (λ f. f.slot) fs) → Mem s allowed)
-    → Distinct (map (λ f. f.slot) fs) → is_field_list allowed ts ≡ true
+fields_pass : (allowed : List Slot) → OwnSlots allowed → (ts : Trees) (fs : List Field) → SpellFields ts fs → ((s : Slot) → Contains (map (λ f. f.slot) fs) s → Contains allowed s)
+    → Once (map (λ f. f.slot) fs) → is_field_list allowed ts ≡ true
 unfolding OwnSlots
 fields_pass allowed own _ _ no_fields known once = refl
-fields_pass allowed own _ _ (more_fields w p t ts fs h) known (first, once) =
-    let slot : IsSlot (slot_of w) = own (slot_of w) (known (slot_of w) (inl refl)) in
+fields_pass allowed own _ _ (more_fields w p t ts fs h) known once =
+    let slot : IsSlot (slot_of w) = own (slot_of w) (known (slot_of w) (at_head (slot_of w) (map (λ (g : Field). g.slot) fs) (slot_of w) refl)) in
     both_pass (is_in allowed (slot_of w) && not (is_some (field (slot_of w) ts))) (is_field_list allowed ts)
     (both_pass (is_in allowed (slot_of w)) (not (is_some (field (slot_of w) ts)))
-    (mem_is_in allowed (slot_of w) slot (known (slot_of w) (inl refl)))
-    (not_some (field (slot_of w) ts) (field_read (slot_of w) slot ts fs None h (slot_absent (slot_of w) fs first))))
-    (fields_pass allowed own ts fs h (λ s m. known s (inr m)) once)
+    (mem_is_in allowed (slot_of w) slot (known (slot_of w) (at_head (slot_of w) (map (λ (g : Field). g.slot) fs) (slot_of w) refl)))
+    (not_some (field (slot_of w) ts) (field_read (slot_of w) slot ts fs None h (slot_absent (slot_of w) fs (once_head (slot_of w) (map (λ (g : Field). g.slot) fs) once)))))
+    (fields_pass allowed own ts fs h (λ s m. known s (in_tail (slot_of w) (map (λ (g : Field). g.slot) fs) s m)) (once_tail (slot_of w) (map (λ (g : Field). g.slot) fs) once))
 
 record HasFields (allowed : List Slot) (ts : Trees) : Type 0 where
   fields : List Field
@@ -172,7 +172,7 @@ record HasFields (allowed : List Slot) (ts : Trees) : Type 0 where
 
 fields_there : (allowed : List Slot) → OwnSlots allowed → (ts : Trees) → is_field_list allowed ts ≡ true → HasFields allowed ts
 unfolding OwnSlots
-fields_there allowed own none e = record { fields = []; are = record { spelled = no_fields; known = λ s m. absurd m; once = tt } }
+fields_there allowed own none e = record { fields = []; are = record { spelled = no_fields; known = λ s m. absurd (none_in_empty s m); once = once_none } }
 fields_there allowed own (more (list us p) ts) e = not_true e
 fields_there allowed own (more (word k p) none) e = not_true e
 fields_there allowed own (more (word k p) (more t ts)) e =
@@ -184,27 +184,28 @@ fields_there allowed own (more (word k p) (more t ts)) e =
       fields = field_of (slot_of k) t ∷ rest.fields;
       are = record {
         spelled = more_fields k p t ts rest.fields rest.are.spelled;
-        known = known rest listed_slot;
-        once = (slot_there (slot_of k) (own (slot_of k) listed_slot) ts rest.fields rest.are.spelled new, rest.are.once);
+        known = λ s m. known rest listed_slot s (contains_cases (slot_of k) (map (λ (g : Field). g.slot) rest.fields) s m);
+        once =
+            once_more (slot_of k) (map (λ (g : Field). g.slot) rest.fields) (slot_there (slot_of k) (own (slot_of k) listed_slot) ts rest.fields rest.are.spelled new) rest.are.once;
       };
     }
   where
-    known : (rest : HasFields allowed ts) → Mem (slot_of k) allowed → (s : Slot) → (s ≡ slot_of k) ⊎ Mem s (map (λ f. f.slot) rest.fields) → Mem s allowed
-    known rest m s (inl same) = subst (λ x. Mem x allowed) (sym same) m
+    known : (rest : HasFields allowed ts) → Contains allowed (slot_of k) → (s : Slot) → (s ≡ slot_of k) ⊎ Contains (map (λ f. f.slot) rest.fields) s → Contains allowed s
+    known rest m s (inl same) = subst (λ x. Contains allowed x) (sym same) m
     known rest m s (inr k) = rest.are.known s k
 
 own_action_slots : OwnSlots (slots.Parameters ∷ slots.Precondition ∷ slots.Effect ∷ [])
 unfolding OwnSlots IsSlot
-own_action_slots s (inl e) = subst (λ x. same_slot x x ≡ true) (sym e) refl
-own_action_slots s (inr (inl e)) = subst (λ x. same_slot x x ≡ true) (sym e) refl
-own_action_slots s (inr (inr (inl e))) = subst (λ x. same_slot x x ≡ true) (sym e) refl
-own_action_slots s (inr (inr (inr m))) = absurd m
+own_action_slots s (zero, lt, e) = let same : slots.Parameters ≡ s = e in subst (λ x. same_slot x x ≡ true) same refl
+own_action_slots s (suc zero, lt, e) = let same : slots.Precondition ≡ s = e in subst (λ x. same_slot x x ≡ true) same refl
+own_action_slots s (suc (suc zero), lt, e) = let same : slots.Effect ≡ s = e in subst (λ x. same_slot x x ≡ true) same refl
+own_action_slots s (suc (suc (suc k)), lt, e) = absurd (let few : suc (suc (suc k)) < 3 = lt in omega (arith, few))
 
 own_network_slots : OwnSlots (slots.Parameters ∷ slots.Subtasks ∷ [])
 unfolding OwnSlots IsSlot
-own_network_slots s (inl e) = subst (λ x. same_slot x x ≡ true) (sym e) refl
-own_network_slots s (inr (inl e)) = subst (λ x. same_slot x x ≡ true) (sym e) refl
-own_network_slots s (inr (inr m)) = absurd m
+own_network_slots s (zero, lt, e) = let same : slots.Parameters ≡ s = e in subst (λ x. same_slot x x ≡ true) same refl
+own_network_slots s (suc zero, lt, e) = let same : slots.Subtasks ≡ s = e in subst (λ x. same_slot x x ≡ true) same refl
+own_network_slots s (suc (suc k), lt, e) = absurd (let few : suc (suc k) < 2 = lt in omega (arith, few))
 
 own_parameters : IsSlot slots.Parameters
 unfolding IsSlot

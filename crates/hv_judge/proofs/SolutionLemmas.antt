@@ -1,10 +1,11 @@
 -- A plan without decomposition lines is a solution exactly where its lines have the names of the subtasks, in their order.
-use Rattle.std.proofs.Common.{◌≡◌, ◌+◌, ◌<◌, ◌≤◌, ℕ, suc, true, List, [], ◌∷◌, length, map, Some, refl, sym, ap, ◌∙◌, subst, inl, inr, arith}
-use Rattle.hv_plan.specs.Trees.{Item, Act, Task, Pre, Mem, Distinct, itself, IsSubtask, IsTree, IsWithin, HasActions}
+use Rattle.std.proofs.Common.{◌≡◌, ◌+◌, ◌<◌, ◌≤◌, ℕ, suc, true, List, [], ◌∷◌, length, map, Some, refl, sym, ap, ◌∙◌, subst, arith, Contains, zero}
+use Rattle.hv_text.specs.Lists.{Once}
+use Rattle.hv_plan.specs.Trees.{Item, Act, Task, Pre, itself, IsSubtask, IsTree, IsWithin, HasActions}
 use Rattle.hv_order.specs.Meanings.{Meaning, IsOrder, AreMeanings, listed, listed_for}
 use Rattle.hv_order.specs.Finishes.{FitTogether, RootFitsBy, Fits, FitsAll}
 use Rattle.hv_order.specs.Laws.{SequenceLaw}
-use Rattle.hv_judge.proofs.Members.{MappedFrom, mem_map, mem_map_from, not_true, act_same}
+use Rattle.hv_judge.proofs.Members.{MappedFrom, mem_map, mem_map_from, not_true, act_same, at_head, none_in_empty}
 use Rattle.hv_plan.specs.Values.{Plan}
 use Rattle.hv_judge.specs.Trees.{ids_of, name_of}
 use Rattle.hv_judge.specs.Causes.{FormTree}
@@ -19,10 +20,10 @@ module _ (p : Plan) where
   -- an initial task is the action of a child
   record OfChild (x : Item) : Type 0 where
     child : ℕ
-    is_child : Mem child p.root.ids
+    is_child : Contains p.root.ids child
     item : x ≡ Act (place_of p.actions child)
 
-  of_child : (x : Item) → Mem x (map (item_of p) p.root.ids) → OfChild x
+  of_child : (x : Item) → Contains (map (item_of p) p.root.ids) x → OfChild x
   of_child x m =
       let from = mem_map_from (item_of p) x p.root.ids m in
       record { child = from.source; is_child = from.is_member; item = from.image }
@@ -38,10 +39,10 @@ module _ (p : Plan) where
   flat_tree : IsTree (tree_of p)
   flat_tree = record {
     initial_kind = λ x m. is_act x (of_child x m);
-    child_kind = λ v x m. absurd m;
-    lower = λ v u m. absurd m;
-    one_parent = λ v w x m k. absurd m;
-    no_initial_below = λ c x v m b k j. k;
+    child_kind = λ v x m. absurd (none_in_empty x m);
+    lower = λ v u m. absurd (none_in_empty (Task u) m);
+    one_parent = λ v w x m k. absurd (none_in_empty x m);
+    no_initial_below = λ c x v m b k j. none_in_empty x k;
   }
 
   flat_within : IsWithin (tree_of p) 0
@@ -52,23 +53,23 @@ module _ (p : Plan) (root : IsRooted p) where
   child_at : (k : ℕ) → k < length p.actions → MappedFrom (place_of p.actions) k (ids_of p.actions)
   child_at k less =
       mem_map_from (place_of p.actions) k (ids_of p.actions)
-      (subst (λ xs. Mem k xs) (sym (places_in_order p.actions root.distinct_ids)) (numbers_member 0 (length p.actions) k (omega arith) (omega arith)))
+      (subst (λ xs. Contains xs k) (sym (places_in_order p.actions root.distinct_ids)) (numbers_member 0 (length p.actions) k (omega arith) (omega arith)))
 
-  act_of : (k : ℕ) → k < length p.actions → Mem (Act k) (map (item_of p) p.root.ids)
+  act_of : (k : ℕ) → k < length p.actions → Contains (map (item_of p) p.root.ids) (Act k)
   act_of k less =
       let at = child_at k less in
-      subst (λ j. Mem (Act j) (map (item_of p) p.root.ids)) (sym at.image)
+      subst (λ j. Contains (map (item_of p) p.root.ids) (Act j)) (sym at.image)
       (mem_map (item_of p) at.source p.root.ids (root.is_child at.source at.is_member))
 
   flat_actions : HasActions (tree_of p) (length p.actions)
   flat_actions k less = record { ancestor = Act k; is_initial = act_of k less; below = itself }
 
   -- the candidate of a matching orders the initial tasks
-  module _ (children : List ℕ) (once : Distinct children) (only : (i : ℕ) → Mem i children → Mem i p.root.ids) where
-    apart : (i j : ℕ) → Mem i children → Mem j children → place_of p.actions i ≡ place_of p.actions j → i ≡ j
+  module _ (children : List ℕ) (once : Once children) (only : (i : ℕ) → Contains children i → Contains p.root.ids i) where
+    apart : (i j : ℕ) → Contains children i → Contains children j → place_of p.actions i ≡ place_of p.actions j → i ≡ j
     apart i j m k same = places_apart p.actions i j (root.begins_line i (only i m)) (root.begins_line j (only j k)) same
 
-    distinct_places : Distinct (map (place_of p.actions) children)
+    distinct_places : Once (map (place_of p.actions) children)
     distinct_places = distinct_map (place_of p.actions) children apart once
 
     strict : (x : Item) → orders (map (place_of p.actions) children) x x ≡ true → ⊥
@@ -87,13 +88,13 @@ module _ (p : Plan) (root : IsRooted p) where
     passed (Pre v) y z e f = not_true e
 
     flat_meanings : AreMeanings (tree_of p) (listed (meaning_of p children ∷ [])) (listed_for (λ v. []))
-    flat_meanings = record { of_root = λ c m. of_root c m; of_lines = λ v c m. absurd m }
+    flat_meanings = record { of_root = λ c m. of_root c m; of_lines = λ v c m. absurd (none_in_empty c m) }
       where
-        of_root : (c : Meaning) → Mem c (meaning_of p children ∷ []) → IsOrder (map (item_of p) p.root.ids) c.before
-        of_root c (inl same) =
-            subst (λ (d : Meaning). IsOrder (map (item_of p) p.root.ids) d.before) (sym same)
+        of_root : (c : Meaning) → Contains (meaning_of p children ∷ []) c → IsOrder (map (item_of p) p.root.ids) c.before
+        of_root c (zero, lt, same) =
+            subst (λ (d : Meaning). IsOrder (map (item_of p) p.root.ids) d.before) same
             (record { strict = λ x m e. strict x e; passed = λ x y z m k j e f. passed x y z e f })
-        of_root c (inr m) = absurd m
+        of_root c (suc k, lt, same) = absurd (let few : suc k < 1 = lt in omega (arith, few))
 
   -- the lines in plan order fit
   start_of : Item → ℕ
@@ -136,7 +137,7 @@ module _ (p : Plan) (root : IsRooted p) where
   lines_fit : FitsAll (tree_of p) (listed (meaning_of p (ids_of p.actions) ∷ [])) (listed_for (λ v. [])) 0 0 (length p.actions)
   lines_fit = record {
     meaning = meaning_of p (ids_of p.actions);
-    listed = inl refl;
+    listed = at_head (meaning_of p (ids_of p.actions)) [] (meaning_of p (ids_of p.actions)) refl;
     fact = record {
       ordered = omega arith;
       together = record {
@@ -164,19 +165,19 @@ module _ (p : Plan) (root : IsRooted p) where
   }
 
   -- children that are ordered as the plan is stand in plan order
-  module _ (children : List ℕ) (once : Distinct children) (all : (i : ℕ) → Mem i p.root.ids → Mem i children)
-      (only : (i : ℕ) → Mem i children → Mem i p.root.ids) where
+  module _ (children : List ℕ) (once : Once children) (all : (i : ℕ) → Contains p.root.ids i → Contains children i)
+      (only : (i : ℕ) → Contains children i → Contains p.root.ids i) where
     row_from : FitTogether (map (item_of p) p.root.ids) (orders (map (place_of p.actions) children)) (Fits (λ v. []) (listed_for (λ v. [])) 0) 0 (length p.actions)
         → map (place_of p.actions) children ≡ numbers 0 (length p.actions)
     row_from fit = are_numbers 0 (length p.actions) (map (place_of p.actions) children) (rising_from _ keeps) every within
       where
-        is_initial : (k : ℕ) → Mem k (map (place_of p.actions) children) → Mem (Act k) (map (item_of p) p.root.ids)
+        is_initial : (k : ℕ) → Contains (map (place_of p.actions) children) k → Contains (map (item_of p) p.root.ids) (Act k)
         is_initial k m =
             let from = mem_map_from (place_of p.actions) k children m in
-            subst (λ j. Mem (Act j) (map (item_of p) p.root.ids)) (sym from.image)
+            subst (λ j. Contains (map (item_of p) p.root.ids) (Act j)) (sym from.image)
             (mem_map (item_of p) from.source p.root.ids (only from.source from.is_member))
 
-        keeps : (j k : ℕ) → Mem j (map (place_of p.actions) children) → Mem k (map (place_of p.actions) children)
+        keeps : (j k : ℕ) → Contains (map (place_of p.actions) children) j → Contains (map (place_of p.actions) children) k
             → stands_before (map (place_of p.actions) children) j k ≡ true → j < k
         keeps j k m l e =
             let (starts, ends) = fit.fits (Act j) (is_initial j m) in
@@ -184,13 +185,13 @@ module _ (p : Plan) (root : IsRooted p) where
             let apart = fit.order (Act j) (Act k) (is_initial j m) (is_initial k l) e in
             omega arith
 
-        every : (k : ℕ) → 0 ≤ k → k < 0 + length p.actions → Mem k (map (place_of p.actions) children)
+        every : (k : ℕ) → 0 ≤ k → k < 0 + length p.actions → Contains (map (place_of p.actions) children) k
         every k low less =
             let at = child_at k (omega arith) in
-            subst (λ j. Mem j (map (place_of p.actions) children)) (sym at.image)
+            subst (λ j. Contains (map (place_of p.actions) children) j) (sym at.image)
             (mem_map (place_of p.actions) at.source children (all at.source (root.is_child at.source at.is_member)))
 
-        within : (k : ℕ) → Mem k (map (place_of p.actions) children) → (0 ≤ k) × (k < 0 + length p.actions)
+        within : (k : ℕ) → Contains (map (place_of p.actions) children) k → (0 ≤ k) × (k < 0 + length p.actions)
         within k m =
             let from = mem_map_from (place_of p.actions) k children m in
             let less = place_below p.actions from.source (root.begins_line from.source (only from.source from.is_member)) in
@@ -203,9 +204,9 @@ module _ (p : Plan) (root : IsRooted p) where
         let fact = subst (λ (c : Meaning). RootFitsBy (map (item_of p) p.root.ids) (Fits (λ v. []) (listed_for (λ v. [])) 0) 0 (length p.actions) c) (only_meaning fits.meaning fits.listed) fits.fact in
         fact.together
       where
-        only_meaning : (c : Meaning) → Mem c (meaning_of p children ∷ []) → c ≡ meaning_of p children
-        only_meaning c (inl same) = same
-        only_meaning c (inr m) = absurd m
+        only_meaning : (c : Meaning) → Contains (meaning_of p children ∷ []) c → c ≡ meaning_of p children
+        only_meaning c (zero, lt, e) = sym e
+        only_meaning c (suc k, lt, e) = absurd (let few : suc k < 1 = lt in omega (arith, few))
 
     pub in_order : SequenceLaw → IsOrderedBy p children → children ≡ ids_of p.actions
     in_order law ordered =

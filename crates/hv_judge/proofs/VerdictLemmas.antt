@@ -1,5 +1,5 @@
 -- From what the parts of the judge know to the verdict.
-use Rattle.std.proofs.Common.{◌≡◌, ◌+◌, ◌<◌, ◌≤◌, ◌++◌, ◌&&◌, ◌||◌, ℕ, zero, suc, Bool, true, false, List, [], ◌∷◌, length, map, drop, get_or, Option, Some, None, Result, Ok, Err, IfOk, refl, sym, ◌∙◌, ap, subst, arith, nat_lt}
+use Rattle.std.proofs.Common.{◌≡◌, ◌+◌, ◌<◌, ◌≤◌, ◌++◌, ◌&&◌, ◌||◌, ℕ, zero, suc, Bool, true, false, List, [], ◌∷◌, length, map, drop, get_or, Option, Some, None, Result, Ok, Err, IfOk, refl, sym, ◌∙◌, ap, subst, arith, nat_lt, Contains}
 use Rattle.std.proofs.lemmas.Slice.Eq.{bytes_eq-Decides, slice_eq-Decides}
 use Rattle.std.proofs.lemmas.Bool.{ltb-false}
 use Rattle.std.proofs.lemmas.Option.{slice_get-map}
@@ -9,7 +9,6 @@ use Rattle.std.specs.Cmp.Lexicographic.{pointwise}
 use Rattle.std.specs.List.{slice_get, filter_map, find, list_all, list_any}
 use Rattle.std.specs.Option.{option_map}
 use Rattle.std.specs.Str.{bytes_eq}
-use Rattle.hv_plan.specs.Trees.{Mem}
 use Rattle.hv_text.specs.Names.{text_of}
 use Rattle.hv_text.specs.declared.refusal.Memory.{Memory}
 use Rattle.hv_plan.specs.Values as plans
@@ -224,7 +223,7 @@ stops_at_first s [] k is = cc
 stops_at_first s (a ∷ more) k is = stops_by s a more k (is_true s a.precondition) refl is (λ j e. stops_at_first (result_of s a.effect) more j e)
 
 -- the subtasks of a problem without static faults are declared, so that the reading function finds the causes of its plans
-known_subtasks : (d : Domain) (p : Problem) → IsStatic d p → (w : List ℕ) → Mem w (subtasks_of p) → Mem w (action_names d)
+known_subtasks : (d : Domain) (p : Problem) → IsStatic d p → (w : List ℕ) → Contains (subtasks_of p) w → Contains (action_names d) w
 known_subtasks d p s = all_among (action_names d) (subtasks_of p) (subtasks_declared d p s)
 
 pub plan_fits : (d : Domain) (p : Problem) (q : Plan) → IsStatic d p → cause_of (action_names d) (subtasks_of p) q ≡ None → FitsProblem d p q

@@ -1,6 +1,6 @@
 -- The sections of domains and problems, row by row, as a relation between expressions and what they say.
-use Rattle.std.specs.Prelude.{◌≡◌, ℕ, true, false, List, [], ◌∷◌, ◌++◌, Option, Some, None, codes, map}
-use Rattle.hv_plan.specs.Trees.{Mem, Distinct}
+use Rattle.std.specs.Prelude.{◌≡◌, ℕ, true, false, List, [], ◌∷◌, ◌++◌, Option, Some, None, codes, map, Contains}
+use Rattle.hv_text.specs.Lists.{Once}
 use Rattle.hv_text.specs.Trees.{Tree, word, list, Trees, none, more}
 use Rattle.hv_text.specs.declared.span.Span.{Span}
 use Rattle.hv_judge.specs.declared.syntax.word.Head.TheVariants as heads
@@ -33,8 +33,8 @@ pub data SpellFields : Trees → List Field → Type 0 where
 -- fields of these slots in any order, each at most once
 pub record AreFields (allowed : List Slot) (ts : Trees) (fs : List Field) : Type 0 where
   pub spelled : SpellFields ts fs
-  pub known : (s : Slot) → Mem s (map (λ f. f.slot) fs) → Mem s allowed
-  pub once : Distinct (map (λ f. f.slot) fs)
+  pub known : (s : Slot) → Contains (map (λ f. f.slot) fs) s → Contains allowed s
+  pub once : Once (map (λ f. f.slot) fs)
 
 -- the expression in a slot, if there is one
 pub data StandsIn (s : Slot) : List Field → Option Tree → Type 0 where

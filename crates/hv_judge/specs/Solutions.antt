@@ -1,7 +1,8 @@
 -- Solutions of a plan without decomposition lines: its tree, the matchings of its root, and the sequences that they have.
-use Rattle.std.specs.Prelude.{◌≡◌, ◌==◌, ℕ, Bool, true, false, List, [], ◌∷◌, length, map, Some, if◌then◌else◌}
+use Rattle.std.specs.Prelude.{◌≡◌, ◌==◌, ℕ, Bool, true, false, List, [], ◌∷◌, length, map, Some, if◌then◌else◌, Contains}
 use Rattle.std.specs.List.{position_or_len}
-use Rattle.hv_plan.specs.Trees.{Item, Act, Task, Pre, Mem, Distinct, Tree}
+use Rattle.hv_text.specs.Lists.{Once}
+use Rattle.hv_plan.specs.Trees.{Item, Act, Task, Pre, Tree}
 use Rattle.hv_order.specs.Meanings.{Meaning, listed, listed_for}
 use Rattle.hv_order.specs.Sequences.{HasSolution}
 use Rattle.hv_plan.specs.Values.{Action, Plan}
@@ -38,9 +39,9 @@ meaning_of p children = record { before = orders (map (place_of p.actions) child
 -- A matching of the children of `root` to subtasks with these names: for each subtask, in written order, the id of its child.
 -- Each child stands once, and its line names its subtask
 pub record IsMatching (names : List (List ℕ)) (p : Plan) (children : List ℕ) : Type 0 where
-  pub once : Distinct children
-  pub all : (i : ℕ) → Mem i p.root.ids → Mem i children
-  pub only : (i : ℕ) → Mem i children → Mem i p.root.ids
+  pub once : Once children
+  pub all : (i : ℕ) → Contains p.root.ids i → Contains children i
+  pub only : (i : ℕ) → Contains children i → Contains p.root.ids i
   pub named : map (name_of p.actions) children ≡ map Some names
 
 -- with this matching there is a derivation, and an executable sequence of its end that has the plan's actions in plan order,

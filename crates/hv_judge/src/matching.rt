@@ -6,7 +6,7 @@ ghost use Rattle.std.specs.Str.{bytes_eq};
 ghost use Rattle.std.specs.Ordering.{on};
 ghost use Rattle.indexmap.specs.IndexSet.{IsUnique};
 ghost use Rattle.hv_text.specs.Names.{text_of};
-ghost use Rattle.hv_plan.specs.Views.{as_number};
+ghost use Rattle.hv_plan.specs.Forms.{as_number};
 ghost use Rattle.hv_judge.specs.Counting.{count, factorial, product, multiplicities, stands_in, subtask_names};
 ghost use Rattle.hv_judge.specs.Trees.{declared_names};
 
