@@ -21,22 +21,34 @@ def build_library(folder):
     return library
 
 
-def end_of(words, library, count, number):
+def end_of(program, words, library, count, number):
     environment = {"PATH": os.environ["PATH"], "LD_PRELOAD": library, "COUNT": count, "REFUSE": str(number)}
-    run = subprocess.run([PROGRAM, *words], env=environment, capture_output=True, text=True)
+    run = subprocess.run([program, *words], env=environment, capture_output=True, text=True)
     return run.returncode, run.stdout, run.stderr
 
 
-def sweep(words, library, count):
+def sweep(program, words, library, count):
     """How the runs of one command ended, and those that ended otherwise than they may."""
-    right = end_of(words, library, count, 0)
+    right = end_of(program, words, library, count, 0)
     ends, wrong = collections.Counter(), []
     for number in range(1, int(open(count).read()) + 1):
-        end = end_of(words, library, count, number)
+        end = end_of(program, words, library, count, number)
         ends["as without" if end == right else "out of memory" if end == OUT_OF_MEMORY else "WRONG"] += 1
         if end not in (right, OUT_OF_MEMORY):
             wrong.append((number, end))
     return ends, wrong
+
+
+def sweep_all(program, example, commands, library, count):
+    """Sweeps the commands of an example, says how the runs ended, and whether some ended otherwise than they may."""
+    wrong = []
+    for words in commands:
+        ends, others = sweep(program, words, library, count)
+        print(example, os.path.basename(words[0]), *(f"{n} {end}" for end, n in sorted(ends.items())), sep=", ")
+        wrong += others
+    for number, end in wrong:
+        print(f"  request {number}: {end}")
+    return bool(wrong)
 
 
 def main():
@@ -51,14 +63,7 @@ def main():
                 ["print-problem", problem],
                 ["print-plan", plan],
             ]
-            wrong = []
-            for words in commands:
-                ends, others = sweep(words, library, count)
-                print(example, words[0], *(f"{n} {end}" for end, n in sorted(ends.items())), sep=", ")
-                wrong += others
-            for number, end in wrong:
-                print(f"  request {number}: {end}")
-            failed = failed or bool(wrong)
+            failed = sweep_all(PROGRAM, example, commands, library, count) or failed
     sys.exit(failed)
 
 

@@ -2,13 +2,15 @@
 """Writes a domain and a problem: make_texts.py KIND SIZE ATOMS DOMAIN PROBLEM.
 
 `formula`: the goal has SIZE nodes, and all of them are asked. `exists`: a quantifier over SIZE objects, of which
-none serves. `trace`: no goal. The state has ATOMS atoms.
+none serves. `trace`: no goal, and an action that touches three atoms. The state has ATOMS atoms.
 """
+import math
 import sys
 
 DOMAIN = """(define (domain yard)
 (:predicates (at ?x) (road-between ?x ?y))
-(:action go :parameters (?x ?y) :precondition (at ?x) :effect (and (not (at ?x)) (at ?y))))
+(:action go :parameters (?x ?y) :precondition (at ?x)
+:effect (and (not (at ?x)) (at ?y) (not (road-between ?x ?y)))))
 """
 
 
@@ -23,7 +25,7 @@ def goal_of(kind, size):
 
 def main():
     kind, size, atoms = sys.argv[1], int(sys.argv[2]), int(sys.argv[3])
-    objects = size if kind == "exists" else 200
+    objects = {"exists": size, "trace": math.isqrt(atoms)}.get(kind, 200)
     with open(sys.argv[4], "w") as domain:
         domain.write(DOMAIN)
     with open(sys.argv[5], "w") as problem:
@@ -32,7 +34,7 @@ def main():
             problem.write(f"\n  object-{number}")
         problem.write(")\n(:htn)\n(:init (at object-0)")
         for number in range(atoms - 1):
-            problem.write(f"\n  (road-between object-{number % objects} object-{number // objects + 1})")
+            problem.write(f"\n  (road-between object-{number % objects} object-{(number // objects + 1) % objects})")
         problem.write(")\n" + goal_of(kind, size) + ")\n")
 
 

@@ -1,6 +1,6 @@
 //! The candidates of the nodes of plans' trees, and their counts.
 
-ghost use Rattle.std.specs.Prelude.{◌<◌, length, IfSome};
+ghost use Rattle.std.specs.Prelude.{◌≡◌, ◌<◌, length, IfSome};
 ghost use Rattle.hv_world.specs.WorldViews.{world_view};
 ghost use Rattle.hv_plan.specs.BuiltTrees.{tree_view};
 ghost use Rattle.hv_plan.specs.PlanTrees.{IsTreeIn};
@@ -12,7 +12,7 @@ use crate::texts::{
     WIDE, WIDE_APART,
 };
 use crate::worlds::{plan_of, tree_of, world_of};
-use hv_match::{Candidates, count, exceeds, is_candidate};
+use hv_match::{Candidates, Matcher, count, exceeds, is_candidate};
 use hv_plan::Tree;
 use hv_world::{ObjectId, World};
 use std::alloc::Global;
@@ -27,6 +27,16 @@ fn node_of(tree: &Tree<'_, '_>, id: Option<u64>) -> Option<u32>
         }
     }
     None
+}
+
+// The world made ready.
+fn matcher_of<'w, 's>(alloc: Global, world: &'w World<'s>) -> Option<Matcher<'w, 's>>
+    ensures { IfSome result (λ m. m ≡ world_view world.now) }
+{
+    match Matcher::new(alloc, world) {
+        Ok(matcher) => Some(matcher),
+        Err(_) => None,
+    }
 }
 
 /// For each subtask the place of its child, and for each parameter its object.
@@ -51,7 +61,8 @@ fn all(alloc: Global, world: &World<'_>, tree: &Tree<'_, '_>, node: u32) -> Opti
     requires tree { IsTreeIn (world_view world.now) (tree_view tree.now) }
     requires node { node < length (tree_view tree.now).nodes }
 {
-    let mut candidates = Candidates::new(alloc, world, tree, node).ok()?;
+    let matcher = matcher_of(alloc, world)?;
+    let mut candidates = Candidates::new(alloc, &matcher, tree, node).ok()?;
     let mut all = Vec::new(alloc);
     for _ in 0..1000 {
         let has_next = candidates.has_next().ok()?;
@@ -71,14 +82,14 @@ fn all(alloc: Global, world: &World<'_>, tree: &Tree<'_, '_>, node: u32) -> Opti
 }
 
 // Whether the count of a node is this one.
-fn is_count(world: &World<'_>, tree: &Tree<'_, '_>, node: u32, wanted: u64) -> bool
-    requires tree { IsTreeIn (world_view world.now) (tree_view tree.now) }
+fn is_count(matcher: &Matcher<'_, '_>, tree: &Tree<'_, '_>, node: u32, wanted: u64) -> bool
+    requires tree { IsTreeIn matcher.now (tree_view tree.now) }
     requires node { node < length (tree_view tree.now).nodes }
 {
-    if wanted > 0 && !exceeds(world, tree, node, wanted - 1) {
+    if wanted > 0 && !exceeds(matcher, tree, node, wanted - 1) {
         return false;
     }
-    count(world, tree, node) == wanted && !exceeds(world, tree, node, wanted)
+    count(matcher, tree, node) == wanted && !exceeds(matcher, tree, node, wanted)
 }
 
 // A domain, a problem and a plan, and the id of a node, none for that of the root line.
@@ -91,7 +102,8 @@ fn found(alloc: Global, question: Question, wanted: u64) -> Option<usize> {
     let plan = plan_of(alloc, plan)?;
     let tree = tree_of(alloc, &world, &plan)?;
     let node = node_of(&tree, id)?;
-    if !is_count(&world, &tree, node, wanted) {
+    let matcher = matcher_of(alloc, &world)?;
+    if !is_count(&matcher, &tree, node, wanted) {
         return None;
     }
     Some(all(alloc, &world, &tree, node)?.len())
@@ -163,12 +175,13 @@ fn root_count(
     let plan = plan_of(alloc, plan)?;
     let tree = tree_of(alloc, &world, &plan)?;
     let node = node_of(&tree, None)?;
-    let number = count(&world, &tree, node);
+    let matcher = matcher_of(alloc, &world)?;
+    let number = count(&matcher, &tree, node);
     let below = number.checked_sub(1)?;
     Some((
         number,
-        exceeds(&world, &tree, node, number),
-        exceeds(&world, &tree, node, below),
+        exceeds(&matcher, &tree, node, number),
+        exceeds(&matcher, &tree, node, below),
     ))
 }
 

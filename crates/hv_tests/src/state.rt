@@ -1,10 +1,13 @@
-//! Truth in states, what actions leave, and the states that a plan passes.
+//! Truth in states, what actions leave, and the states that a plan passes, for both kinds of state.
+
+mod random;
 
 use crate::texts::{
-    EMPTY, FLIP, FLIP_ONCE, NO_RELIC_EXISTS, ONE, RELIC_EXISTS, TRANSPORT, negated,
+    DOMAINS, EMPTY, FLIP, FLIP_ONCE, NO_RELIC_EXISTS, ONE, PROBLEMS, RELIC_EXISTS, TRANSPORT,
+    negated,
 };
 use crate::worlds::world_of;
-use hv_state::{AtomView, GroundAtoms, SortedState, State, Stop, Trace, next_row, truth};
+use hv_state::{AtomView, BitState, GroundAtoms, SortedState, State, Stop, Trace, next_row, truth};
 use hv_text::{Word, read_words};
 use hv_world::{
     ActionId, Atom, Binding, Formula, GroundActions, ObjectId, PredicateId, TaskName, Term, World,
@@ -74,9 +77,9 @@ const OTHER: Term = Term::Object(ObjectId(2));
 const NONE: Binding<'static> = Binding::Given(&[]);
 
 // The state that the world of these texts begins with.
-fn state_of(alloc: Global, domain: &[u8], problem: &[u8]) -> Option<SortedState> {
+fn state_of<S: State>(alloc: Global, domain: &[u8], problem: &[u8]) -> Option<S> {
     let world = world_of(alloc, domain, problem)?;
-    SortedState::initial(alloc, &world).ok()
+    S::initial(alloc, &world).ok()
 }
 
 fn atom(alloc: Global, predicate: usize, terms: &[Term]) -> Option<Atom> {
@@ -91,7 +94,7 @@ fn atom(alloc: Global, predicate: usize, terms: &[Term]) -> Option<Atom> {
 type Atoms = &'static [(usize, &'static [Term], bool)];
 
 // Whether atoms are true in a state, or not, as said.
-fn are_as_said(state: &SortedState, alloc: Global, atoms: Atoms) -> Option<bool> {
+fn are_as_said<S: State>(state: &S, alloc: Global, atoms: Atoms) -> Option<bool> {
     for (predicate, terms, wanted) in atoms {
         let atom = atom(alloc, *predicate, terms)?;
         if state.holds(&AtomView::new(&atom, &NONE)) != *wanted {
@@ -116,19 +119,21 @@ const INITIAL: Atoms = &[
     (3, &[], false),
 ];
 
-fn begins(alloc: Global) -> Option<bool> {
-    are_as_said(&state_of(alloc, YARD, TRUE)?, alloc, INITIAL)
+fn begins<S: State>(alloc: Global) -> Option<bool> {
+    let state: S = state_of(alloc, YARD, TRUE)?;
+    are_as_said(&state, alloc, INITIAL)
 }
 
 #[test]
 fn halving_finds_each_atom_and_no_other(rt: HostRuntime) {
-    assert!(rt; begins(rt.alloc()) == Some(true));
+    assert!(rt; begins::<SortedState>(rt.alloc()) == Some(true));
+    assert!(rt; begins::<BitState>(rt.alloc()) == Some(true));
 }
 
 // The state after the first action of the yard, with these objects.
-fn moved(alloc: Global, objects: &[ObjectId]) -> Option<SortedState> {
+fn moved<S: State>(alloc: Global, objects: &[ObjectId]) -> Option<S> {
     let world = world_of(alloc, YARD, TRUE)?;
-    let mut state = SortedState::initial(alloc, &world).ok()?;
+    let mut state = S::initial(alloc, &world).ok()?;
     let action = world.action(ActionId(0))?;
     let binding = Binding::Given(objects);
     let deletes = GroundAtoms::of(alloc, action.deletes(), &binding).ok()?;
@@ -144,18 +149,20 @@ const MOVED: Atoms = &[
     (AT, &[OTHER], true),
 ];
 
-fn moves(alloc: Global) -> Option<bool> {
-    are_as_said(&moved(alloc, &[ObjectId(1), ObjectId(2)])?, alloc, MOVED)
+fn moves<S: State>(alloc: Global) -> Option<bool> {
+    let state: S = moved(alloc, &[ObjectId(1), ObjectId(2)])?;
+    are_as_said(&state, alloc, MOVED)
 }
 
 // One atom is deleted and added, and another is added twice.
 #[test]
 fn adds_come_after_deletes(rt: HostRuntime) {
-    assert!(rt; moves(rt.alloc()) == Some(true));
+    assert!(rt; moves::<SortedState>(rt.alloc()) == Some(true));
+    assert!(rt; moves::<BitState>(rt.alloc()) == Some(true));
 }
 
 // The same state once more, without (at LEFT).
-fn without(state: &SortedState, alloc: Global) -> Option<SortedState> {
+fn without<S: State>(state: &S, alloc: Global) -> Option<S> {
     let mut other = state.copy(alloc).ok()?;
     let atom = atom(alloc, AT, &[LEFT])?;
     let mut deletes = GroundAtoms::new(alloc);
@@ -166,20 +173,21 @@ fn without(state: &SortedState, alloc: Global) -> Option<SortedState> {
 
 const LEFT_OUT: Atoms = &[(AT, &[LEFT], false), (AT, &[RIGHT], true)];
 
-fn copies(alloc: Global) -> Option<bool> {
-    let state = state_of(alloc, YARD, TRUE)?;
+fn copies<S: State>(alloc: Global) -> Option<bool> {
+    let state: S = state_of(alloc, YARD, TRUE)?;
     let other = without(&state, alloc)?;
     Some(are_as_said(&state, alloc, INITIAL)? && are_as_said(&other, alloc, LEFT_OUT)?)
 }
 
 #[test]
 fn a_copy_changes_alone(rt: HostRuntime) {
-    assert!(rt; copies(rt.alloc()) == Some(true));
+    assert!(rt; copies::<SortedState>(rt.alloc()) == Some(true));
+    assert!(rt; copies::<BitState>(rt.alloc()) == Some(true));
 }
 
 // How many of the formulas are true in the world's first state.
-fn true_ones(alloc: Global, world: &World<'_>, formulas: &[Formula]) -> Option<usize> {
-    let state = SortedState::initial(alloc, world).ok()?;
+fn true_ones<S: State>(alloc: Global, world: &World<'_>, formulas: &[Formula]) -> Option<usize> {
+    let state = S::initial(alloc, world).ok()?;
     let mut count = 0usize;
     for formula in formulas {
         if truth(world, &state, formula, &NONE) {
@@ -190,44 +198,52 @@ fn true_ones(alloc: Global, world: &World<'_>, formulas: &[Formula]) -> Option<u
 }
 
 // Of the parts of a goal, how many there are, and how many are true.
-fn counted(alloc: Global, problem: &[u8]) -> Option<(usize, usize)> {
+fn counted<S: State>(alloc: Global, problem: &[u8]) -> Option<(usize, usize)> {
     let world = world_of(alloc, YARD, problem)?;
     match world.goal()? {
-        Formula::And(parts) => Some((parts.len(), true_ones(alloc, &world, parts)?)),
+        Formula::And(parts) => Some((parts.len(), true_ones::<S>(alloc, &world, parts)?)),
         _ => None,
     }
 }
 
 #[test]
 fn formulas_are_true_and_false(rt: HostRuntime) {
-    assert!(rt; counted(rt.alloc(), TRUE) == Some((24, 24)));
-    assert!(rt; counted(rt.alloc(), FALSE) == Some((18, 0)));
+    assert!(rt; counted::<SortedState>(rt.alloc(), TRUE) == Some((24, 24)));
+    assert!(rt; counted::<SortedState>(rt.alloc(), FALSE) == Some((18, 0)));
+    assert!(rt; counted::<BitState>(rt.alloc(), TRUE) == Some((24, 24)));
+    assert!(rt; counted::<BitState>(rt.alloc(), FALSE) == Some((18, 0)));
 }
 
 // Whether the goal of a problem is true at the start.
-fn begins_with_its_goal(alloc: Global, domain: &[u8], problem: &[u8]) -> Option<bool> {
+fn begins_with_its_goal<S: State>(alloc: Global, domain: &[u8], problem: &[u8]) -> Option<bool> {
     let world = world_of(alloc, domain, problem)?;
-    let state = SortedState::initial(alloc, &world).ok()?;
+    let state = S::initial(alloc, &world).ok()?;
     Some(truth(&world, &state, world.goal()?, &NONE))
 }
 
 #[test]
 fn sixteen_variables_of_two_objects(rt: HostRuntime) {
-    assert!(rt; begins_with_its_goal(rt.alloc(), YARD, SIXTEEN) == Some(true));
+    assert!(rt; begins_with_its_goal::<SortedState>(rt.alloc(), YARD, SIXTEEN) == Some(true));
+    assert!(rt; begins_with_its_goal::<BitState>(rt.alloc(), YARD, SIXTEEN) == Some(true));
 }
 
 // Whether an atom that is true is so within so many negations.
-fn is_true_within(alloc: Global, count: usize) -> Option<bool> {
+fn is_true_within<S: State>(alloc: Global, count: usize) -> Option<bool> {
     let text = negated(alloc, count).ok()?;
-    begins_with_its_goal(alloc, FLIP, &text)
+    begins_with_its_goal::<S>(alloc, FLIP, &text)
+}
+
+fn nest<S: State>(alloc: Global) -> bool {
+    is_true_within::<S>(alloc, 0) == Some(true)
+        && is_true_within::<S>(alloc, 1) == Some(false)
+        && is_true_within::<S>(alloc, 252) == Some(true)
+        && is_true_within::<S>(alloc, 253) == Some(false)
 }
 
 #[test]
 fn negations_nest(rt: HostRuntime) {
-    assert!(rt; is_true_within(rt.alloc(), 0) == Some(true));
-    assert!(rt; is_true_within(rt.alloc(), 1) == Some(false));
-    assert!(rt; is_true_within(rt.alloc(), 252) == Some(true));
-    assert!(rt; is_true_within(rt.alloc(), 253) == Some(false));
+    assert!(rt; nest::<SortedState>(rt.alloc()));
+    assert!(rt; nest::<BitState>(rt.alloc()));
 }
 
 // Puts the ground action of a line behind others: the action's name, and those of its objects.
@@ -258,66 +274,50 @@ fn push_line<'s>(
     }
 }
 
-// These ground actions, and then that of a line.
-fn then<'s>(
-    alloc: Global,
-    world: &World<'s>,
-    mut actions: GroundActions,
-    line: &'s [u8],
-) -> Option<GroundActions> {
-    push_line(alloc, world, &mut actions, line)?;
+// The ground actions of lines.
+fn actions_of<'s>(alloc: Global, world: &World<'s>, lines: &[&'s [u8]]) -> Option<GroundActions> {
+    let mut actions = GroundActions::with_capacity(alloc, lines.len()).ok()?;
+    for line in lines {
+        push_line(alloc, world, &mut actions, *line)?;
+    }
     Some(actions)
 }
 
-fn no_actions(alloc: Global) -> Option<GroundActions> {
-    GroundActions::with_capacity(alloc, 0).ok()
-}
+const LOAD: &[u8] = b"load t1 p1 a";
 
-// The ground actions of three lines of the transport.
-fn three<'s>(
-    alloc: Global,
-    world: &World<'s>,
-    first: &'s [u8],
-    second: &'s [u8],
-    third: &'s [u8],
-) -> Option<GroundActions> {
-    let one = then(alloc, world, no_actions(alloc)?, first)?;
-    let two = then(alloc, world, one, second)?;
-    then(alloc, world, two, third)
-}
+const DRIVE: &[u8] = b"drive t1 a b";
 
-// Whether three actions run, and the truck is where it began at first, then not, and the goal holds.
-fn delivers(alloc: Global, world: &World<'_>, actions: &GroundActions) -> Option<bool> {
+const UNLOAD: &[u8] = b"unload t1 p1 b";
+
+// A truck loads a package, drives and unloads it.
+const DELIVERY: [&[u8]; 3] = [LOAD, DRIVE, UNLOAD];
+
+// Whether three actions run, the truck is where it began at first, then not, and the goal holds.
+fn delivers<S: State>(alloc: Global, world: &World<'_>, actions: &GroundActions) -> Option<bool> {
     if actions.len() != 3 {
         return None;
     }
     let there = Formula::Holds(atom(alloc, 0, &[LEFT, OTHER])?);
-    let trace: Trace<SortedState> = Trace::run(alloc, world, actions).ok()?;
+    let trace: Trace<S> = Trace::run(alloc, world, actions).ok()?;
     let at_first = trace.holds_at(0, &there, &NONE) && trace.holds_at(1, &there, &NONE);
     let at_last = trace.holds_at(2, &there, &NONE) || trace.holds_at(3, &there, &NONE);
     Some(at_first && !at_last && trace.goal_holds())
 }
 
-// Whether a truck loads, drives and unloads.
-fn brings_a_package(alloc: Global) -> Option<bool> {
+fn brings_a_package<S: State>(alloc: Global) -> Option<bool> {
     let world = world_of(alloc, TRANSPORT, ONE)?;
-    let actions = three(
-        alloc,
-        &world,
-        b"load t1 p1 a",
-        b"drive t1 a b",
-        b"unload t1 p1 b",
-    )?;
-    delivers(alloc, &world, &actions)
+    let actions = actions_of(alloc, &world, &DELIVERY)?;
+    delivers::<S>(alloc, &world, &actions)
 }
 
 #[test]
 fn a_truck_brings_a_package(rt: HostRuntime) {
-    assert!(rt; brings_a_package(rt.alloc()) == Some(true));
+    assert!(rt; brings_a_package::<SortedState>(rt.alloc()) == Some(true));
+    assert!(rt; brings_a_package::<BitState>(rt.alloc()) == Some(true));
 }
 
 // Whether the truck is where it began until it drives, and never again.
-fn stays_until_it_drives(
+fn stays_until_it_drives<S: State>(
     alloc: Global,
     world: &World<'_>,
     actions: &GroundActions,
@@ -326,7 +326,7 @@ fn stays_until_it_drives(
         return None;
     }
     let there = Formula::Holds(atom(alloc, 0, &[LEFT, OTHER])?);
-    let trace: Trace<SortedState> = Trace::run(alloc, world, actions).ok()?;
+    let trace: Trace<S> = Trace::run(alloc, world, actions).ok()?;
     let until = (
         trace.unchanged_until(0, &there, &NONE),
         trace.unchanged_until(2, &there, &NONE),
@@ -338,21 +338,33 @@ fn stays_until_it_drives(
     Some(until == (2, 4) && first == (Some((0, 1)), None))
 }
 
-fn changes_once(alloc: Global) -> Option<bool> {
+fn changes_once<S: State>(alloc: Global) -> Option<bool> {
     let world = world_of(alloc, TRANSPORT, ONE)?;
-    let actions = three(
-        alloc,
-        &world,
-        b"load t1 p1 a",
-        b"drive t1 a b",
-        b"unload t1 p1 b",
-    )?;
-    stays_until_it_drives(alloc, &world, &actions)
+    let actions = actions_of(alloc, &world, &DELIVERY)?;
+    stays_until_it_drives::<S>(alloc, &world, &actions)
 }
 
 #[test]
 fn a_truth_stays_until_its_atom_changes(rt: HostRuntime) {
-    assert!(rt; changes_once(rt.alloc()) == Some(true));
+    assert!(rt; changes_once::<SortedState>(rt.alloc()) == Some(true));
+    assert!(rt; changes_once::<BitState>(rt.alloc()) == Some(true));
+}
+
+// Whether an atom is false at the start of a world, and true where it alone is added.
+fn takes_a_new_atom<S: State>(alloc: Global) -> Option<(bool, bool)> {
+    let mut state: S = state_of(alloc, TRANSPORT, ONE)?;
+    let atom = atom(alloc, 0, &[RIGHT, Term::Object(ObjectId(3))])?;
+    let before = state.holds(&AtomView::new(&atom, &NONE));
+    let mut adds = GroundAtoms::new(alloc);
+    adds.push(&AtomView::new(&atom, &NONE)).ok()?;
+    state.apply(&GroundAtoms::new(alloc), &adds).ok()?;
+    Some((before, state.holds(&AtomView::new(&atom, &NONE))))
+}
+
+#[test]
+fn an_atom_that_no_table_has_can_be_added(rt: HostRuntime) {
+    assert!(rt; takes_a_new_atom::<SortedState>(rt.alloc()) == Some((false, true)));
+    assert!(rt; takes_a_new_atom::<BitState>(rt.alloc()) == Some((false, true)));
 }
 
 #[test]
@@ -363,77 +375,104 @@ fn deletes_come_before_adds_in_a_word(rt: HostRuntime) {
 }
 
 // Why the actions of these lines do not run.
-fn stop_of(
-    alloc: Global,
-    first: &'static [u8],
-    second: &'static [u8],
-    third: &'static [u8],
-) -> Option<Stop> {
+fn stop_of<S: State>(alloc: Global, lines: &[&'static [u8]]) -> Option<Stop> {
     let world = world_of(alloc, TRANSPORT, ONE)?;
-    let actions = three(alloc, &world, first, second, third)?;
-    let trace: Result<Trace<SortedState>, Stop> = Trace::run(alloc, &world, &actions);
+    let actions = actions_of(alloc, &world, lines)?;
+    let trace: Result<Trace<S>, Stop> = Trace::run(alloc, &world, &actions);
     trace.err()
+}
+
+fn stops<S: State>(alloc: Global) -> bool {
+    stop_of::<S>(alloc, &[DRIVE, LOAD, UNLOAD]) == Some(Stop::Inapplicable(1))
+        && stop_of::<S>(alloc, &[LOAD, DRIVE, DRIVE]) == Some(Stop::Inapplicable(2))
+        && stop_of::<S>(alloc, &[UNLOAD, LOAD, DRIVE]) == Some(Stop::Inapplicable(0))
 }
 
 #[test]
 fn a_plan_stops_at_the_first_action_that_is_not_applicable(rt: HostRuntime) {
-    let load = b"load t1 p1 a";
-    let drive = b"drive t1 a b";
-    let unload = b"unload t1 p1 b";
-    assert!(rt; stop_of(rt.alloc(), drive, load, unload) == Some(Stop::Inapplicable(1)));
-    assert!(rt; stop_of(rt.alloc(), load, drive, drive) == Some(Stop::Inapplicable(2)));
-    assert!(rt; stop_of(rt.alloc(), unload, load, drive) == Some(Stop::Inapplicable(0)));
+    assert!(rt; stops::<SortedState>(rt.alloc()));
+    assert!(rt; stops::<BitState>(rt.alloc()));
 }
 
 // Whether an atom is false at first, and true after one action, and the goal is so too.
-fn flips(alloc: Global, world: &World<'_>, actions: &GroundActions) -> Option<bool> {
+fn flips<S: State>(alloc: Global, world: &World<'_>, actions: &GroundActions) -> Option<bool> {
     if actions.len() != 1 {
         return None;
     }
     let flipped = Formula::Holds(atom(alloc, 0, &[])?);
-    let trace: Trace<SortedState> = Trace::run(alloc, world, actions).ok()?;
+    let trace: Trace<S> = Trace::run(alloc, world, actions).ok()?;
     let at_first = trace.holds_at(0, &flipped, &NONE);
     Some(!at_first && trace.holds_at(1, &flipped, &NONE) && trace.goal_holds())
 }
 
-fn flip(alloc: Global) -> Option<bool> {
+fn flip<S: State>(alloc: Global) -> Option<bool> {
     let world = world_of(alloc, FLIP, FLIP_ONCE)?;
-    let actions = then(alloc, &world, no_actions(alloc)?, b"flip")?;
-    flips(alloc, &world, &actions)
+    let actions = actions_of(alloc, &world, &[b"flip"])?;
+    flips::<S>(alloc, &world, &actions)
 }
 
 #[test]
 fn an_atom_deleted_and_added_is_true(rt: HostRuntime) {
-    assert!(rt; flip(rt.alloc()) == Some(true));
+    assert!(rt; flip::<SortedState>(rt.alloc()) == Some(true));
+    assert!(rt; flip::<BitState>(rt.alloc()) == Some(true));
 }
 
 // Whether the goal holds where nothing is done.
-fn holds_at_once(alloc: Global, domain: &[u8], problem: &[u8]) -> Option<bool> {
+fn holds_at_once<S: State>(alloc: Global, domain: &[u8], problem: &[u8]) -> Option<bool> {
     let world = world_of(alloc, domain, problem)?;
-    let actions = no_actions(alloc)?;
-    let trace: Trace<SortedState> = Trace::run(alloc, &world, &actions).ok()?;
+    let actions = GroundActions::with_capacity(alloc, 0).ok()?;
+    let trace: Trace<S> = Trace::run(alloc, &world, &actions).ok()?;
     Some(trace.goal_holds())
+}
+
+fn goals_hold_at_once<S: State>(alloc: Global) -> bool {
+    let no_goal = b"(define (problem q) (:domain flip) (:htn) (:init))";
+    holds_at_once::<S>(alloc, FLIP, FLIP_ONCE) == Some(false)
+        && holds_at_once::<S>(alloc, FLIP, no_goal) == Some(true)
+        && holds_at_once::<S>(alloc, EMPTY, NO_RELIC_EXISTS) == Some(true)
+        && holds_at_once::<S>(alloc, EMPTY, RELIC_EXISTS) == Some(false)
 }
 
 #[test]
 fn goals_of_plans_without_actions(rt: HostRuntime) {
-    let no_goal = b"(define (problem q) (:domain flip) (:htn) (:init))";
-    assert!(rt; holds_at_once(rt.alloc(), FLIP, FLIP_ONCE) == Some(false));
-    assert!(rt; holds_at_once(rt.alloc(), FLIP, no_goal) == Some(true));
-    assert!(rt; holds_at_once(rt.alloc(), EMPTY, NO_RELIC_EXISTS) == Some(true));
-    assert!(rt; holds_at_once(rt.alloc(), EMPTY, RELIC_EXISTS) == Some(false));
+    assert!(rt; goals_hold_at_once::<SortedState>(rt.alloc()));
+    assert!(rt; goals_hold_at_once::<BitState>(rt.alloc()));
 }
 
 // Whether the precondition of the first action is true at the start.
-fn is_applicable_at_once(alloc: Global, domain: &[u8], problem: &[u8]) -> Option<bool> {
+fn is_applicable_at_once<S: State>(alloc: Global, domain: &[u8], problem: &[u8]) -> Option<bool> {
     let world = world_of(alloc, domain, problem)?;
     let action = world.action(ActionId(0))?;
-    let actions = no_actions(alloc)?;
-    let trace: Trace<SortedState> = Trace::run(alloc, &world, &actions).ok()?;
+    let actions = GroundActions::with_capacity(alloc, 0).ok()?;
+    let trace: Trace<S> = Trace::run(alloc, &world, &actions).ok()?;
     Some(trace.holds_at(0, action.precondition(), &NONE))
 }
 
 #[test]
 fn all_of_no_objects(rt: HostRuntime) {
-    assert!(rt; is_applicable_at_once(rt.alloc(), EMPTY, NO_RELIC_EXISTS) == Some(true));
+    let alloc = rt.alloc();
+    assert!(rt; is_applicable_at_once::<SortedState>(alloc, EMPTY, NO_RELIC_EXISTS) == Some(true));
+    assert!(rt; is_applicable_at_once::<BitState>(alloc, EMPTY, NO_RELIC_EXISTS) == Some(true));
+}
+
+// Whether the goals of the problems are true at the start; none where there is no world.
+fn goals_at_the_start<S: State>(alloc: Global) -> Option<Vec<Option<bool>>> {
+    let mut goals = Vec::new(alloc);
+    for domain in DOMAINS {
+        for problem in PROBLEMS {
+            goals.push(holds_at_once::<S>(alloc, domain, problem)).ok()?;
+        }
+    }
+    Some(goals)
+}
+
+fn kinds_agree(alloc: Global) -> Option<bool> {
+    let sorted = goals_at_the_start::<SortedState>(alloc)?;
+    let bits = goals_at_the_start::<BitState>(alloc)?;
+    Some(sorted.len() == 264 && sorted == bits && sorted.contains(&Some(true)))
+}
+
+#[test]
+fn the_goals_of_all_worked_texts_are_the_same_in_both_kinds(rt: HostRuntime) {
+    assert!(rt; kinds_agree(rt.alloc()) == Some(true));
 }

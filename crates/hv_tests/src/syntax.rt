@@ -50,7 +50,7 @@ fn sections_of_domain(domain: &DomainText<'_>) -> [usize; 7] {
 fn labels(network: &NetworkText<'_>) -> usize {
     let mut labels = 0usize;
     for subtask in network.subtasks() {
-        if subtask.label.is_some() {
+        if subtask.label().is_some() {
             labels = labels.wrapping_add(1);
         }
     }
@@ -71,7 +71,7 @@ fn parts_of_network(network: &NetworkText<'_>) -> [usize; 4] {
 fn places_of(method: &MethodText<'_>) -> [(u32, u32); 2] {
     [
         place_in(FORMS, method.span()),
-        place_in(FORMS, method.task().symbol.span),
+        place_in(FORMS, method.task().symbol().span()),
     ]
 }
 
@@ -79,7 +79,7 @@ fn places_of(method: &MethodText<'_>) -> [(u32, u32); 2] {
 fn is_first(method: &MethodText<'_>) -> bool {
     places_of(method) == [(3, 1), (4, 39)]
         && method.parameters().len() == 3
-        && method.task().terms.len() == 2
+        && method.task().terms().len() == 2
         && matches!(method.precondition(), FormulaText::Equal(..))
         && parts_of_network(method.network()) == [3, 2, 2, 2]
 }
@@ -94,7 +94,7 @@ fn are_first(methods: &[MethodText<'_>]) -> bool {
 
 fn reads_domain(alloc: Global) -> Option<bool> {
     let domain = read_domain(alloc, FORMS).ok()?;
-    let is_read = domain.name().name.is(b"forms")
+    let is_read = domain.name().name().is(b"forms")
         && sections_of_domain(&domain) == [2, 4, 3, 2, 2, 4, 3]
         && are_first(domain.methods());
     Some(is_read)
@@ -118,8 +118,8 @@ fn sections_of_problem(problem: &ProblemText<'_>) -> [usize; 5] {
 
 fn reads_problem(alloc: Global) -> Option<bool> {
     let problem = read_problem(alloc, GIVEN).ok()?;
-    let is_read = problem.name().name.is(b"G")
-        && problem.domain().name.is(b"when")
+    let is_read = problem.name().name().is(b"G")
+        && problem.domain().name().is(b"when")
         && sections_of_problem(&problem) == [0, 3, 1, 1, 2]
         && problem.goal().is_some()
         && place_in(GIVEN, problem.htn().span()) == (2, 1);
