@@ -1,5 +1,5 @@
 -- For which cause the lines of a plan form no tree that fits a world, and at which line.
-use Rattle.std.specs.Prelude.{◌≡◌, ℕ, ◌<◌, ◌≤◌, List, Some, None, length, Contains}
+use Rattle.std.specs.Prelude.{◌≡◌, ℕ, ◌<◌, ◌≤◌, List, Some, None, codes, length, Contains}
 use Rattle.std.specs.List.{AllZip}
 use Rattle.hv_world.specs.Values.{TaskName, compound, primitive}
 use Rattle.hv_world.specs.Names.{place_in}
@@ -31,6 +31,23 @@ number kinds.NotAbstract = 60
 number kinds.OtherTask = 61
 number kinds.ChildCount = 62
 number kinds.ChildNames = 63
+
+-- its name
+abbrev pub name : CauseKind → List ℕ
+name kinds.RepeatedId = codes "RepeatedId"
+name kinds.UnknownChild = codes "UnknownChild"
+name kinds.TwoParents = codes "TwoParents"
+name kinds.Unreached = codes "Unreached"
+name kinds.UnknownTask = codes "UnknownTask"
+name kinds.UnknownMethod = codes "UnknownMethod"
+name kinds.UnknownObject = codes "UnknownObject"
+name kinds.ArgumentCount = codes "ArgumentCount"
+name kinds.ArgumentType = codes "ArgumentType"
+name kinds.NotPrimitive = codes "NotPrimitive"
+name kinds.NotAbstract = codes "NotAbstract"
+name kinds.OtherTask = codes "OtherTask"
+name kinds.ChildCount = codes "ChildCount"
+name kinds.ChildNames = codes "ChildNames"
 
 -- The line of this number qualifies for a cause, read where no cause of a smaller number applies:
 --     repeated_id      its id begins a line before it

@@ -1,7 +1,7 @@
 //! Why the lines of a plan form no tree that fits a world.
 
 ghost use Rattle.std.specs.Prelude.{◌≡◌};
-ghost use Rattle.hv_plan.specs.Causes.{number};
+ghost use Rattle.hv_plan.specs.Causes.{name, number};
 ghost use Rattle.hv_plan.specs.inside.LineFaults.{comes_before, earlier};
 
 use hv_text::Memory;
@@ -61,6 +61,28 @@ impl CauseKind {
             CauseKind::OtherTask => 61,
             CauseKind::ChildCount => 62,
             CauseKind::ChildNames => 63,
+        }
+    }
+
+    /// The name under which the cause is reported.
+    pub fn name(self) -> &'static str
+        ensures { result.now ≡ name self }
+    {
+        match self {
+            CauseKind::RepeatedId => "RepeatedId",
+            CauseKind::UnknownChild => "UnknownChild",
+            CauseKind::TwoParents => "TwoParents",
+            CauseKind::Unreached => "Unreached",
+            CauseKind::UnknownTask => "UnknownTask",
+            CauseKind::UnknownMethod => "UnknownMethod",
+            CauseKind::UnknownObject => "UnknownObject",
+            CauseKind::ArgumentCount => "ArgumentCount",
+            CauseKind::ArgumentType => "ArgumentType",
+            CauseKind::NotPrimitive => "NotPrimitive",
+            CauseKind::NotAbstract => "NotAbstract",
+            CauseKind::OtherTask => "OtherTask",
+            CauseKind::ChildCount => "ChildCount",
+            CauseKind::ChildNames => "ChildNames",
         }
     }
 }
