@@ -1,6 +1,6 @@
 -- A least finish under a cap.
-use Rattle.std.proofs.Common.{◌≡◌, ℕ, ◌≤◌, ◌<◌, refl, arith, Option, Some, None}
-use Rattle.hv_order.specs.Tables.{IsLeastAt, IsLeast}
+use Rattle.std.proofs.Common.{◌≡◌, ℕ, ◌≤◌, ◌<◌, arith, Some, None}
+use Rattle.hv_order.specs.Tables.{IsLeast}
 use Rattle.hv_order.specs.inside.Facts.{IsRunOf}
 use Rattle.hv_order.specs.declared.trial.Run.{Run}
 

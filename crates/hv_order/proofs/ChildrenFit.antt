@@ -1,9 +1,8 @@
 -- Between which states children fit.
-use Rattle.std.proofs.Common.{◌≡◌, ℕ, ◌+◌, ◌≤◌, ◌<◌, arith, Option, Some, None}
+use Rattle.std.proofs.Common.{ℕ, ◌+◌, ◌≤◌, ◌<◌, arith, Some, None}
 use Rattle.hv_plan.specs.declared.tree.Child.{Child}
 use Rattle.hv_plan.specs.declared.tree.Child.TheVariants as children
 use Rattle.hv_order.specs.Finishes.{ActionFits}
-use Rattle.hv_order.specs.Tables.{IsLeastAt, IsLeast}
 use Rattle.hv_order.specs.inside.Children.{ChildFits}
 use Rattle.hv_order.specs.inside.Facts.{AreFits, IsRunOf}
 

@@ -1,11 +1,11 @@
 -- The runs of a row are as many as its different finishes.
-use Rattle.std.proofs.Common.{◌≡◌, ℕ, zero, suc, ◌+◌, ◌≤◌, ◌<◌, List, [], ◌∷◌, refl, sym, ap, ◌∙◌, subst, inl, inr, arith, ◌⊎◌, Option, Some, None, length}
+use Rattle.std.proofs.Common.{◌≡◌, ℕ, suc, ◌+◌, ◌≤◌, ◌<◌, List, [], ◌∷◌, refl, sym, ap, subst, inl, inr, arith, ◌⊎◌, Option, Some, None, length}
 use Rattle.std.proofs.lemmas.Bool.{cases_lt}
 use Rattle.std.specs.Prelude.{Contains}
 use Rattle.hv_text.specs.Lists.{Once}
-use Rattle.hv_order.specs.Tables.{IsLeastAt, IsLeast}
-use Rattle.hv_order.specs.inside.Facts.{IsRunOf}
-use Rattle.hv_order.specs.inside.Runs.{IsRow, IsApartFrom, AreApart, IsNumberOfAnswers}
+use Rattle.hv_order.specs.LeastFinishes.{IsNumberOfAnswers}
+use Rattle.hv_order.specs.Tables.{IsLeast}
+use Rattle.hv_order.specs.inside.Runs.{IsRow, IsApartFrom, AreApart}
 use Rattle.hv_order.specs.declared.trial.Run.{Run}
 use Rattle.hv_order.proofs.Members.{at_head, in_tail, contains_cases, none_in_empty, once_none, once_more}
 

@@ -4,7 +4,7 @@ use Rattle.std.proofs.Common.{◌≡◌, ℕ, ◌≤◌, true, refl, sym, subst,
 use Rattle.hv_plan.specs.Trees.{Item, Act, Task, Pre, Tree, AtOrBelow, itself, its_pre, Reached, IsPrimitive, IsTree, line_tree}
 use Rattle.hv_order.specs.Meanings.{Meaning, AreOrders}
 use Rattle.hv_order.specs.Precedence.{Precedes, of_pre, of_line}
-use Rattle.hv_order.specs.Schedules.{begins, ends, IsSchedule, Schedule, IsWindow, HasWindow, IsExchange, for_lines}
+use Rattle.hv_order.specs.Schedules.{begins, ends, IsSchedule, Schedule, IsWindow, IsExchange, for_lines}
 use Rattle.hv_order.specs.Laws.{ExchangeLaw, LeastExchangeLaw}
 use Rattle.hv_order.proofs.Ancestry
 use Rattle.hv_order.proofs.Ancestry.{under}

@@ -1,20 +1,24 @@
 -- A candidate's layout gives its least finish.
-use Rattle.std.proofs.Common.{◌≡◌, ℕ, zero, suc, ◌≤◌, ◌<◌, List, [], ◌∷◌, refl, sym, ap, ◌∙◌, subst, inl, inr, arith, ◌⊎◌, Option, Some, None, length, drop}
+use Rattle.std.proofs.Common.{◌≡◌, ℕ, zero, suc, ◌≤◌, ◌<◌, refl, inl, inr, arith, ◌⊎◌, Option, Some, None, length}
 use Rattle.std.proofs.lemmas.Bool.{cases_lt}
 use Rattle.std.specs.Prelude.{slice_index, replicate}
-use Rattle.hv_order.specs.Tables.{IsLeastAt, IsLeast}
-use Rattle.hv_order.specs.inside.Layouts.{Lays, PlacedTogether}
+use Rattle.hv_order.specs.Tables.{IsLeast}
+use Rattle.hv_order.specs.inside.Layouts.{PlacedTogether}
 use Rattle.hv_order.specs.inside.Children.{child_at, ChildFits}
+use Rattle.hv_order.specs.inside.Arrangements.{Arrangement, arrangement_of}
 use Rattle.hv_order.specs.inside.Facts.{Facts, AreFits, IsFirstTrue, IsFirstStretch, FitsWith}
-use Rattle.hv_order.specs.inside.Trials.{direct_of, HasFinish, IsTrial, IsTrialOf, IsTrialAs, IsUnderCap}
-use Rattle.hv_order.specs.inside.Frames.{IsArranged, IsTrying, IsLeastWith}
+use Rattle.hv_order.specs.inside.Trials.{direct_of, HasFinish, IsTrialOf, IsTrialAs, IsUnderCap}
+use Rattle.hv_order.specs.inside.Frames.{IsArranged, IsTrying}
 use Rattle.hv_order.specs.declared.trial.Trial.{Trial}
 use Rattle.hv_order.specs.declared.trial.Stretch.{Stretch}
 use Rattle.hv_order.specs.declared.trial.Arranged.{Arranged}
 use Rattle.hv_order.proofs.ChildrenFit.{child_climbs, child_earlier}
 use Rattle.hv_order.proofs.Layouts.{laid_is_least}
 
-module _ (q : Facts) (fits : AreFits q.fits) (s : ℕ) (c : Arranged) (arranged : IsArranged q c) (cap : ℕ) where
+module _ (q : Facts) (fits : AreFits q.fits) (s : ℕ) (c : Arranged) (arranged : IsArranged q (arrangement_of c)) (cap : ℕ) where
+  abbrev arrangement : Arrangement
+  arrangement = arrangement_of c
+
   abbrev Is : ℕ → Type 0
   Is j = j < length c.children.items
 
@@ -22,11 +26,11 @@ module _ (q : Facts) (fits : AreFits q.fits) (s : ℕ) (c : Arranged) (arranged 
   FitOf j = ChildFits q.fits (child_at c.children.items j)
 
   -- true nowhere
-  pub none_true : IsFirstTrue (q.holds c) s cap None → IsLeast (FitsWith q s c) cap None
+  pub none_true : IsFirstTrue (q.holds arrangement) s cap None → IsLeast (FitsWith q s arrangement) cap None
   none_true none = λ g a w. let e = w.early in none w.at w.late (omega arith) w.holds
 
   -- behind the first true index no placing is lost
-  earlier : (at at' f : ℕ) → at ≤ at' → PlacedTogether Is (q.before c) FitOf at' f → PlacedTogether Is (q.before c) FitOf at f
+  earlier : (at at' f : ℕ) → at ≤ at' → PlacedTogether Is (q.before arrangement) FitOf at' f → PlacedTogether Is (q.before arrangement) FitOf at f
   earlier at at' f le w = record {
     start = w.start;
     finish = w.finish;
@@ -36,14 +40,14 @@ module _ (q : Facts) (fits : AreFits q.fits) (s : ℕ) (c : Arranged) (arranged 
     order = w.order;
   }
 
-  first : (r : Stretch) (k : ℕ) → IsFirstStretch (q.holds c) s cap r → s ≤ k → q.holds c k → r.first ≤ k
+  first : (r : Stretch) (k : ℕ) → IsFirstStretch (q.holds arrangement) s cap r → s ≤ k → q.holds arrangement k → r.first ≤ k
   first r k is late holds = by_order (cases_lt k r.first)
     where
       by_order : (k < r.first) ⊎ (r.first ≤ k) → r.first ≤ k
       by_order (inl a) = absurd (is.none_before k late a holds)
       by_order (inr a) = a
 
-  by_index : (r : Stretch) (o : Option ℕ) → IsFirstStretch (q.holds c) s cap r → IsLeast (λ f. PlacedTogether Is (q.before c) FitOf r.first f × (r.first ≤ f)) cap o → IsLeast (FitsWith q s c) cap o
+  by_index : (r : Stretch) (o : Option ℕ) → IsFirstStretch (q.holds arrangement) s cap r → IsLeast (λ f. PlacedTogether Is (q.before arrangement) FitOf r.first f × (r.first ≤ f)) cap o → IsLeast (FitsWith q s arrangement) cap o
   by_index r None is none = λ g a w. none g a (earlier r.first w.at g (first r w.at is w.late w.holds) w.together, (let b = first r w.at is w.late w.holds in let e = w.early in omega arith))
   by_index r (Some f) is some = record {
     reached = record { at = r.first; late = is.behind; early = some.reached.1; holds = is.holds r.first (omega arith) is.begun; together = some.reached.0 };
@@ -52,7 +56,7 @@ module _ (q : Facts) (fits : AreFits q.fits) (s : ℕ) (c : Arranged) (arranged 
   }
 
   -- nothing is laid out yet
-  pub begun : (r : Stretch) (t : Trial) → IsFirstStretch (q.holds c) s cap r → cap ≤ q.last → t.at ≡ r.first → t.last ≡ r.last → t.cap ≡ cap → t.placed ≡ 0 → t.latest ≡ t.at → length t.finishes.items ≡ length c.children.items → ((i : ℕ) → slice_index t.finishes.items i ≤ 0) → IsTrying q s c t
+  pub begun : (r : Stretch) (t : Trial) → IsFirstStretch (q.holds arrangement) s cap r → cap ≤ q.last → t.at ≡ r.first → t.last ≡ r.last → t.cap ≡ cap → t.placed ≡ 0 → t.latest ≡ t.at → length t.finishes.items ≡ length c.children.items → ((i : ℕ) → slice_index t.finishes.items i ≤ 0) → IsTrying q s c t
   begun r t is within at_is last_is cap_is placed latest room nothing = record {
     under = record { cap = rw cap_is within; at = rw (cap_is, at_is) is.within; finishes = λ i. let a = nothing i in omega arith };
     late = rw at_is is.behind;
@@ -60,7 +64,7 @@ module _ (q : Facts) (fits : AreFits q.fits) (s : ℕ) (c : Arranged) (arranged 
     zeros = t.finishes.items;
     room = room;
     trial = record { room = refl; begun = rw (at_is, last_is) is.begun; alike = λ i lt. absurd (omega (arith, placed)); rest = λ o h. rw (placed, latest) at h };
-    gives = λ o lays. rw cap_is (by_index r o is (laid_is_least Is (q.before c) FitOf arranged.strict (λ j. child_climbs q.fits fits (child_at c.children.items j)) (λ j. child_earlier q.fits fits (child_at c.children.items j)) cap (HasFinish q cap c.children.items) (λ j a r k h. h) (direct_of c.direct.items) arranged.directs r.first is.within t.finishes.items c.order.items o (λ j k. rw room k) arranged.order (rw (cap_is, at_is) at lays)));
+    gives = λ o lays. rw cap_is (by_index r o is (laid_is_least Is (q.before arrangement) FitOf arranged.strict (λ j. child_climbs q.fits fits (child_at c.children.items j)) (λ j. child_earlier q.fits fits (child_at c.children.items j)) cap (HasFinish q cap c.children.items) (λ j a r k h. h) (direct_of c.direct.items) arranged.directs r.first is.within t.finishes.items c.order.items o (λ j k. rw room k) arranged.order (rw (cap_is, at_is) at lays)));
   }
 
 -- a list of zeros has nothing above zero

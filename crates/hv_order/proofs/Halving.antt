@@ -1,7 +1,8 @@
 -- Halving takes at most as many steps as a number has binary digits.
-use Rattle.std.proofs.Common.{◌≡◌, ℕ, zero, suc, ◌+◌, ◌-◌, ◌/◌, ◌≤◌, ◌<◌, ◌⊎◌, List, length, get_or, None, refl, sym, subst, inl, inr, arith}
+use Rattle.std.proofs.Common.{◌≡◌, ℕ, zero, suc, ◌+◌, ◌-◌, ◌/◌, ◌≤◌, ◌<◌, ◌⊎◌, List, length, None, subst, inl, inr, arith}
 use Rattle.std.proofs.lemmas.Bool.{cases_lt}
-use Rattle.hv_order.specs.inside.Runs.{HasDigits, AreBefore, Reaches, IsPlace}
+use Rattle.hv_order.specs.LeastFinishes.{HasDigits}
+use Rattle.hv_order.specs.inside.Runs.{AreBefore, Reaches, IsPlace}
 use Rattle.hv_order.specs.declared.trial.Run.{Run}
 
 pub more_digits : (k m m' : ℕ) → m ≤ m' → HasDigits m k → HasDigits m' k

@@ -1,11 +1,12 @@
 -- How long the best of a node's candidates is kept.
-use Rattle.std.proofs.Common.{◌≡◌, ℕ, zero, suc, ◌≤◌, ◌<◌, ◌+◌, ◌⊎◌, List, [], ◌∷◌, refl, sym, ap, ◌∙◌, subst, inl, inr, arith, Option, Some, None, length, get_or, Contains}
+use Rattle.std.proofs.Common.{◌≡◌, ℕ, zero, suc, ◌≤◌, ◌<◌, ◌⊎◌, List, [], ◌∷◌, refl, sym, ap, ◌∙◌, subst, inl, inr, arith, Option, Some, None, length, Contains}
 use Rattle.std.specs.Prelude.{slice_index, max, min, MatchOption}
 use Rattle.hv_text.specs.Lists.{Once}
-use Rattle.hv_order.specs.Tables.{IsLeastAt, IsLeast}
-use Rattle.hv_order.specs.inside.Choosing.{cap_under, newer, Gives, IsSoFar}
-use Rattle.hv_order.specs.inside.Layouts.{Lays, PlacedTogether, IsInOrder, IsOrderOf, AreDirect}
+use Rattle.hv_order.specs.Tables.{IsLeast}
+use Rattle.hv_order.specs.inside.Choosing.{cap_under, newer}
+use Rattle.hv_order.specs.inside.Layouts.{Lays, PlacedTogether, IsInOrder, AreDirect}
 use Rattle.hv_order.specs.inside.Children.{child_at, ChildFits}
+use Rattle.hv_order.specs.inside.Arrangements.{Arrangement, arrangement_of}
 use Rattle.hv_order.specs.inside.Facts.{Facts, AreFits, FitsWith}
 use Rattle.hv_order.specs.inside.Trials.{direct_of, finish_of, HasFinish, IsAlike, IsTrialOf, IsTrialAs, IsWhole, ComesTo}
 use Rattle.hv_order.specs.inside.Frames.{IsArranged, IsTrying, IsLeastWith, IsLeastOf, AreLeastOf, IsWonBy, Won, IsBest}
@@ -19,7 +20,7 @@ use Rattle.hv_order.proofs.Layouts.{laid_is_least}
 use Rattle.hv_order.proofs.Intervals.{IsKnown, serves_later}
 
 -- what fits from a start fits from an earlier one
-pub fits_earlier : (q : Facts) (c : Arranged) (s s' f : ℕ) → s' ≤ s → FitsWith q s c f → FitsWith q s' c f
+pub fits_earlier : (q : Facts) (c : Arrangement) (s s' f : ℕ) → s' ≤ s → FitsWith q s c f → FitsWith q s' c f
 fits_earlier q c s s' f le w = let a = w.late in record { at = w.at; late = omega arith; early = w.early; holds = w.holds; together = w.together }
 
 -- a member of a list has a place there
@@ -62,7 +63,10 @@ all_known Is Before strict direct directs (j ∷ js) done ordered distinct sub a
     apart i m (zero, lt, e) = once_head j js distinct (let P : ℕ → Type 0 = λ u. Contains js u in subst P (sym e) m)
     apart i m (suc k, lt, e) = new i (in_tail j js i m) (k, omega (arith, lt), e)
 
-module _ (q : Facts) (fits : AreFits q.fits) (s : ℕ) (c : Arranged) (arranged : IsArranged q c) (t : Trial) (is : IsTrying q s c t) where
+module _ (q : Facts) (fits : AreFits q.fits) (s : ℕ) (c : Arranged) (arranged : IsArranged q (arrangement_of c)) (t : Trial) (is : IsTrying q s c t) where
+  abbrev arrangement : Arrangement
+  arrangement = arrangement_of c
+
   abbrev Is : ℕ → Type 0
   Is j = j < length c.children.items
 
@@ -73,25 +77,25 @@ module _ (q : Facts) (fits : AreFits q.fits) (s : ℕ) (c : Arranged) (arranged 
   Row j from o = HasFinish q t.cap c.children.items j from o
 
   -- what the whole layout behind an index gives
-  together : (at f : ℕ) → at ≤ t.cap → Lays Row (direct_of c.direct.items) at is.zeros at c.order.items (Some f) → length is.zeros ≡ length c.children.items → PlacedTogether Is (q.before c) FitOf at f × (at ≤ f)
+  together : (at f : ℕ) → at ≤ t.cap → Lays Row (direct_of c.direct.items) at is.zeros at c.order.items (Some f) → length is.zeros ≡ length c.children.items → PlacedTogether Is (q.before arrangement) FitOf at f × (at ≤ f)
   together at f early lays room =
-      let least : IsLeast (λ g. PlacedTogether Is (q.before c) FitOf at g × (at ≤ g)) t.cap (Some f) = laid_is_least Is (q.before c) FitOf arranged.strict (λ j. child_climbs q.fits fits (child_at c.children.items j)) (λ j. child_earlier q.fits fits (child_at c.children.items j)) t.cap Row (λ j a r k h. h) (direct_of c.direct.items) arranged.directs at early is.zeros c.order.items (Some f) (λ j k. rw room k) arranged.order lays in
+      let least : IsLeast (λ g. PlacedTogether Is (q.before arrangement) FitOf at g × (at ≤ g)) t.cap (Some f) = laid_is_least Is (q.before arrangement) FitOf arranged.strict (λ j. child_climbs q.fits fits (child_at c.children.items j)) (λ j. child_earlier q.fits fits (child_at c.children.items j)) t.cap Row (λ j a r k h. h) (direct_of c.direct.items) arranged.directs at early is.zeros c.order.items (Some f) (λ j k. rw room k) arranged.order lays in
       least.reached
 
   -- a whole layout gives its finish from each start up to which it stays alike
-  lasts : (u : Trial) (b : Best) → IsTrialOf q t.cap c.children.items c.order.items c.direct.items is.zeros u → u.at ≡ t.at → u.last ≤ t.last → length c.order.items ≤ u.placed → b.last ≡ min u.last b.finish → Lays Row (direct_of c.direct.items) t.at is.zeros t.at c.order.items (Some b.finish) → IsWonBy q s c b
+  lasts : (u : Trial) (b : Best) → IsTrialOf q t.cap c.children.items c.order.items c.direct.items is.zeros u → u.at ≡ t.at → u.last ≤ t.last → length c.order.items ≤ u.placed → b.last ≡ min u.last b.finish → Lays Row (direct_of c.direct.items) t.at is.zeros t.at c.order.items (Some b.finish) → IsWonBy q s arrangement b
   lasts u b trial at_is shorter whole last_is lays =
       let under = is.under in
       let cap_at = under.at in
       let cap_last = under.cap in
       let room : length is.zeros ≡ length c.children.items = sym is.trial.room ∙ is.room in
-      let least : IsLeastWith q s c t.cap (Some b.finish) = is.gives (Some b.finish) lays in
+      let least : IsLeastWith q s arrangement t.cap (Some b.finish) = is.gives (Some b.finish) lays in
       let under_cap = least.within in
       let first = (together t.at b.finish cap_at lays room).1 in
       let begun : t.at ≤ u.last = rw at_is at trial.begun in
       let later : t.at ≤ b.last = omega arith in
       let end : b.last ≤ b.finish = omega arith in
-      let shift = serves_later Is FitOf (λ j. child_climbs q.fits fits (child_at c.children.items j)) t.cap Row (λ j a r k h. h) (direct_of c.direct.items) t.at b.last later held c.order.items [] is.zeros t.at b.finish (λ i m. absurd (none_in_empty i m)) (λ j m. (arranged.order.only j m, rw room (arranged.order.only j m))) (all_known Is (q.before c) arranged.strict (direct_of c.direct.items) arranged.directs c.order.items [] arranged.order.in_order arranged.order.distinct arranged.order.only (λ j k. inl (arranged.order.has j k)) (λ j m l. none_in_empty j l)) end lays in
+      let shift = serves_later Is FitOf (λ j. child_climbs q.fits fits (child_at c.children.items j)) t.cap Row (λ j a r k h. h) (direct_of c.direct.items) t.at b.last later held c.order.items [] is.zeros t.at b.finish (λ i m. absurd (none_in_empty i m)) (λ j m. (arranged.order.only j m, rw room (arranged.order.only j m))) (all_known Is (q.before arrangement) arranged.strict (direct_of c.direct.items) arranged.directs c.order.items [] arranged.order.in_order arranged.order.distinct arranged.order.only (λ j k. inl (arranged.order.has j k)) (λ j m l. none_in_empty j l)) end lays in
       let late : max b.last t.at ≡ b.last = omega arith in
       let there = together b.last b.finish (omega arith) (rw late at shift) room in
       let a = is.late in
@@ -115,19 +119,19 @@ module _ (q : Facts) (fits : AreFits q.fits) (s : ℕ) (c : Arranged) (arranged 
           rw same (alike b.last (omega arith) (omega arith))
 
   -- so the best of a candidate is its own
-  pub won_by_layout : (u : Trial) (o : Option Best) → IsTrialAs q c.children.items c.order.items c.direct.items t u → u.at ≡ t.at → u.last ≤ t.last → ComesTo q c.children.items c.order.items c.direct.items t o → IsWhole c.order.items u o → Won q s c o
+  pub won_by_layout : (u : Trial) (o : Option Best) → IsTrialAs q c.children.items c.order.items c.direct.items t u → u.at ≡ t.at → u.last ≤ t.last → ComesTo q c.children.items c.order.items c.direct.items t o → IsWhole c.order.items u o → Won q s arrangement o
   won_by_layout u None on at_is shorter comes whole b e = absurd (let k : None ≡ Some b = e in cc)
   won_by_layout u (Some d) on at_is shorter comes whole b e =
       let k : d ≡ b = (let r : Some d ≡ Some b = e in cc) in
-      subst (IsWonBy q s c) k (lasts u d (on is.zeros is.trial) at_is shorter whole.0 whole.1 (comes is.zeros is.trial))
+      subst (IsWonBy q s arrangement) k (lasts u d (on is.zeros is.trial) at_is shorter whole.0 whole.1 (comes is.zeros is.trial))
 
 -- the winner, after a candidate was tried
-pub won_by : (q : Facts) (s : ℕ) (best o : Option Best) (winner c w : Arranged) → Won q s winner best → Won q s c o → MatchOption o (w ≡ winner) (λ b. w ≡ c) → Won q s w (newer best o)
+pub won_by : (q : Facts) (s : ℕ) (best o : Option Best) (winner c w : Arranged) → Won q s (arrangement_of winner) best → Won q s (arrangement_of c) o → MatchOption o (w ≡ winner) (λ b. w ≡ c) → Won q s (arrangement_of w) (newer best o)
 won_by q s best None winner c w won own same b e = rw same (won b e)
 won_by q s best (Some d) winner c w won own same b e = rw same (own b e)
 
 -- one candidate more, tried under the cap
-pub one_more : (q : Facts) (s : ℕ) (all : List Arranged) (c : Arranged) (left : List Arranged) (best o : Option Best) (cap : ℕ) → cap_under q.last (finish_of best) ≡ Some cap → IsLeastWith q s c cap (finish_of o) → Won q s c o → IsBest q s all (c ∷ left) best → IsBest q s all left (newer best o)
+pub one_more : (q : Facts) (s : ℕ) (all : List Arrangement) (c : Arrangement) (left : List Arrangement) (best o : Option Best) (cap : ℕ) → cap_under q.last (finish_of best) ≡ Some cap → IsLeastWith q s c cap (finish_of o) → Won q s c o → IsBest q s all (c ∷ left) best → IsBest q s all left (newer best o)
 one_more q s all c left best None cap e least own far = record {
   tried = one_tried all (FitsWith q s) q.last c left (finish_of best) cap None e far.tried least;
   won = far.won;
@@ -138,7 +142,7 @@ one_more q s all c left best (Some d) cap e least own far = record {
 }
 
 -- the least finish of all candidates is that for each start up to which it is kept
-pub kept : (q : Facts) (s : ℕ) (all left : List Arranged) (best : Option Best) → IsBest q s all left best → IsLeastOf q s all (finish_of best) → AreLeastOf q s all best
+pub kept : (q : Facts) (s : ℕ) (all left : List Arrangement) (best : Option Best) → IsBest q s all left best → IsLeastOf q s all (finish_of best) → AreLeastOf q s all best
 kept q s all left None is least = λ x a g le w. least g le (record { candidate = w.candidate; listed = w.listed; gives = fits_earlier q w.candidate x s g a w.gives })
 kept q s all left (Some b) is least = λ x a h.
     let (c, m, won) = is.won b refl in

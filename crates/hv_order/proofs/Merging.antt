@@ -1,11 +1,11 @@
 -- A run that has the same finish as the one before it stands for both.
-use Rattle.std.proofs.Common.{◌≡◌, ℕ, zero, suc, ◌+◌, ◌-◌, ◌≤◌, ◌<◌, ◌++◌, List, [], ◌∷◌, refl, sym, ap, ◌∙◌, subst, inl, inr, arith, ◌⊎◌, Option, Some, None, length, take, get_or}
+use Rattle.std.proofs.Common.{◌≡◌, ℕ, zero, suc, ◌+◌, ◌-◌, ◌≤◌, ◌<◌, ◌++◌, List, [], ◌∷◌, refl, sym, ap, ◌∙◌, subst, inl, inr, arith, ◌⊎◌, Option, Some, None, length, take}
 use Rattle.std.proofs.lemmas.Bool.{cases_lt}
 use Rattle.std.specs.Prelude.{slice_get}
-use Rattle.hv_order.specs.Tables.{IsLeastAt, IsLeast}
+use Rattle.hv_order.specs.Tables.{IsLeast}
 use Rattle.hv_order.specs.inside.Facts.{Facts, IsRunOf}
 use Rattle.hv_order.specs.inside.Nodes.{IsWinnerOf}
-use Rattle.hv_order.specs.inside.Runs.{IsRow, AreWinners, IsApartFrom, AreApart, EndsWith, StaysWhole, LosesLast, IsTrimmed}
+use Rattle.hv_order.specs.inside.Runs.{IsRow, AreWinners, AreApart, EndsWith, IsTrimmed}
 use Rattle.hv_order.specs.declared.trial.Arranged.{Arranged}
 use Rattle.hv_order.specs.declared.trial.Run.{Run}
 use Rattle.hv_order.proofs.RunLemmas.{appended, row_more, winners_more}

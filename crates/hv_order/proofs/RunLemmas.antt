@@ -1,8 +1,7 @@
 -- Rows as runs.
-use Rattle.std.proofs.Common.{◌≡◌, ℕ, zero, suc, ◌+◌, ◌≤◌, ◌<◌, ◌++◌, List, [], ◌∷◌, refl, sym, ap, ◌∙◌, subst, inl, inr, arith, ◌⊎◌, Option, Some, None, length, get_or}
+use Rattle.std.proofs.Common.{◌≡◌, ℕ, zero, suc, ◌+◌, ◌≤◌, ◌<◌, ◌++◌, List, [], ◌∷◌, refl, ap, subst, inl, inr, arith, ◌⊎◌, Option, Some, None, length, get_or}
 use Rattle.std.proofs.lemmas.Bool.{cases_lt}
 use Rattle.std.specs.Prelude.{slice_get}
-use Rattle.hv_order.specs.Tables.{IsLeastAt, IsLeast}
 use Rattle.hv_order.specs.inside.Facts.{Facts, IsRunOf}
 use Rattle.hv_order.specs.inside.Nodes.{IsWinnerOf}
 use Rattle.hv_order.specs.inside.Runs.{IsRow, AreWinners, AreRising, AreBefore}

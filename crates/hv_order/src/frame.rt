@@ -1,12 +1,12 @@
 //! One node from one start: its candidates one after another, each laid out as far as finishes are
 //! known.
 ghost use Rattle.std.specs.Prelude.{◌≡◌, ◌≤◌, ℕ, IfOk, Some, List};
+ghost use Rattle.hv_order.specs.inside.Arrangements.{Arrangement, arrangement_of};
 ghost use Rattle.hv_order.specs.inside.Facts.{AreFits};
 ghost use Rattle.hv_order.specs.inside.Choosing.{newer};
 ghost use Rattle.hv_order.specs.inside.Trials.{WantsOnly};
 ghost use Rattle.hv_order.specs.inside.Winners.{StaysListed};
 ghost use Rattle.hv_order.specs.inside.Frames.{IsArranged, AreArranged, IsHead, IsEarliest, IsBegun, IsNext, IfTurn, TakesWinner, IsFrame, EndsLeast, EndsWon, StaysFrame, StaysTried};
-ghost use Rattle.hv_order.specs.declared.trial.Arranged.{Arranged};
 ghost use Rattle.hv_order.specs.declared.trial.Best.{Best};
 
 use crate::memory::Memory;
@@ -16,7 +16,7 @@ use std::mem::swap;
 
 /// The candidates of a node that are still to come.
 pub trait Candidates {
-    ghost left: { Self → List Arranged };
+    ghost left: { Self → List Arrangement };
 
     /// The next candidate.
     fn next(&mut self) -> Result<Option<Arranged>, Memory>
@@ -53,7 +53,7 @@ pub fn begin<T: Table>(
 ) -> Result<Option<Trial>, Memory>
     requires fits { AreFits (T.facts table.now).fits }
     requires cap { cap ≤ (T.facts table.now).last }
-    requires arranged { IsArranged (T.facts table.now) candidate.now }
+    requires arranged { IsArranged (T.facts table.now) (arrangement_of candidate.now) }
     ensures { IfOk result (IsBegun (T.facts table.now) start candidate.now cap) }
 {
     match table.first_true(candidate, start, cap) {

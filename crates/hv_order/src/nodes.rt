@@ -1,6 +1,8 @@
 //! What is given of the nodes of a plan.
-ghost use Rattle.std.specs.Prelude.{◌≡◌, ◌<◌, ◌≤◌, IfOk};
+ghost use Rattle.std.specs.Prelude.{◌≡◌, ◌<◌, ◌≤◌, ℕ, IfOk};
+ghost use Rattle.hv_order.specs.inside.Arrangements.{arrangement_of};
 ghost use Rattle.hv_order.specs.inside.Facts.{Facts, IsFirstTrue};
+ghost use Rattle.hv_order.specs.inside.Nodes.{AreAllOf};
 
 use crate::frame::Candidates;
 use crate::memory::Memory;
@@ -13,17 +15,21 @@ pub trait Nodes {
 
     ghost facts: { Self → Facts };
 
+    // How many nodes there are.
+    ghost size: { Self → ℕ };
+
     /// The last state of the plan.
     fn last(&self) -> u32
         ensures last { result ≡ (facts self.now).last }
         ensures small { result < 4294967295 };
 
-    /// All candidates of a node.
+    /// Candidates of a node: where it fits with any candidate, it does with one of these.
     fn candidates(&self, alloc: Global, node: usize) -> Result<Self::Left, Memory>
-        ensures { IfOk result (λ all. Self.Left.left all ≡ (facts self.now).candidates node) };
+        requires node { node < size self.now }
+        ensures { IfOk result (λ all. AreAllOf (facts self.now) node (Self.Left.left all)) };
 
     /// The first index from `from` to `upto` at which a candidate's precondition is true, and one up to
     /// which it stays true.
     fn first_true(&self, candidate: &Arranged, from: u32, upto: u32) -> Option<Stretch>
-        ensures { IsFirstTrue ((facts self.now).holds candidate.now) from upto result };
+        ensures { IsFirstTrue ((facts self.now).holds (arrangement_of candidate.now)) from upto result };
 }

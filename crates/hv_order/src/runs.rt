@@ -1,9 +1,10 @@
 //! The row of a node: its least finish for each start, as runs of starts with the same finish.
 ghost use Rattle.std.specs.Prelude.{◌≡◌, ◌<◌, ◌≤◌, ◌-◌, ◌↔◌, length, IfOk, IsTrue};
+ghost use Rattle.hv_order.specs.LeastFinishes.{IsCounted, IsNumberOfAnswers};
 ghost use Rattle.hv_order.specs.Tables.{IsLeast};
 ghost use Rattle.hv_order.specs.inside.Facts.{IsNodeRun};
 ghost use Rattle.hv_order.specs.inside.Nodes.{AreNodes};
-ghost use Rattle.hv_order.specs.inside.Runs.{IsRowOf, AreRows, AreRising, Reaches, EndsWith, IsTrimmed, IsPlace, AreFewOf, IsCounted, IsNumberOfAnswers};
+ghost use Rattle.hv_order.specs.inside.Runs.{IsRowOf, AreRows, AreRising, Reaches, EndsWith, IsTrimmed, IsPlace, AreFewOf};
 
 use crate::memory::Memory;
 use crate::nodes::Nodes;
@@ -53,6 +54,7 @@ pub fn trim(runs: &mut Vec<Run>, winners: &mut Vec<Option<Arranged>>, finish: Op
 pub fn make_row<N: Nodes>(alloc: Global, nodes: &N, rows: &[Row]) -> Result<Row, Memory>
     requires nodes { AreNodes (N.facts nodes.now) }
     requires rows { AreRows (N.facts nodes.now) rows.now }
+    requires node { length rows.now < N.size nodes.now }
     ensures { IfOk result (IsRowOf (N.facts nodes.now) (length rows.now)) }
 {
     let last = nodes.last();
@@ -72,6 +74,7 @@ pub fn make_row<N: Nodes>(alloc: Global, nodes: &N, rows: &[Row]) -> Result<Row,
 /// The rows of the first `count` nodes, children first.
 pub fn build<N: Nodes>(alloc: Global, nodes: &N, count: usize) -> Result<Vec<Row>, Memory>
     requires nodes { AreNodes (N.facts nodes.now) }
+    requires count { count ≤ N.size nodes.now }
     ensures count { IfOk result (λ rows. length rows.items ≡ count) }
     ensures rows { IfOk result (λ rows. AreRows (N.facts nodes.now) rows.items) }
 {
@@ -159,7 +162,7 @@ pub fn least_finish_counted<N: Nodes>(
     requires node { node < length rows.now }
     requires start { start ≤ (N.facts nodes.now).last }
     ensures finish { IsLeast ((N.facts nodes.now).fits node start) (N.facts nodes.now).last result.0 }
-    ensures looked { IsCounted (N.facts nodes.now) node result.1 }
+    ensures looked { IsCounted ((N.facts nodes.now).fits node) (N.facts nodes.now).last result.1 }
 {
     let found = find(nodes, rows, node, start);
     (found.run.finish, found.looked as u32)

@@ -1,5 +1,5 @@
 //! What a node comes to from one start, by the rows of the nodes before it.
-ghost use Rattle.std.specs.Prelude.{◌≡◌, ◌≤◌, length, IfOk};
+ghost use Rattle.std.specs.Prelude.{◌≡◌, ◌<◌, ◌≤◌, length, IfOk};
 ghost use Rattle.hv_order.specs.inside.Nodes.{AreNodes, IsSettled, settled_by};
 ghost use Rattle.hv_order.specs.inside.Runs.{AreRows};
 
@@ -70,6 +70,7 @@ pub fn settle<N: Nodes>(
 ) -> Result<Settled, Memory>
     requires nodes { AreNodes (N.facts nodes.now) }
     requires rows { AreRows (N.facts nodes.now) rows.now }
+    requires node { length rows.now < N.size nodes.now }
     requires start { start ≤ (N.facts nodes.now).last }
     ensures { IfOk result (IsSettled (N.facts nodes.now) (length rows.now) start) }
 {

@@ -1,23 +1,24 @@
 -- What is true of the nodes of a plan, however much of it is known.
-use Rattle.std.specs.Prelude.{◌≡◌, ℕ, ◌<◌, ◌≤◌, List, length, Option, Some, None}
+use Rattle.std.specs.Prelude.{ℕ, ◌<◌, ◌≤◌, length, Option, Some, None}
 use Rattle.hv_plan.specs.declared.tree.Child.{Child}
 use Rattle.hv_order.specs.Tables.{IsLeast}
 use Rattle.hv_order.specs.inside.Children.{child_at, ChildFits}
 use Rattle.hv_order.specs.inside.Layouts.{PlacedTogether}
-use Rattle.hv_order.specs.declared.trial.Arranged.{Arranged}
+use Rattle.hv_order.specs.inside.Arrangements.{Arrangement}
 use Rattle.hv_order.specs.declared.trial.Run.{Run}
 use Rattle.hv_order.specs.declared.trial.Stretch.{Stretch}
 use Rattle.hv_order.specs.declared.trial.Finish.{Finish}
 use Rattle.hv_order.specs.declared.trial.Finish.TheVariants as finishes
 
--- The last state of the plan; between which states each node fits, and all its candidates; which
--- subtasks of a candidate come before which; and in which states a candidate's precondition is true
+-- The last state of the plan; between which states each node fits, and what its candidates are;
+-- which subtasks of a candidate come before which; and in which states a candidate's precondition
+-- is true
 pub record Facts : Type 1 where
   pub last : ℕ
   pub fits : ℕ → ℕ → ℕ → Type 0
-  pub candidates : ℕ → List Arranged
-  pub before : Arranged → ℕ → ℕ → Type 0
-  pub holds : Arranged → ℕ → Type 0
+  pub is_candidate : ℕ → Arrangement → Type 0
+  pub before : Arrangement → ℕ → ℕ → Type 0
+  pub holds : Arrangement → ℕ → Type 0
 
 -- nothing finishes before it starts, and what fits from a start fits from an earlier one
 pub record AreFits (Fits : ℕ → ℕ → ℕ → Type 0) : Type 0 where
@@ -63,11 +64,11 @@ IsFirstTrue Holds from upto (Some r) = IsFirstStretch Holds from upto r
 
 -- A node fits with one candidate between s and f: the candidate's precondition is true at an index,
 -- and the children are placed behind it
-pub record FitsWith (q : Facts) (s : ℕ) (c : Arranged) (f : ℕ) : Type 0 where
+pub record FitsWith (q : Facts) (s : ℕ) (c : Arrangement) (f : ℕ) : Type 0 where
   pub at : ℕ
   pub late : s ≤ at
   pub early : at ≤ f
   pub holds : q.holds c at
   pub together :
-      PlacedTogether (λ j. j < length c.children.items) (q.before c)
-      (λ j. ChildFits q.fits (child_at c.children.items j)) at f
+      PlacedTogether (λ j. j < length c.children) (q.before c)
+      (λ j. ChildFits q.fits (child_at c.children j)) at f

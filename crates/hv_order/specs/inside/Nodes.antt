@@ -1,23 +1,38 @@
 -- The nodes of a plan, and what one comes to from a start.
-use Rattle.std.specs.Prelude.{◌≡◌, ℕ, Option, Some, None, Contains}
-use Rattle.hv_order.specs.inside.Facts.{Facts, FitsWith, IsNodeRun}
+use Rattle.std.specs.Prelude.{◌≡◌, ◌↔◌, ℕ, List, Option, Some, None, Contains}
+use Rattle.hv_order.specs.inside.Arrangements.{Arrangement, arrangement_of}
+use Rattle.hv_order.specs.inside.Children.{AreNodesBelow}
+use Rattle.hv_order.specs.inside.Facts.{Facts, AreFits, FitsWith, IsNodeRun}
 use Rattle.hv_order.specs.inside.Choosing.{Gives}
-use Rattle.hv_order.specs.inside.Frames.{AreArranged}
+use Rattle.hv_order.specs.inside.Frames.{IsArranged}
 use Rattle.hv_order.specs.declared.trial.Arranged.{Arranged}
 use Rattle.hv_order.specs.declared.trial.Run.{Run}
 use Rattle.hv_order.specs.declared.winner.Winner.{Winner}
 use Rattle.hv_order.specs.declared.settle.Settled.{Settled}
 
--- A node fits exactly where it does with one of its candidates. These are arranged, and the nodes among
+-- the node fits between s and f with one of its candidates
+pub record FitsWithOne (q : Facts) (v s f : ℕ) : Type 0 where
+  pub candidate : Arrangement
+  pub is_candidate : q.is_candidate v candidate
+  pub fits : FitsWith q s candidate f
+
+-- These are candidates of the node, and where it fits with any candidate, it does with one of these
+pub record AreAllOf (q : Facts) (v : ℕ) (all : List Arrangement) : Type 0 where
+  pub each : (c : Arrangement) → Contains all c → q.is_candidate v c
+  pub with_one : (s f : ℕ) → FitsWithOne q v s f → Gives all (FitsWith q s) f
+
+-- Nothing finishes before it starts, and what fits from a start fits from an earlier one. A node
+-- fits exactly where it does with one of its candidates; these are arranged, and the nodes among
 -- their children have lower numbers
 pub record AreNodes (q : Facts) : Type 0 where
-  pub with_one : (v s f : ℕ) → q.fits v s f → Gives (q.candidates v) (FitsWith q s) f
-  pub by_one : (v s f : ℕ) → Gives (q.candidates v) (FitsWith q s) f → q.fits v s f
-  pub arranged : (v : ℕ) → AreArranged q v (q.candidates v)
+  pub fits : AreFits q.fits
+  pub by_one : (v s f : ℕ) → q.fits v s f ↔ FitsWithOne q v s f
+  pub arranged :
+      (v : ℕ) (c : Arrangement) → q.is_candidate v c → IsArranged q c × AreNodesBelow v c.children
 
 -- with this candidate of the node it fits from the run's last start up to the run's finish
-pub record GivesRun (q : Facts) (v : ℕ) (r : Run) (c : Arranged) : Type 0 where
-  pub listed : Contains (q.candidates v) c
+pub record GivesRun (q : Facts) (v : ℕ) (r : Run) (c : Arrangement) : Type 0 where
+  pub is_candidate : q.is_candidate v c
   pub finish : ℕ
   pub finish_is : r.finish ≡ Some finish
   pub fits : FitsWith q r.last c finish
@@ -25,7 +40,7 @@ pub record GivesRun (q : Facts) (v : ℕ) (r : Run) (c : Arranged) : Type 0 wher
 -- the candidate that gives the finish of a run, or there is no finish
 abbrev pub IsWinnerOf : Facts → ℕ → Run → Option Arranged → Type 0
 IsWinnerOf q v r None = r.finish ≡ None
-IsWinnerOf q v r (Some c) = GivesRun q v r c
+IsWinnerOf q v r (Some c) = GivesRun q v r (arrangement_of c)
 
 -- a run of the node from a start on, with its winner
 pub record IsSettled (q : Facts) (v s : ℕ) (r : Settled) : Type 0 where

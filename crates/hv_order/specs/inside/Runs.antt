@@ -1,9 +1,10 @@
 -- The row of a node as runs of starts.
-use Rattle.std.specs.Prelude.{◌≡◌, ℕ, zero, suc, ◌+◌, ◌-◌, ◌/◌, ◌<◌, ◌≤◌, ◌⊎◌, List, [], ◌∷◌, length, take, Option, Some, slice_get, get_or, Contains}
-use Rattle.hv_text.specs.Lists.{Once}
-use Rattle.hv_order.specs.Tables.{IsLeast}
+use Rattle.std.specs.Prelude.{◌≡◌, ℕ, ◌+◌, ◌-◌, ◌<◌, ◌≤◌, ◌⊎◌, List, [], ◌∷◌, length, take, Option, Some, slice_get, get_or}
+use Rattle.hv_order.specs.LeastFinishes.{NodeCanBePlaced, IsNumberOfAnswers, HasDigits}
+use Rattle.hv_order.specs.Settings.{Setting, last, HaveCandidates}
 use Rattle.hv_order.specs.inside.Facts.{Facts, IsRunOf}
 use Rattle.hv_order.specs.inside.Nodes.{IsWinnerOf}
+use Rattle.hv_order.specs.inside.PlanFacts.{IsSetting, plan_facts}
 use Rattle.hv_order.specs.declared.trial.Arranged.{Arranged}
 use Rattle.hv_order.specs.declared.trial.Run.{Run}
 use Rattle.hv_order.specs.declared.runs.Row.{Row}
@@ -82,11 +83,6 @@ abbrev pub IsTrimmed :
 IsTrimmed runs ws finish runs' ws' =
     StaysWhole runs ws finish runs' ws' ⊎ LosesLast runs ws finish runs' ws'
 
--- a number has so many binary digits, or more: one where it is not 0, the others in its half
-abbrev pub HasDigits : ℕ → ℕ → Type 0
-HasDigits m zero = Unit {0}
-HasDigits m (suc k) = (1 ≤ m) × HasDigits (m / 2) k
-
 -- so many of these runs were looked at: one or more, and at most as many as their number has binary
 -- digits
 pub record AreFew (runs : List Run) (looked : ℕ) : Type 0 where
@@ -104,18 +100,13 @@ pub record IsPlace (runs : List Run) (start : ℕ) (p : Place) : Type 0 where
   pub here : Reaches runs p.at start
   pub few : AreFew runs p.looked
 
--- so many different answers has the node for its starts, none counted as one
-pub record IsNumberOfAnswers (Fit : ℕ → ℕ → Type 0) (n count : ℕ) : Type 0 where
-  pub answers : List (Option ℕ)
-  pub as_many : length answers ≡ count
-  pub once : Once answers
-  pub has : (s : ℕ) (o : Option ℕ) → s ≤ n → IsLeast (Fit s) n o → Contains answers o
-  pub only : (o : Option ℕ) → Contains answers o → (s : ℕ) × (s ≤ n) × IsLeast (Fit s) n o
-
--- so many runs were looked at for an answer of the node: one or more, and at most as many as the number
--- of its different answers has binary digits
-pub record IsCounted (q : Facts) (v looked : ℕ) : Type 0 where
-  pub answers : ℕ
-  pub is_number : IsNumberOfAnswers (q.fits v) q.last answers
-  pub one : 1 ≤ looked
-  pub few : HasDigits answers looked
+-- These are the rows of a plan's nodes, of which each has a candidate: a row for each node, with as many
+-- runs as the node has different answers
+pub record ArePlanRows (q : Setting) (rows : List Row) : Type 0 where
+  pub setting : IsSetting q
+  pub candidates : HaveCandidates q
+  pub as_many : length rows ≡ length q.tree.nodes
+  pub each : AreRows (plan_facts q) rows
+  pub as_many_runs :
+      (v : ℕ) (r : Row) → slice_get rows v ≡ Some r
+      → IsNumberOfAnswers (NodeCanBePlaced q v) (last q) (length r.runs.items)

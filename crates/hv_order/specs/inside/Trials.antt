@@ -1,10 +1,11 @@
 -- How far a candidate's subtasks are laid out.
-use Rattle.std.specs.Prelude.{◌≡◌, ℕ, ◌<◌, ◌≤◌, min, List, [], ◌∷◌, length, drop, map, Option, Some, None, slice_index}
-use Rattle.std.specs.List.{All, slice_index_or}
+use Rattle.std.specs.Prelude.{◌≡◌, ℕ, ◌<◌, ◌≤◌, min, List, [], ◌∷◌, length, drop, Option, Some, None, slice_index}
+use Rattle.std.specs.List.{All}
 use Rattle.std.specs.Global.{Vec}
 use Rattle.hv_plan.specs.declared.tree.Child.{Child}
 use Rattle.hv_order.specs.Tables.{IsLeast}
 use Rattle.hv_order.specs.inside.Children.{child_at, ChildFits}
+use Rattle.hv_order.specs.inside.Arrangements.{lists_of, listed_before}
 use Rattle.hv_order.specs.inside.Layouts.{Lays}
 use Rattle.hv_order.specs.inside.Facts.{Facts}
 use Rattle.hv_order.specs.declared.trial.Trial.{Trial}
@@ -14,7 +15,7 @@ use Rattle.hv_order.specs.declared.trial.Progress.TheVariants as progress
 
 -- the subtasks directly before one
 abbrev pub direct_of : List (Vec ℕ) → ℕ → List ℕ
-direct_of vs j = slice_index_or (map (λ v. v.items) vs) j []
+direct_of vs = listed_before (lists_of vs)
 
 -- the numbers are below n
 abbrev pub AreWithin : ℕ → List ℕ → Type 0

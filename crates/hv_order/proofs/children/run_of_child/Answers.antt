@@ -1,4 +1,4 @@
-use Rattle.std.proofs.Common.{◌≡◌, sym, subst}
+use Rattle.std.proofs.Common.{sym, subst}
 use Rattle.hv_plan.specs.declared.tree.Child.{Child}
 use Rattle.hv_order.specs.inside.Facts.{IsNodeRun, IsChildRun}
 use Rattle.hv_order.proofs.children.run_of_child.Goals as goal

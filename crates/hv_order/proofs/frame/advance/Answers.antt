@@ -1,4 +1,5 @@
-use Rattle.std.proofs.Common.{rules, ◌≡◌, ◌<◌, ◌≤◌, ℕ, length, Some, None, [], ◌∷◌, List, Option, refl, sym, ◌∙◌, arith}
+use Rattle.std.proofs.Common.{◌≡◌, sym, ◌∙◌}
+use Rattle.hv_order.specs.inside.Arrangements.{arrangement_of}
 use Rattle.hv_order.specs.inside.Trials.{finish_of}
 use Rattle.hv_order.specs.inside.Frames.{IsLeastWith, Won}
 use Rattle.hv_order.proofs.Members.{in_tail}
@@ -16,7 +17,7 @@ next_turn-requires-clause-within g c =
     let over = rw (c.deref.ensures.value, c.deref-in-loop-child.ensures.value, c.deref-in-loop-child-2.ensures.value) at c.in-Over.ensures.over in
     let whole = rw c.deref-in-loop-child.ensures.value at c.in-Over.ensures.whole in
     let trial = rw (c.deref.ensures.value, c.deref-in-loop-child.ensures.value, c.deref-in-loop-child-2.ensures.value) at c.in-Over.ensures.trial in
-    let own : Won q s f.candidate c.in-Over.best = won_by_layout q c.requires.fits s f.candidate inv.frame.arranged f.trial inv.frame.trying c.go_on.new.trial c.in-Over.best trial c.in-Over.ensures.at c.in-Over.ensures.last over whole in
+    let own : Won q s (arrangement_of f.candidate) c.in-Over.best = won_by_layout q c.requires.fits s f.candidate inv.frame.arranged f.trial inv.frame.trying c.go_on.new.trial c.in-Over.best trial c.in-Over.ensures.at c.in-Over.ensures.last over whole in
     λ b e. rw c.requires.last (won_by q s f.best c.in-Over.best f.winner f.candidate c.take.new.frame.winner inv.frame.won own c.take.ensures.winner b (sym c.take.ensures.best ∙ e)).within
 
 pub next_turn-requires-clause-earliest : goal.next_turn-requires-clause-earliest
@@ -33,11 +34,11 @@ returns-in-None-clause-over g c =
     let over = rw (c.deref.ensures.value, c.deref-in-loop-child.ensures.value, c.deref-in-loop-child-2.ensures.value) at c.in-Over.ensures.over in
     let whole = rw c.deref-in-loop-child.ensures.value at c.in-Over.ensures.whole in
     let trial = rw (c.deref.ensures.value, c.deref-in-loop-child.ensures.value, c.deref-in-loop-child-2.ensures.value) at c.in-Over.ensures.trial in
-    let least : IsLeastWith q s f.candidate f.trial.cap (finish_of c.in-Over.best) = inv.frame.trying.gives (finish_of c.in-Over.best) (over inv.frame.trying.zeros inv.frame.trying.trial) in
-    let own : Won q s f.candidate c.in-Over.best = won_by_layout q c.requires.fits s f.candidate inv.frame.arranged f.trial inv.frame.trying c.go_on.new.trial c.in-Over.best trial c.in-Over.ensures.at c.in-Over.ensures.last over whole in
+    let least : IsLeastWith q s (arrangement_of f.candidate) f.trial.cap (finish_of c.in-Over.best) = inv.frame.trying.gives (finish_of c.in-Over.best) (over inv.frame.trying.zeros inv.frame.trying.trial) in
+    let own : Won q s (arrangement_of f.candidate) c.in-Over.best = won_by_layout q c.requires.fits s f.candidate inv.frame.arranged f.trial inv.frame.trying c.go_on.new.trial c.in-Over.best trial c.in-Over.ensures.at c.in-Over.ensures.last over whole in
     let e : c.take.new.frame.start ≡ c.args.frame.now.start = c.take.ensures.start ∙ inv.start in
     let next = rw (c.in-None.is, e) at c.in_ok-next_turn-in-Over.ensures.next in
-    λ all best. next all (rw c.take.ensures.best (one_more q s all f.candidate (g.C.Candidates.left c.loop-child.left) f.best c.in-Over.best f.trial.cap inv.frame.cap least own (inv.tried all best)))
+    λ all best. next all (rw c.take.ensures.best (one_more q s all (arrangement_of f.candidate) (g.C.Candidates.left c.loop-child.left) f.best c.in-Over.best f.trial.cap inv.frame.cap least own (inv.tried all best)))
 
 pub loop-child-preserved : goal.loop-child-preserved
 loop-child-preserved g c =
@@ -48,8 +49,8 @@ loop-child-preserved g c =
     let over = rw (c.deref.ensures.value, c.deref-in-loop-child.ensures.value, c.deref-in-loop-child-2.ensures.value) at c.in-Over.ensures.over in
     let whole = rw c.deref-in-loop-child.ensures.value at c.in-Over.ensures.whole in
     let trial = rw (c.deref.ensures.value, c.deref-in-loop-child.ensures.value, c.deref-in-loop-child-2.ensures.value) at c.in-Over.ensures.trial in
-    let least : IsLeastWith q s f.candidate f.trial.cap (finish_of c.in-Over.best) = inv.frame.trying.gives (finish_of c.in-Over.best) (over inv.frame.trying.zeros inv.frame.trying.trial) in
-    let own : Won q s f.candidate c.in-Over.best = won_by_layout q c.requires.fits s f.candidate inv.frame.arranged f.trial inv.frame.trying c.go_on.new.trial c.in-Over.best trial c.in-Over.ensures.at c.in-Over.ensures.last over whole in
+    let least : IsLeastWith q s (arrangement_of f.candidate) f.trial.cap (finish_of c.in-Over.best) = inv.frame.trying.gives (finish_of c.in-Over.best) (over inv.frame.trying.zeros inv.frame.trying.trial) in
+    let own : Won q s (arrangement_of f.candidate) c.in-Over.best = won_by_layout q c.requires.fits s f.candidate inv.frame.arranged f.trial inv.frame.trying c.go_on.new.trial c.in-Over.best trial c.in-Over.ensures.at c.in-Over.ensures.last over whole in
     let e : c.take.new.frame.start ≡ c.args.frame.now.start = c.take.ensures.start ∙ inv.start in
     let next = rw (c.in-Some.is, e) at c.in_ok-next_turn-in-Over.ensures.next in
     let turn = rw (c.in-Some.is, e) at c.in_ok-next_turn-in-Over.ensures.turn in
@@ -64,11 +65,11 @@ loop-child-preserved g c =
         rest = turn.rest;
         won = λ b r. won_by q s f.best c.in-Over.best f.winner f.candidate c.take.new.frame.winner inv.frame.won own c.take.ensures.winner b (sym c.take.ensures.best ∙ r);
       };
-      tried = λ all best. next all (rw c.take.ensures.best (one_more q s all f.candidate (g.C.Candidates.left c.loop-child.left) f.best c.in-Over.best f.trial.cap inv.frame.cap least own (inv.tried all best)));
+      tried = λ all best. next all (rw c.take.ensures.best (one_more q s all (arrangement_of f.candidate) (g.C.Candidates.left c.loop-child.left) f.best c.in-Over.best f.trial.cap inv.frame.cap least own (inv.tried all best)));
       listed = λ all here.
           let are = inv.listed all here in
           record {
-            sub = λ d m. are.sub d (in_tail f.candidate (g.C.Candidates.left c.loop-child.left) d (turn.sub d m));
+            sub = λ d m. are.sub d (in_tail (arrangement_of f.candidate) (g.C.Candidates.left c.loop-child.left) d (turn.sub d m));
             winner = winner_listed all f (g.C.Candidates.left c.loop-child.left) c.in-Over.best c.take.new.frame.best c.take.new.frame.winner are c.take.ensures.best c.take.ensures.winner;
           };
     }
@@ -82,7 +83,7 @@ returns-in-None-clause-won g c =
     let over = rw (c.deref.ensures.value, c.deref-in-loop-child.ensures.value, c.deref-in-loop-child-2.ensures.value) at c.in-Over.ensures.over in
     let whole = rw c.deref-in-loop-child.ensures.value at c.in-Over.ensures.whole in
     let trial = rw (c.deref.ensures.value, c.deref-in-loop-child.ensures.value, c.deref-in-loop-child-2.ensures.value) at c.in-Over.ensures.trial in
-    let own : Won q s f.candidate c.in-Over.best = won_by_layout q c.requires.fits s f.candidate inv.frame.arranged f.trial inv.frame.trying c.go_on.new.trial c.in-Over.best trial c.in-Over.ensures.at c.in-Over.ensures.last over whole in
+    let own : Won q s (arrangement_of f.candidate) c.in-Over.best = won_by_layout q c.requires.fits s f.candidate inv.frame.arranged f.trial inv.frame.trying c.go_on.new.trial c.in-Over.best trial c.in-Over.ensures.at c.in-Over.ensures.last over whole in
     λ b e. won_by q s f.best c.in-Over.best f.winner f.candidate c.take.new.frame.winner inv.frame.won own c.take.ensures.winner b (sym c.take.ensures.best ∙ e)
 
 pub returns-in-Wants-clause-frame : goal.returns-in-Wants-clause-frame

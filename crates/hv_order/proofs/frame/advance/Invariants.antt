@@ -1,7 +1,7 @@
-use Rattle.std.proofs.Common.{◌≡◌, ◌<◌, ◌≤◌, ℕ, length, List, ◌∷◌}
+use Rattle.std.proofs.Common.{◌≡◌, length, List, ◌∷◌}
 use Rattle.hv_order.specs.inside.Frames.{IsFrame, StaysBest}
 use Rattle.hv_order.specs.inside.Winners.{AreListed}
-use Rattle.hv_order.specs.declared.trial.Arranged.{Arranged}
+use Rattle.hv_order.specs.inside.Arrangements.{Arrangement, arrangement_of}
 use Rattle.hv_order.proofs.frame.advance.Given as goal
 
 abbrev pub invariant-loop-child : goal.invariant-loop-child
@@ -9,8 +9,8 @@ invariant-loop-child g l = record {
   start : l.frame.start ≡ l.initial.frame.start;
   earliest : l.frame.earliest ≡ l.initial.frame.earliest;
   frame : IsFrame (g.T.Table.facts l.table) (g.T.Table.size l.table) l.initial.frame.start l.frame (g.C.Candidates.left l.left);
-  tried : StaysBest (g.T.Table.facts l.table) l.initial.frame.start (l.initial.frame.candidate ∷ g.C.Candidates.left l.initial.left) (l.frame.candidate ∷ g.C.Candidates.left l.left) l.initial.frame.best l.frame.best;
-  listed : (all : List Arranged) → AreListed all l.initial.frame (g.C.Candidates.left l.initial.left) → AreListed all l.frame (g.C.Candidates.left l.left);
+  tried : StaysBest (g.T.Table.facts l.table) l.initial.frame.start (arrangement_of l.initial.frame.candidate ∷ g.C.Candidates.left l.initial.left) (arrangement_of l.frame.candidate ∷ g.C.Candidates.left l.left) l.initial.frame.best l.frame.best;
+  listed : (all : List Arrangement) → AreListed all l.initial.frame (g.C.Candidates.left l.initial.left) → AreListed all l.frame (g.C.Candidates.left l.left);
 }
 
 abbrev pub decreases-loop-child : goal.decreases-loop-child

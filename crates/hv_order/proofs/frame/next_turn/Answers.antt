@@ -1,5 +1,5 @@
-use Rattle.std.proofs.Common.{rules, suc, ◌≡◌, ◌<◌, ◌≤◌, ◌+◌, ℕ, length, Some, None, [], ◌∷◌, List, refl, sym, arith}
-use Rattle.hv_order.specs.declared.trial.Arranged.{Arranged}
+use Rattle.std.proofs.Common.{suc, ◌≡◌, length, Some, None, [], ◌∷◌, refl, sym, arith}
+use Rattle.hv_order.specs.inside.Arrangements.{arrangement_of}
 use Rattle.hv_order.specs.Tables.{IsLeast}
 use Rattle.hv_order.specs.inside.Facts.{FitsWith}
 use Rattle.hv_order.specs.inside.Trials.{finish_of}
@@ -16,12 +16,12 @@ returns-then-found-earliest-clause-next g c =
 
 pub begin-requires-clause-arranged : goal.begin-requires-clause-arranged
 begin-requires-clause-arranged g c =
-    let left : g.C.Candidates.left c.loop-candidate.left ≡ c.in-Some-2.candidate ∷ g.C.Candidates.left c.next.new.self = rw c.in-Some-2.is at c.in_ok-candidate.ensures in
-    (c.loop-candidate.invariant.arranged c.in-Some-2.candidate (rw left (at_head c.in-Some-2.candidate (g.C.Candidates.left c.next.new.self) c.in-Some-2.candidate refl))).0
+    let left : g.C.Candidates.left c.loop-candidate.left ≡ arrangement_of c.in-Some-2.candidate ∷ g.C.Candidates.left c.next.new.self = rw c.in-Some-2.is at c.in_ok-candidate.ensures in
+    (c.loop-candidate.invariant.arranged (arrangement_of c.in-Some-2.candidate) (rw left (at_head (arrangement_of c.in-Some-2.candidate) (g.C.Candidates.left c.next.new.self) (arrangement_of c.in-Some-2.candidate) refl))).0
 
 pub returns-in-Some-3-clause-turn : goal.returns-in-Some-3-clause-turn
 returns-in-Some-3-clause-turn g c =
-    let left : g.C.Candidates.left c.loop-candidate.left ≡ c.in-Some-2.candidate ∷ g.C.Candidates.left c.next.new.self = rw c.in-Some-2.is at c.in_ok-candidate.ensures in
+    let left : g.C.Candidates.left c.loop-candidate.left ≡ arrangement_of c.in-Some-2.candidate ∷ g.C.Candidates.left c.next.new.self = rw c.in-Some-2.is at c.in_ok-candidate.ensures in
     let inv = c.loop-candidate.invariant in
     let made = rw c.in-Some-3.is at c.in_ok-trial.ensures in
     let fewer = inv.fewer in
@@ -29,9 +29,9 @@ returns-in-Some-3-clause-turn g c =
     record {
       trying = made.0;
       cap = rw (made.1, sym c.requires.last) inv.cap;
-      arranged = (inv.arranged c.in-Some-2.candidate (rw left (at_head c.in-Some-2.candidate (g.C.Candidates.left c.next.new.self) c.in-Some-2.candidate refl))).0;
-      nodes = (inv.arranged c.in-Some-2.candidate (rw left (at_head c.in-Some-2.candidate (g.C.Candidates.left c.next.new.self) c.in-Some-2.candidate refl))).1;
-      rest = λ d m. inv.arranged d (rw left (in_tail c.in-Some-2.candidate (g.C.Candidates.left c.next.new.self) d m));
+      arranged = (inv.arranged (arrangement_of c.in-Some-2.candidate) (rw left (at_head (arrangement_of c.in-Some-2.candidate) (g.C.Candidates.left c.next.new.self) (arrangement_of c.in-Some-2.candidate) refl))).0;
+      nodes = (inv.arranged (arrangement_of c.in-Some-2.candidate) (rw left (at_head (arrangement_of c.in-Some-2.candidate) (g.C.Candidates.left c.next.new.self) (arrangement_of c.in-Some-2.candidate) refl))).1;
+      rest = λ d m. inv.arranged d (rw left (in_tail (arrangement_of c.in-Some-2.candidate) (g.C.Candidates.left c.next.new.self) d m));
       sub = λ d m. inv.sub d (rw left m);
       fewer = omega arith;
     }
@@ -39,18 +39,18 @@ returns-in-Some-3-clause-turn g c =
 pub loop-candidate-preserved : goal.loop-candidate-preserved
 loop-candidate-preserved g c =
     let q = g.T.Table.facts c.args.table.now in
-    let left : g.C.Candidates.left c.loop-candidate.left ≡ c.in-Some-2.candidate ∷ g.C.Candidates.left c.next.new.self = rw c.in-Some-2.is at c.in_ok-candidate.ensures in
+    let left : g.C.Candidates.left c.loop-candidate.left ≡ arrangement_of c.in-Some-2.candidate ∷ g.C.Candidates.left c.next.new.self = rw c.in-Some-2.is at c.in_ok-candidate.ensures in
     let inv = c.loop-candidate.invariant in
-    let none : IsLeast (FitsWith q c.args.start c.in-Some-2.candidate) c.match-best.cap None = rw c.in_default-2.is at c.in_ok-trial.ensures in
+    let none : IsLeast (FitsWith q c.args.start (arrangement_of c.in-Some-2.candidate)) c.match-best.cap None = rw c.in_default-2.is at c.in_ok-trial.ensures in
     let fewer = inv.fewer in
     let long : length (g.C.Candidates.left c.loop-candidate.left) ≡ suc (length (g.C.Candidates.left c.next.new.self)) = rw left refl in
     record {
       cap = inv.cap;
       within = inv.within;
-      arranged = λ d m. inv.arranged d (rw left (in_tail c.in-Some-2.candidate (g.C.Candidates.left c.next.new.self) d m));
-      sub = λ d m. inv.sub d (rw left (in_tail c.in-Some-2.candidate (g.C.Candidates.left c.next.new.self) d m));
+      arranged = λ d m. inv.arranged d (rw left (in_tail (arrangement_of c.in-Some-2.candidate) (g.C.Candidates.left c.next.new.self) d m));
+      sub = λ d m. inv.sub d (rw left (in_tail (arrangement_of c.in-Some-2.candidate) (g.C.Candidates.left c.next.new.self) d m));
       fewer = omega arith;
-      tried = λ all best. one_more q c.args.start all c.in-Some-2.candidate (g.C.Candidates.left c.next.new.self) c.args.best None c.match-best.cap (rw (sym c.requires.last) inv.cap) none (λ b e. absurd (let k : None ≡ Some b = e in cc)) (rw left at (inv.tried all best));
+      tried = λ all best. one_more q c.args.start all (arrangement_of c.in-Some-2.candidate) (g.C.Candidates.left c.next.new.self) c.args.best None c.match-best.cap (rw (sym c.requires.last) inv.cap) none (λ b e. absurd (let k : None ≡ Some b = e in cc)) (rw left at (inv.tried all best));
     }
 
 pub returns-clause-next : goal.returns-clause-next

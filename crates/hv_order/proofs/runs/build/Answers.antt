@@ -1,4 +1,4 @@
-use Rattle.std.proofs.Common.{◌≡◌, ◌+◌, ◌++◌, ℕ, length, [], ◌∷◌, length-append, refl, arith}
+use Rattle.std.proofs.Common.{◌≡◌, ◌+◌, length, length-append, refl, arith}
 use Rattle.hv_order.specs.inside.Runs.{IsRowOf}
 use Rattle.hv_order.proofs.RunLemmas.{each_more}
 use Rattle.hv_order.proofs.runs.build.Goals as goal

@@ -1,7 +1,5 @@
-use Rattle.std.proofs.Common.{◌≡◌, ◌∙◌, ◌-◌, true, false, Option, Some, None, length, sym, subst, ap}
-use Rattle.std.specs.Prelude.{slice_get}
+use Rattle.std.proofs.Common.{◌≡◌, ◌∙◌, true, false, Some, None, sym, ap}
 use Rattle.hv_order.specs.declared.trial.Run.{Run}
-use Rattle.hv_order.specs.inside.Runs.{EndsWith}
 use Rattle.hv_order.proofs.runs.ends_with.Goals as goal
 
 pub returns-in-None : goal.returns-in-None

@@ -1,6 +1,5 @@
-use Rattle.std.proofs.Common.{rules, ◌≡◌, ◌<◌, ◌≤◌, ◌+◌, ℕ, length, Some, get_or, ◌-◌, arith, refl, sym, ◌∙◌, subst}
+use Rattle.std.proofs.Common.{◌≡◌, length, Some, get_or, ◌-◌, arith, sym, ◌∙◌, subst}
 use Rattle.std.proofs.lemmas.Option.{slice_get-get_or}
-use Rattle.hv_order.specs.declared.trial.Run.{Run}
 use Rattle.hv_order.specs.inside.Runs.{IsRow, AreFew}
 use Rattle.hv_order.specs.declared.runs.Row.{Row}
 use Rattle.hv_order.proofs.RunLemmas.{some_run, rising, ends_at, run_here}

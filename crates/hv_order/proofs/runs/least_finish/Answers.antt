@@ -1,4 +1,4 @@
-use Rattle.std.proofs.Common.{◌≤◌, arith}
+use Rattle.std.proofs.Common.{arith}
 use Rattle.hv_order.proofs.runs.least_finish.Goals as goal
 
 pub returns : goal.returns

@@ -1,5 +1,4 @@
-use Rattle.std.proofs.Common.{◌≡◌, ◌≤◌, ◌<◌, ℕ, arith, length}
-use Rattle.hv_order.proofs.Settling.{fits_of}
+use Rattle.std.proofs.Common.{arith, length}
 use Rattle.hv_order.proofs.RunLemmas.{has_row}
 use Rattle.hv_order.proofs.Different.{number_is}
 use Rattle.hv_order.proofs.runs.least_finish_counted.Goals as goal
@@ -16,7 +15,7 @@ returns-clause-looked g c =
     let looked = c.find-found.ensures.looked r is in
     record {
       answers = length r.runs.items;
-      is_number = number_is (q.fits v) (λ s s' f le h. (fits_of q c.requires.nodes).earlier v s s' f le h) q.last r.runs.items row.runs row.apart;
+      is_number = number_is (q.fits v) (λ s s' f le h. c.requires.nodes.fits.earlier v s s' f le h) q.last r.runs.items row.runs row.apart;
       one = looked.one;
       few = looked.few;
     }

@@ -1,6 +1,5 @@
-use Rattle.std.proofs.Common.{rules, ◌≡◌, ◌<◌, ◌≤◌, ◌+◌, ◌++◌, ℕ, length, Some, None, Option, ◌-◌, List, [], ◌∷◌, refl, sym, subst, arith}
+use Rattle.std.proofs.Common.{◌≡◌, ◌≤◌, ◌+◌, ℕ, length, [], sym, subst, arith}
 use Rattle.hv_order.specs.inside.Facts.{IsRunOf}
-use Rattle.hv_order.specs.inside.Runs.{IsRow}
 use Rattle.hv_order.proofs.RunLemmas.{nothing_behind}
 use Rattle.hv_order.proofs.Merging.{IsRowSoFar, far_more}
 use Rattle.hv_order.proofs.runs.make_row.Goals as goal

@@ -1,4 +1,4 @@
-use Rattle.std.proofs.Common.{◌+◌, ◌-◌, ◌++◌, ◌≡◌, ◌<◌, ◌≤◌, ℕ, length, Some, None, Option, List}
+use Rattle.std.proofs.Common.{◌+◌, ◌-◌, ◌++◌, ◌≤◌, length, List}
 use Rattle.hv_order.specs.inside.Runs.{IsRow, AreApart, AreWinners}
 use Rattle.hv_order.specs.declared.trial.Run.{Run}
 use Rattle.hv_order.proofs.runs.make_row.Given as goal

@@ -1,6 +1,5 @@
-use Rattle.std.proofs.Common.{rules, None, ◌≡◌, ◌<◌, ◌≤◌, ◌+◌, ◌/◌, ℕ, length, get_or, ◌-◌, arith, refl, sym, subst, inl, inr, ◌⊎◌}
-use Rattle.hv_order.specs.declared.trial.Run.{Run}
-use Rattle.hv_order.specs.inside.Runs.{HasDigits}
+use Rattle.std.proofs.Common.{None, ◌≡◌, ◌<◌, ◌+◌, ◌/◌, ℕ, length, ◌-◌, arith, subst}
+use Rattle.hv_order.specs.LeastFinishes.{HasDigits}
 use Rattle.hv_order.proofs.RunLemmas.{behind_middle, same_or}
 use Rattle.hv_order.proofs.Halving.{one_step, digits_below, fits_in_bits, found}
 use Rattle.hv_order.proofs.runs.run_at.Goals as goal

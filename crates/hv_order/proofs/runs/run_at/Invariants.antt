@@ -1,5 +1,6 @@
 use Rattle.std.proofs.Common.{◌+◌, ◌-◌, ◌≡◌, ◌<◌, ◌≤◌, ℕ, length}
-use Rattle.hv_order.specs.inside.Runs.{AreBefore, Reaches, HasDigits}
+use Rattle.hv_order.specs.LeastFinishes.{HasDigits}
+use Rattle.hv_order.specs.inside.Runs.{AreBefore, Reaches}
 use Rattle.hv_order.proofs.runs.run_at.Given as goal
 
 -- as many binary digits as the rest has, with those of the runs looked at, the number of all has

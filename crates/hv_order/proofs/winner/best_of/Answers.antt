@@ -1,6 +1,7 @@
-use Rattle.std.proofs.Common.{rules, ◌≡◌, ◌≤◌, ℕ, List, ◌∷◌, Some, None, refl, sym, inl, inr, arith}
+use Rattle.std.proofs.Common.{◌≡◌, Some, None}
+use Rattle.hv_order.specs.inside.Arrangements.{arrangement_of}
 use Rattle.hv_order.specs.declared.trial.Best.{Best}
-use Rattle.hv_order.specs.inside.Frames.{AreLeastOf, Won, IsBest, IsTurn}
+use Rattle.hv_order.specs.inside.Frames.{AreLeastOf, Won}
 use Rattle.hv_order.specs.inside.Winners.{IsListed}
 use Rattle.hv_order.proofs.Settling.{from_start, nothing_tried, winner_is}
 use Rattle.hv_order.proofs.winner.best_of.Goals as goal
@@ -50,6 +51,6 @@ returns g c =
     let won = rw c.in-Over.is at c.in_ok-advance.ensures.won in
     let listed = rw c.in-Over.is at c.in_ok-advance.ensures.listed in
     let least : AreLeastOf q s all c.in-Over.best = over all (next all (nothing_tried q s all)) in
-    let own : Won q s c.advance.new.frame.winner c.in-Over.best = won in
-    let of_all : IsListed all c.advance.new.frame.winner c.in-Over.best = listed all (record { sub = turn.sub; winner = λ b e. absurd (no_best b e) }) in
+    let own : Won q s (arrangement_of c.advance.new.frame.winner) c.in-Over.best = won in
+    let of_all : IsListed all (arrangement_of c.advance.new.frame.winner) c.in-Over.best = listed all (record { sub = turn.sub; winner = λ b e. absurd (no_best b e) }) in
     rw c.with_candidate.ensures (winner_is q s all c.in-Over.best c.advance.new.frame.winner least own of_all)

@@ -1,0 +1,101 @@
+-- What lists all matchings and bindings of a node lists all its candidates.
+use Rattle.std.proofs.Common.{◌≡◌, ℕ, ◌<◌, List, [], ◌∷◌, length, refl, sym, ap, ◌∙◌, subst}
+use Rattle.std.specs.Prelude.{map, slice_get, Some}
+use Rattle.std.specs.List.{slice_index_or}
+use Rattle.std.proofs.lemmas.List.{length-map}
+use Rattle.std.proofs.Math.ListN.{get_or-map}
+use Rattle.hv_world.specs.Worlds.{Method}
+use Rattle.hv_plan.specs.Trees.{Act}
+use Rattle.hv_plan.specs.PlanTrees.{Node}
+use Rattle.hv_plan.specs.TreeViews.{child_view}
+use Rattle.hv_plan.specs.declared.tree.Child.TheVariants as children
+use Rattle.hv_match.specs.Candidates.{IsCandidate, child_tasks, node_method}
+use Rattle.hv_order.specs.Settings.{Setting}
+use Rattle.hv_order.specs.inside.Arrangements.{Arrangement, lists_of, listed_before}
+use Rattle.hv_order.specs.inside.Children.{child_at}
+use Rattle.hv_order.specs.inside.Choosing.{Gives}
+use Rattle.hv_order.specs.inside.Facts.{FitsWith}
+use Rattle.hv_order.specs.inside.Listers.{ListsAll, arranged_by, still_listed}
+use Rattle.hv_order.specs.inside.Nodes.{FitsWithOne, AreAllOf}
+use Rattle.hv_order.specs.inside.PlanFacts.{IsSetting, child_in, Arranges, plan_facts}
+use Rattle.hv_order.specs.declared.lister.Lister.{Lister}
+use Rattle.hv_order.proofs.Members.{MappedFrom, mem_map, mem_map_from}
+use Rattle.hv_order.proofs.Orders.{row_allowed, direct_allowed}
+use Rattle.hv_order.proofs.NodeParts.{IsCandidateHere, candidate_here, is_candidate_at, sound_network, order_count}
+use Rattle.hv_order.proofs.NodeFits.{fits_matching, fits_arranged}
+
+map_twice : {X Y Z : Type 0} (f : X → Y) (g : Y → Z) (h : X → Z) → ((x : X) → g (f x) ≡ h x) → (xs : List X) → map g (map f xs) ≡ map h xs
+map_twice f g h each [] = refl
+map_twice f g h each (x ∷ xs) = let here = each x in let rest = map_twice f g h each xs in cc
+
+module _ (q : Setting) (is : IsSetting q) (v : ℕ) (l : Lister) (lists : ListsAll q.plan.world q.tree v l) where
+  abbrev arranged : List ℕ × List ℕ → Arrangement
+  arranged = arranged_by l.node l.children.now l.order.now (lists_of l.direct.items)
+
+  -- a candidate of the node is one of the lister's node and method
+  same_node : (n : Node) → slice_get q.tree.nodes v ≡ Some n → n ≡ lists.node
+  same_node n e = let f = lists.has_node in cc
+
+  same_method : (n : Node) (m : Method) → n ≡ lists.node → node_method q.plan.world n ≡ Some m → m ≡ lists.method
+  same_method n m e f = let g = lists.has_method in let h = subst (λ (x : Node). node_method q.plan.world x ≡ Some m) e f in cc
+
+  candidate_of : (M B : List ℕ) → IsCandidateHere q v M B → IsCandidate q.plan.world lists.method lists.node.objects (child_tasks q.tree lists.node) M B
+  candidate_of M B h =
+      let node = same_node h.node h.has_node in
+      let method = same_method h.node h.method node h.has_method in
+      subst (λ (m : Method). IsCandidate q.plan.world m lists.node.objects (child_tasks q.tree lists.node) M B) method
+      (subst (λ (n : Node). IsCandidate q.plan.world h.method n.objects (child_tasks q.tree n) M B) node h.candidate)
+
+  places_are : (M : List ℕ) → map child_view (map (child_at l.children.now) M) ≡ map (child_in lists.node.children) M
+  places_are M =
+      map_twice (child_at l.children.now) child_view (child_in lists.node.children)
+      (λ x. sym (get_or-map child_view l.children.now x (children.Action 0)) ∙ ap (λ xs. slice_index_or xs x (Act 0)) lists.children) M
+
+  arranges : (M B : List ℕ) → IsCandidate q.plan.world lists.method lists.node.objects (child_tasks q.tree lists.node) M B → Arranges q v (arranged (M, B))
+  arranges M B candidate =
+      let sound = sound_network q is v lists.node lists.has_node lists.method lists.has_method in
+      let count = order_count q is v lists.node lists.has_node lists.method lists.has_method M B candidate in
+      let places = length-map M (child_at l.children.now) in
+      let len : lists.method.network.order.len ≡ length (map (child_at l.children.now) M) = count ∙ sym places in
+      record {
+        of_node = lists.of_node;
+        node = lists.node;
+        has_node = lists.has_node;
+        method = lists.method;
+        has_method = lists.has_method;
+        matching = M;
+        candidate = candidate;
+        children = places_are M;
+        order = row_allowed lists.method.network.order sound.arrangeable (length (map (child_at l.children.now) M)) l.order.now len lists.order;
+        as_many = lists.direct.as_many ∙ len;
+        direct = λ j lt. direct_allowed lists.method.network.order sound.arrangeable (length (map (child_at l.children.now) M)) j (listed_before (lists_of l.direct.items) j) len (lists.direct.direct j (subst (λ n. j < n) (sym len) lt));
+      }
+
+  -- each that is listed is a candidate
+  each : (c : Arrangement) → MappedFrom arranged c l.coming.coming → Arranges q v c
+  each c w =
+      subst (λ d. Arranges q v d) (sym w.image)
+      (arranges w.source.0 w.source.1 (candidate_of w.source.0 w.source.1 (candidate_here q v w.source.0 w.source.1 ((lists.all w.source.0 w.source.1).0 w.is_member))))
+
+  -- where a candidate fits, the listed one with its matching and binding does
+  with_one : (s f : ℕ) → FitsWithOne (plan_facts q) v s f → Gives (still_listed l) (FitsWith (plan_facts q) s) f
+  with_one s f w =
+      let c = w.candidate in
+      let r = w.is_candidate in
+      let M = r.matching in
+      let node = same_node r.node r.has_node in
+      let here : IsCandidateHere q v M c.objects = record { node = r.node; has_node = r.has_node; method = r.method; has_method = r.has_method; candidate = r.candidate } in
+      let candidate = candidate_of M c.objects here in
+      let items : map child_view c.children ≡ map (child_in lists.node.children) M = subst (λ (n : Node). map child_view c.children ≡ map (child_in n.children) M) node r.children in
+      let g = fits_matching q is v lists.node lists.has_node lists.method lists.has_method M c r.of_node candidate items s f w.fits in
+      record {
+        candidate = arranged (M, c.objects);
+        listed = mem_map arranged (M, c.objects) l.coming.coming ((lists.all M c.objects).1 (is_candidate_at q v M c.objects here));
+        gives = fits_arranged q is v lists.node lists.has_node lists.method lists.has_method M (arranged (M, c.objects)) lists.of_node candidate (places_are M) s f g;
+      }
+
+  pub all_listed : AreAllOf (plan_facts q) v (still_listed l)
+  all_listed = record {
+    each = λ c m. each c (mem_map_from arranged c l.coming.coming m);
+    with_one = with_one;
+  }

@@ -1,0 +1,8 @@
+use Rattle.std.proofs.Common.{◌≡◌, ℕ, Some, length, slice_get}
+use Rattle.hv_order.specs.inside.Chosen.{IsChosenBy}
+use Rattle.hv_order.specs.declared.certify.Chosen.{Chosen}
+use Rattle.hv_order.proofs.chosen.choose.Given as goal
+
+abbrev pub invariant-loop-node : goal.invariant-loop-node
+invariant-loop-node l =
+    (length l.chosen.items ≡ l.node) × ((v : ℕ) (c : Chosen) → slice_get l.chosen.items v ≡ Some c → IsChosenBy l.rows l.stands v c)

@@ -1,0 +1,26 @@
+use Rattle.std.proofs.Common.{sym, subst, Ok, Err, IfOk}
+use Rattle.std.specs.Prelude.{Result}
+use Rattle.hv_world.specs.Worlds.{World}
+use Rattle.hv_plan.specs.BuiltTrees.{tree_view}
+use Rattle.hv_order.specs.Settings.{Setting, setting}
+use Rattle.hv_order.specs.inside.Listers.{ListsAll, still_listed}
+use Rattle.hv_order.specs.inside.Nodes.{AreAllOf}
+use Rattle.hv_order.specs.inside.PlanFacts.{plan_facts}
+use Rattle.hv_order.specs.declared.lister.Lister.{Lister}
+use Rattle.hv_order.specs.declared.memory.Memory.{Memory}
+use Rattle.hv_order.proofs.ListedAll.{all_listed}
+use Rattle.hv_order.proofs.plan_nodes.PlanNodesNodes.candidates.Goals as goal
+
+if_listed : (r : Result Lister Memory) (P Q : Lister → Type 0) → ((l : Lister) → P l → Q l) → IfOk r P → IfOk r Q
+if_listed (Ok l) P Q each h = each l h
+if_listed (Err e) P Q each h = tt
+
+pub returns : goal.returns
+returns c =
+    let q : Setting = setting (tree_view c.self.inside.tree.now) c.self.inside.trace.now c.self.inside.is_with in
+    let known = c.self.invariant in
+    let all : (w : World) → Type 0 = λ w. IfOk c.candidates_of.result (ListsAll w q.tree c.args.node) in
+    let here = subst all (sym known.world_is) c.candidates_of.ensures in
+    let P : Setting → Type 0 = λ q. IfOk c.candidates_of.result (λ l. AreAllOf (plan_facts q) c.args.node (still_listed l)) in
+    subst P c.self.view_is
+    (if_listed c.candidates_of.result (ListsAll q.plan.world q.tree c.args.node) (λ l. AreAllOf (plan_facts q) c.args.node (still_listed l)) (λ l lists. all_listed q known.is_setting c.args.node l lists) here)

@@ -1,0 +1,47 @@
+//! The first node without a candidate.
+
+ghost use Rattle.std.specs.Prelude.{◌↔◌, ◌<◌, length, IfOk, IsTrue};
+ghost use Rattle.hv_plan.specs.BuiltTrees.{tree_view};
+ghost use Rattle.hv_plan.specs.PlanTrees.{IsTreeIn};
+ghost use Rattle.hv_order.specs.inside.Writings.{HasOne, TellsFirst};
+
+use crate::lines::{line_of, number_at};
+use hv_match::{Candidates, Matcher};
+use hv_plan::Tree;
+use hv_text::Memory;
+use std::alloc::Global;
+
+/// Whether a node has a candidate.
+pub fn has_candidate(
+    alloc: Global,
+    matcher: &Matcher<'_, '_>,
+    tree: &Tree<'_, '_>,
+    node: u32,
+) -> Result<bool, Memory>
+    requires tree { IsTreeIn matcher.now (tree_view tree.now) }
+    requires node { node < length (tree_view tree.now).nodes }
+    ensures { IfOk result (λ b. IsTrue b ↔ HasOne matcher.now (tree_view tree.now) node) }
+{
+    let mut candidates = Candidates::new(alloc, matcher, tree, node)?;
+    let is_some = candidates.has_next()?;
+    Ok(is_some)
+}
+
+/// The number of the line of the first node without a candidate, in the order of nodes. Each node
+/// is asked once.
+pub fn first_without(
+    alloc: Global,
+    matcher: &Matcher<'_, '_>,
+    tree: &Tree<'_, '_>,
+) -> Result<Option<u32>, Memory>
+    requires { IsTreeIn matcher.now (tree_view tree.now) }
+    ensures { IfOk result (TellsFirst matcher.now (tree_view tree.now)) }
+{
+    for place in 0..tree.node_count() as usize {
+        let node = number_at(tree, place);
+        if !has_candidate(alloc, matcher, tree, node)? {
+            return Ok(Some(line_of(tree, node)));
+        }
+    }
+    Ok(None)
+}

@@ -1,0 +1,169 @@
+//! The nodes of a plan's tree, with their candidates.
+ghost use Rattle.std.specs.Prelude.{◌≡◌, ◌<◌, ◌≤◌, ◌↔◌, ℕ, length, None};
+ghost use Rattle.hv_world.specs.WorldViews.{world_view};
+ghost use Rattle.hv_state.specs.Plans.{plan};
+ghost use Rattle.hv_plan.specs.BuiltTrees.{tree_view};
+ghost use Rattle.hv_plan.specs.PlanTrees.{IsTreeIn, root_number};
+ghost use Rattle.hv_order.specs.Meanings.{Meaning};
+ghost use Rattle.hv_order.specs.Settings.{setting, last, HasNoPrecondition, HasCandidate, IsMeaning, IsSolved};
+ghost use Rattle.hv_order.specs.Tables.{IsLeast};
+ghost use Rattle.hv_order.specs.inside.Nodes.{AreNodes};
+ghost use Rattle.hv_order.specs.inside.PlanFacts.{FitsNode, plan_facts};
+ghost use Rattle.hv_order.specs.inside.PlanNodes.{IsRange};
+
+use crate::lister::{Lister, candidates_of};
+use crate::memory::Memory;
+use crate::node_methods::method_if;
+use crate::nodes::Nodes;
+use crate::trial::{Arranged, Stretch};
+use hv_match::Matcher;
+use hv_plan::Tree;
+use hv_state::{BitState, Trace};
+use hv_world::{Binding, World};
+use std::alloc::Global;
+use std::marker::Model;
+
+/// A plan's tree, with the states that the plan's actions pass. Where `is_with` is false, each method's
+/// precondition is taken as true.
+#[derive(Drop)]
+pub struct PlanNodes<'a, 's, 'm, 'p, 't, 'c, 'd> {
+    world: &'a World<'s>,
+    matcher: &'a Matcher<'m, 's>,
+    tree: &'a Tree<'p, 't>,
+    trace: &'a Trace<'c, 'd, BitState>,
+    is_with: bool,
+}
+
+impl<'a, 's, 'm, 'p, 't, 'c, 'd> Model for PlanNodes<'a, 's, 'm, 'p, 't, 'c, 'd> {
+    ghost use Rattle.std.specs.Coded.{codes};
+    ghost use Rattle.hv_match.specs.inside.Codes.{formula_code};
+    ghost use Rattle.hv_plan.specs.BuiltTrees.{tree_view};
+    ghost use Rattle.hv_order.specs.Settings.{Setting, setting};
+    ghost use Rattle.hv_order.specs.inside.PlanNodes.{ArePlanNodes};
+
+    ghost Value = { Setting };
+
+    ghost coded = { Prim.hlevel (codes, formula_code) };
+
+    ghost view = { λ s. setting (tree_view s.tree.now) s.trace.now s.is_with };
+
+    ghost invariant = { λ s. ArePlanNodes s.world.now s.matcher.now (setting (tree_view s.tree.now) s.trace.now s.is_with) };
+}
+
+// All indices of a range.
+fn whole(from: u32, upto: u32) -> Option<Stretch>
+    ensures { IsRange from upto result }
+{
+    if from <= upto {
+        Some(Stretch {
+            first: from,
+            last: upto,
+        })
+    } else {
+        None
+    }
+}
+
+impl<'a, 's, 'm, 'p, 't, 'c, 'd> PlanNodes<'a, 's, 'm, 'p, 't, 'c, 'd> {
+    /// The nodes of a tree of a world.
+    pub fn new(
+        world: &'a World<'s>,
+        matcher: &'a Matcher<'m, 's>,
+        tree: &'a Tree<'p, 't>,
+        trace: &'a Trace<'c, 'd, BitState>,
+        is_with: bool,
+    ) -> PlanNodes<'a, 's, 'm, 'p, 't, 'c, 'd>
+        requires world { matcher.now ≡ world_view world.now }
+        requires top { HasNoPrecondition (world_view world.now) }
+        requires tree { IsTreeIn (world_view world.now) (tree_view tree.now) }
+        requires trace { trace.now ≡ plan (world_view world.now) (tree_view tree.now).actions }
+        requires small { length (tree_view tree.now).actions < 4294967295 }
+        ensures { result ≡ setting (tree_view tree.now) trace.now is_with }
+    {
+        world.is_sound();
+        PlanNodes {
+            world,
+            matcher,
+            tree,
+            trace,
+            is_with,
+        }
+    }
+
+    /// The world of the plan.
+    pub fn world(&self) -> &'a World<'s>
+        ensures { self.now.plan.world ≡ world_view result.now }
+    {
+        self.world
+    }
+
+    /// The tree of the plan.
+    pub fn tree(&self) -> &'a Tree<'p, 't>
+        ensures { self.now.tree ≡ tree_view result.now }
+    {
+        self.tree
+    }
+
+    /// A law of the value: these are nodes whose finishes can be worked out.
+    pub fn are_nodes(&self)
+        ensures { AreNodes (plan_facts self.now) }
+    {
+        let _is_with = self.is_with;
+    }
+
+    /// A law of the value: the plan is solved exactly where the root's node fits from the initial state
+    /// to the last, and not where that node has no finish.
+    pub fn root_decides(&self)
+        ensures fits { IsSolved self.now
+            ↔ FitsNode self.now (root_number self.now.tree) 0 (last self.now) }
+        ensures unsolved { IsLeast (FitsNode self.now (root_number self.now.tree) 0) (last self.now) None
+            → IsSolved self.now → ⊥ }
+    {
+        let _is_with = self.is_with;
+    }
+
+    /// A law of the value: what a candidate amounts to is something, so a node that has a candidate has
+    /// a meaning, and only such a node.
+    pub fn candidates_have_meanings(&self)
+        ensures { (v : ℕ) → HasCandidate self.now v ↔ ((c : Meaning) × IsMeaning self.now v c) }
+    {
+        let _is_with = self.is_with;
+    }
+}
+
+impl<'a, 's, 'm, 'p, 't, 'c, 'd> Nodes for PlanNodes<'a, 's, 'm, 'p, 't, 'c, 'd> {
+    type Left = Lister<'a>;
+
+    ghost facts = { plan_facts };
+
+    ghost size = { λ q. length q.tree.nodes };
+
+    fn last(&self) -> u32 {
+        self.tree.actions().len() as u32
+    }
+
+    fn candidates(&self, alloc: Global, node: usize) -> Result<Lister<'a>, Memory> {
+        let _count = self.tree.node_count();
+        candidates_of(alloc, self.world, self.matcher, self.tree, node as u32)
+    }
+
+    fn first_true(&self, candidate: &Arranged, from: u32, upto: u32) -> Option<Stretch> {
+        let method = method_if(self.world, self.tree, candidate.node)?;
+        let range = whole(from, upto)?;
+        if !self.is_with {
+            return Some(range);
+        }
+        // What is true behind the last state is what is true there.
+        let end = self.tree.actions().len() as u32;
+        let (first, last) = self.trace.first_true(
+            from.min(end) as usize,
+            upto.min(end) as usize,
+            method.precondition(),
+            &Binding::Given(candidate.objects.as_slice()),
+        )?;
+        Some(Stretch {
+            first: from.max(first as u32),
+            last: from.max(last as u32),
+        })
+    }
+}

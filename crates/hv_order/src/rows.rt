@@ -1,0 +1,188 @@
+//! The rows of a plan: for each node and each start, the least finish, and what they say of the plan.
+
+ghost use Rattle.std.specs.Prelude.{◌≡◌, ◌<◌, ◌≤◌, length, IfOk, IfErr, MatchOption};
+ghost use Rattle.hv_world.specs.WorldViews.{world_view};
+ghost use Rattle.hv_state.specs.Plans.{plan};
+ghost use Rattle.hv_plan.specs.BuiltTrees.{tree_view};
+ghost use Rattle.hv_plan.specs.PlanTrees.{IsTreeIn};
+ghost use Rattle.hv_order.specs.Certified.{Certifies, IsRowFault};
+ghost use Rattle.hv_order.specs.LeastFinishes.{NodeCanBePlaced, IsLeastFinishOf, IsNumberOfAnswers, IsCounted};
+ghost use Rattle.hv_order.specs.Settings.{setting, last, HasNoPrecondition, IsSolved, HaveCandidates};
+ghost use Rattle.hv_order.specs.inside.PlanFacts.{IsSetting, plan_facts};
+ghost use Rattle.hv_order.specs.inside.Runs.{ArePlanRows};
+ghost use Rattle.hv_order.specs.inside.Walks.{AreWalked};
+ghost use Rattle.hv_order.specs.inside.Writings.{IsSettingOver};
+
+use crate::certificate::Certificate;
+use crate::certify::write_certificate;
+use crate::chosen::choose;
+use crate::first::first_without;
+use crate::memory::Memory;
+use crate::plan_nodes::PlanNodes;
+use crate::runs::{Row, build, count_runs, least_finish, least_finish_counted};
+use crate::solution::RowFault;
+use crate::walk::{Stand, walk};
+use hv_match::Matcher;
+use hv_plan::Tree;
+use hv_state::{BitState, Trace};
+use hv_world::World;
+use std::alloc::Global;
+use std::marker::Model;
+
+// The rows of a plan's nodes.
+fn rows_of(
+    alloc: Global,
+    nodes: &PlanNodes<'_, '_, '_, '_, '_, '_, '_>,
+    count: usize,
+) -> Result<Vec<Row>, Memory>
+    requires setting { IsSetting nodes.now }
+    requires candidates { HaveCandidates nodes.now }
+    requires count { count ≡ length nodes.now.tree.nodes }
+    ensures { IfOk result (λ rows. ArePlanRows nodes.now rows.items) }
+{
+    let rows = build(alloc, nodes, count)?;
+    Ok(rows)
+}
+
+// The certificate that a walk of a plan's nodes gives.
+fn by_walk<'s>(
+    alloc: Global,
+    world: &World<'s>,
+    tree: &Tree<'_, '_>,
+    _nodes: &PlanNodes<'_, 's, '_, '_, '_, '_, '_>,
+    rows: &[Row],
+    stands: &[Option<Stand>],
+) -> Result<Certificate<'s>, Memory>
+    requires setting { IsSetting _nodes.now }
+    requires over { IsSettingOver (world_view world.now) (tree_view tree.now) _nodes.now }
+    requires count { length rows.now ≡ length _nodes.now.tree.nodes }
+    requires walked { AreWalked (plan_facts _nodes.now) rows.now stands.now }
+    ensures { IfOk result (Certifies _nodes.now) }
+{
+    let chosen = choose(alloc, rows, stands)?;
+    let certificate = write_certificate(alloc, world, tree, &chosen)?;
+    Ok(certificate)
+}
+
+// A certificate by the rows of a plan's nodes, if the root has a finish from the first state on.
+fn by_rows<'s>(
+    alloc: Global,
+    world: &World<'s>,
+    tree: &Tree<'_, '_>,
+    nodes: &PlanNodes<'_, 's, '_, '_, '_, '_, '_>,
+    rows: &[Row],
+) -> Result<Option<Certificate<'s>>, Memory>
+    requires over { IsSettingOver (world_view world.now) (tree_view tree.now) nodes.now }
+    requires rows { ArePlanRows nodes.now rows.now }
+    ensures { IfOk result (λ o. MatchOption o (IsSolved nodes.now → ⊥) (Certifies nodes.now)) }
+{
+    match walk(alloc, nodes, rows)? {
+        None => Ok(None),
+        Some(stands) => {
+            let certificate = by_walk(alloc, world, tree, nodes, rows, &stands)?;
+            Ok(Some(certificate))
+        }
+    }
+}
+
+/// The rows of a plan's nodes, of which each has a candidate. Its value is the plan: the tree, the
+/// states that its actions pass, and whether the preconditions of methods count.
+#[derive(Drop)]
+pub struct Rows<'a, 's, 'm, 'p, 't, 'c, 'd> {
+    nodes: PlanNodes<'a, 's, 'm, 'p, 't, 'c, 'd>,
+    rows: Vec<Row>,
+}
+
+impl<'a, 's, 'm, 'p, 't, 'c, 'd> Model for Rows<'a, 's, 'm, 'p, 't, 'c, 'd> {
+    ghost use Rattle.std.specs.Coded.{codes};
+    ghost use Rattle.hv_match.specs.inside.Codes.{formula_code};
+    ghost use Rattle.hv_order.specs.Settings.{Setting};
+    ghost use Rattle.hv_order.specs.inside.Runs.{ArePlanRows};
+
+    ghost Value = { Setting };
+
+    ghost coded = { Prim.hlevel (codes, formula_code) };
+
+    ghost view = { λ s. s.nodes };
+
+    ghost invariant = { λ s. ArePlanRows s.nodes s.rows.items };
+}
+
+impl<'a, 's, 'm, 'p, 't, 'c, 'd> Rows<'a, 's, 'm, 'p, 't, 'c, 'd> {
+    /// The rows of the nodes of a plan's tree. Where `is_with` is false, each method's precondition is
+    /// taken as true.
+    ///
+    /// # Errors
+    ///
+    /// `NoBinding` exactly where a node has no candidate, and `Memory` where a growth was refused.
+    #[tactic(auto, using(crate::proofs::RowFaults::memory_is))]
+    pub fn build(
+        alloc: Global,
+        world: &'a World<'s>,
+        matcher: &'a Matcher<'m, 's>,
+        tree: &'a Tree<'p, 't>,
+        trace: &'a Trace<'c, 'd, BitState>,
+        is_with: bool,
+    ) -> Result<Rows<'a, 's, 'm, 'p, 't, 'c, 'd>, RowFault>
+        requires world { matcher.now ≡ world_view world.now }
+        requires top { HasNoPrecondition (world_view world.now) }
+        requires tree { IsTreeIn (world_view world.now) (tree_view tree.now) }
+        requires trace { trace.now ≡ plan (world_view world.now) (tree_view tree.now).actions }
+        requires small { length (tree_view tree.now).actions < 4294967295 }
+        ensures value { IfOk result (λ rows. rows ≡ setting (tree_view tree.now) trace.now is_with) }
+        ensures candidates { IfOk result
+            (λ _. HaveCandidates (setting (tree_view tree.now) trace.now is_with)) }
+        ensures fault { IfErr result (IsRowFault (setting (tree_view tree.now) trace.now is_with)) }
+    {
+        match first_without(alloc, matcher, tree)? {
+            Some(line) => Err(RowFault::NoBinding(line)),
+            None => {
+                world.is_sound();
+                let nodes = PlanNodes::new(world, matcher, tree, trace, is_with);
+                let rows = rows_of(alloc, &nodes, tree.node_count() as usize)?;
+                Ok(Rows { nodes, rows })
+            }
+        }
+    }
+
+    /// The least finish of a node for a start, if it has one.
+    pub fn least_finish(&self, node: u32, start: u32) -> Option<u32>
+        requires node { node < length self.now.tree.nodes }
+        requires start { start ≤ last self.now }
+        ensures { IsLeastFinishOf self.now node start result }
+    {
+        least_finish(&self.nodes, &self.rows, node as usize, start)
+    }
+
+    /// How many different answers `least_finish` gives for the starts of a node, none counted as one.
+    pub fn runs(&self, node: u32) -> u64
+        requires node { node < length self.now.tree.nodes }
+        ensures { IsNumberOfAnswers (NodeCanBePlaced self.now node) (last self.now) result }
+    {
+        count_runs(&self.nodes, &self.rows, node as usize)
+    }
+
+    /// The answer of `least_finish`, and how many runs were looked at for it: one or more, and at most
+    /// as many as `runs` has binary digits.
+    pub fn least_finish_counted(&self, node: u32, start: u32) -> (Option<u32>, u32)
+        requires node { node < length self.now.tree.nodes }
+        requires start { start ≤ last self.now }
+        ensures finish { IsLeastFinishOf self.now node start result.0 }
+        ensures looked { IsCounted (NodeCanBePlaced self.now node) (last self.now) result.1 }
+    {
+        least_finish_counted(&self.nodes, &self.rows, node as usize, start)
+    }
+
+    /// A certificate of the plan, exactly where it has a solution, the goal aside.
+    ///
+    /// # Errors
+    ///
+    /// `Memory` where a growth was refused.
+    pub fn certificate(&self, alloc: Global) -> Result<Option<Certificate<'s>>, Memory>
+        ensures { IfOk result (λ o. MatchOption o (IsSolved self.now → ⊥) (Certifies self.now)) }
+    {
+        let world = self.nodes.world();
+        let tree = self.nodes.tree();
+        by_rows(alloc, world, tree, &self.nodes, &self.rows)
+    }
+}

@@ -1,0 +1,80 @@
+//! Whether a plan has a solution.
+
+ghost use Rattle.std.specs.Prelude.{◌≡◌, ◌<◌, ℕ, length, IfOk, IfErr, MatchOption};
+ghost use Rattle.hv_world.specs.WorldViews.{world_view};
+ghost use Rattle.hv_state.specs.Plans.{plan};
+ghost use Rattle.hv_plan.specs.BuiltTrees.{tree_view};
+ghost use Rattle.hv_plan.specs.PlanTrees.{IsTreeIn};
+ghost use Rattle.hv_order.specs.Settings.{setting, HasNoPrecondition, IsSolved, HaveCandidates};
+ghost use Rattle.hv_order.specs.Certified.{Certifies, IsRowFault};
+
+use crate::certificate::Certificate;
+use crate::memory::Memory;
+use crate::rows::Rows;
+use hv_match::Matcher;
+use hv_plan::Tree;
+use hv_state::{BitState, Trace};
+use hv_text::Memory as NoMemory;
+use hv_world::World;
+use std::alloc::Global;
+
+/// Why it is not said whether a plan has a solution.
+#[derive(Clone, Copy, Debug, PartialEq, Eq)]
+pub enum RowFault {
+    /// The node of this line of the text has no candidate; it is the first in the order of nodes.
+    NoBinding(u32),
+    /// A growth was refused.
+    Memory,
+}
+
+impl From<Memory> for RowFault {
+    ghost use Rattle.hv_order.specs.declared.solution.RowFault.TheVariants as faults;
+
+    ghost from_gives = { λ _ e. e ≡ faults.Memory };
+
+    fn from(_error: Memory) -> RowFault {
+        RowFault::Memory
+    }
+}
+
+impl From<NoMemory> for RowFault {
+    ghost use Rattle.hv_order.specs.declared.solution.RowFault.TheVariants as faults;
+
+    ghost from_gives = { λ _ e. e ≡ faults.Memory };
+
+    fn from(_error: NoMemory) -> RowFault {
+        RowFault::Memory
+    }
+}
+
+/// A certificate of a plan, exactly where it has a solution, the goal aside. Where `is_with` is
+/// false, each method's precondition is taken as true.
+///
+/// # Errors
+///
+/// `NoBinding` exactly where a node has no candidate, and `Memory` where a growth was refused.
+#[tactic(auto, using(crate::proofs::RowFaults::memory_is))]
+pub fn solution<'s>(
+    alloc: Global,
+    world: &World<'s>,
+    matcher: &Matcher<'_, 's>,
+    tree: &Tree<'_, '_>,
+    trace: &Trace<'_, '_, BitState>,
+    is_with: bool,
+) -> Result<Option<Certificate<'s>>, RowFault>
+    requires world { matcher.now ≡ world_view world.now }
+    requires top { HasNoPrecondition (world_view world.now) }
+    requires tree { IsTreeIn (world_view world.now) (tree_view tree.now) }
+    requires trace { trace.now ≡ plan (world_view world.now) (tree_view tree.now).actions }
+    requires small { length (tree_view tree.now).actions < 4294967295 }
+    ensures candidates { IfOk result
+        (λ _. HaveCandidates (setting (tree_view tree.now) trace.now is_with)) }
+    ensures certificate { IfOk result (λ o. MatchOption o
+        (IsSolved (setting (tree_view tree.now) trace.now is_with) → ⊥)
+        (Certifies (setting (tree_view tree.now) trace.now is_with))) }
+    ensures fault { IfErr result (IsRowFault (setting (tree_view tree.now) trace.now is_with)) }
+{
+    let rows = Rows::build(alloc, world, matcher, tree, trace, is_with)?;
+    let certificate = rows.certificate(alloc)?;
+    Ok(certificate)
+}
