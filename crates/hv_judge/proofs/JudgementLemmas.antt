@@ -1,73 +1,128 @@
--- From what was read to the answer of the judge.
-use Rattle.std.proofs.Common.{◌≡◌, ℕ, List, Option, Some, None, Result, Ok, Err, sym, subst, IfOk, inl, inr}
+-- What the judge answers to three texts, from what it finds of each.
+use Rattle.std.proofs.Common.{◌≡◌, ◌⊎◌, inl, inr, ℕ, List, Option, None, Some, Result, Ok, Err, IfOk, IfErr, refl, sym, subst}
 use Rattle.hv_text.specs.declared.span.Span.{Span}
-use Rattle.hv_text.specs.declared.refusal.Memory.{Memory}
+use Rattle.hv_syntax.specs.Values.{Domain, Problem}
+use Rattle.hv_syntax.specs.Texts.{IsDomainText, IsDomainFault, IsProblemText, IsProblemFault}
+use Rattle.hv_syntax.specs.declared.fault.SyntaxKind.{SyntaxKind}
+use Rattle.hv_world.specs.Faults.{memory_fault}
+use Rattle.hv_world.specs.StaticRules.{first_fault}
+use Rattle.hv_world.specs.Worlds.{World, world_of}
+use Rattle.hv_world.specs.declared.fault.StaticFault.{StaticFault}
 use Rattle.hv_plan.specs.Values.{Plan}
-use Rattle.hv_judge.specs.declared.answer.Answer.{Answer}
-use Rattle.hv_judge.specs.declared.answer.Answer.TheVariants.{Solves, Fails, Undecided, Rejected}
+use Rattle.hv_plan.specs.Spellings.{IsPlan, IsPlanFault}
+use Rattle.hv_plan.specs.declared.fault.PlanFault.{PlanFault}
+use Rattle.hv_order.specs.declared.certificate.Certificate.{Certificate}
+use Rattle.hv_judge.specs.declared.answer.Answer.TheVariants as answers
+use Rattle.hv_judge.specs.declared.answer.Fault.{Fault}
 use Rattle.hv_judge.specs.declared.answer.FaultKind.{FaultKind}
 use Rattle.hv_judge.specs.declared.answer.Which.TheVariants as which
-use Rattle.hv_judge.specs.declared.judgement.Unread.{Unread}
-use Rattle.hv_judge.specs.declared.judgement.Unread.TheVariants as unread
-use Rattle.hv_syntax.specs.declared.fault.SyntaxKind.{SyntaxKind}
-use Rattle.hv_judge.specs.declared.world.fault.StaticKind.{StaticKind}
-use Rattle.hv_judge.specs.declared.world.fault.StaticKind.TheVariants as statics
-use Rattle.hv_judge.specs.declared.world.fault.StaticFault.{StaticFault}
-use Rattle.hv_judge.specs.Values.{Domain, Problem}
-use Rattle.hv_judge.specs.Statics.{UnlessMemory, IsFirstFault, IsStaticFault}
-use Rattle.hv_judge.specs.Texts.{IsDomainText, IsDomainFault, IsProblemText, IsProblemFault}
-use Rattle.hv_judge.specs.Rejections.{reported, reported_static, which_of, text_of_side, unread_by, first_too_long, AreRead, by_domain, by_problem, by_statics, IsUnread, unplanned, unjudged, by_pair, by_plan}
-use Rattle.hv_judge.specs.Verdicts.{IsVerdict, AreSpelled, Judged, IsUnreadAnswer, IsPlanAnswer}
+use Rattle.hv_judge.specs.declared.not_solved.NotSolved.{NotSolved}
+use Rattle.hv_judge.specs.declared.not_solved.NotSolved.TheVariants.{Rejected, Fails, Undecided, Memory}
+use Rattle.hv_judge.specs.Rejections.{reported, reported_static, reported_plan, first_too_long, which_of, text_of_side, by_domain, by_problem, by_statics, by_pair, by_plan}
+use Rattle.hv_judge.specs.Verdicts.{AreSpelled, IsVerdict, Judged}
+use Rattle.hv_judge.specs.inside.Ends.{Ends, IsPairEnd, IsWorldOf, rejected_at, rejected_for, plan_end}
 
--- a faulty text
+-- the domain's text, the problem's text, or a static rule
 
-pub domain_unread : (domain problem : List ℕ) (kind : SyntaxKind) (s : Span) (o : Option FaultKind) → reported kind ≡ o → IsDomainFault domain kind s
-    → IsUnread domain problem (unread_by o which.Domain domain s)
-domain_unread domain problem kind s None e f = tt
-domain_unread domain problem kind s (Some k) e f = by_domain kind s k f e
+pub no_domain : (domain problem : List ℕ) (kind : SyntaxKind) (s : Span) (k : Option FaultKind)
+    → reported kind ≡ k → IsDomainFault domain kind s
+    → IsPairEnd domain problem (rejected_at which.Domain domain s k)
+no_domain domain problem kind s None e h = tt
+no_domain domain problem kind s (Some k) e h = by_domain kind s k h e
 
-pub problem_unread : (domain problem : List ℕ) (d : Domain) (kind : SyntaxKind) (s : Span) (o : Option FaultKind) → reported kind ≡ o → IsDomainText domain d
-    → IsProblemFault problem kind s → IsUnread domain problem (unread_by o which.Problem problem s)
-problem_unread domain problem d kind s None e t f = tt
-problem_unread domain problem d kind s (Some k) e t f = by_problem d kind s k t f e
+pub no_problem : (domain problem : List ℕ) (d : Domain) (kind : SyntaxKind) (s : Span)
+    (k : Option FaultKind) → reported kind ≡ k → IsDomainText domain d
+    → IsProblemFault problem kind s
+    → IsPairEnd domain problem (rejected_at which.Problem problem s k)
+no_problem domain problem d kind s None e says h = tt
+no_problem domain problem d kind s (Some k) e says h = by_problem d kind s k says h e
 
-first_of : (d : Domain) (p : Problem) (f : StaticFault) (kind : StaticKind) (k : FaultKind) → reported_static kind ≡ Some k → UnlessMemory kind (IsFirstFault d p f) → IsFirstFault d p f
-first_of d p f statics.UnknownPredicate k e h = h
-first_of d p f statics.UnknownTask k e h = h
-first_of d p f statics.DuplicateName k e h = h
-first_of d p f statics.Memory k e h = cc
+no_world_for : (domain problem : List ℕ) (d : Domain) (p : Problem) (f : StaticFault)
+    (k : Option FaultKind) → reported_static f.kind ≡ k → IsDomainText domain d
+    → IsProblemText problem p → first_fault d p ≡ Some f
+    → IsPairEnd domain problem
+    (rejected_at (which_of f.side) (text_of_side domain problem f.side) f.span k)
+no_world_for domain problem d p f None e says tells h = tt
+no_world_for domain problem d p f (Some k) e says tells h = by_statics d p f k says tells h e
 
-pub world_unread : (domain problem : List ℕ) (d : Domain) (p : Problem) (f : StaticFault) (o : Option FaultKind) → reported_static f.kind ≡ o → IsDomainText domain d
-    → IsProblemText problem p → IsStaticFault d p f → IsUnread domain problem (unread_by o (which_of f.side) (text_of_side domain problem f.side) f.span)
-world_unread domain problem d p f None e t u h = tt
-world_unread domain problem d p f (Some k) e t u h = by_statics d p f k t u (first_of d p f f.kind k e h) e
+pub no_world : (domain problem : List ℕ) (d : Domain) (p : Problem) (f : StaticFault)
+    → IsDomainText domain d → IsProblemText problem p
+    → (f ≡ memory_fault) ⊎ (first_fault d p ≡ Some f)
+    → IsPairEnd domain problem
+    (rejected_at (which_of f.side) (text_of_side domain problem f.side) f.span
+    (reported_static f.kind))
+no_world domain problem d p f says tells (inl e) =
+    subst (λ g. IsPairEnd domain problem
+    (rejected_at (which_of g.side) (text_of_side domain problem g.side) g.span
+    (reported_static g.kind)))
+    (sym e) tt
+no_world domain problem d p f says tells (inr h) =
+    no_world_for domain problem d p f (reported_static f.kind) refl says tells h
 
--- the answers
+-- the three texts
 
-pub unread_judged : (domain problem plan : List ℕ) (limit : ℕ) (r : Result Answer Memory) (u : Unread) → first_too_long domain problem plan ≡ None
-    → IsUnread domain problem u → IfOk r (IsUnreadAnswer u) → IfOk r (Judged domain problem plan limit)
-unread_judged domain problem plan limit (Err e) u short h a = tt
-unread_judged domain problem plan limit (Ok x) (unread.Rejected w f) short h a =
-    subst (Judged domain problem plan limit) (sym a) (by_pair w f short h)
-unread_judged domain problem plan limit (Ok x) unread.Memory short h a = absurd a
+pub pair_rejected : (domain problem plan : List ℕ) (limit : ℕ) (e : NotSolved)
+    → first_too_long domain problem plan ≡ None → IsPairEnd domain problem e
+    → Ends (Judged domain problem plan limit) e
+pair_rejected domain problem plan limit (Rejected w f) short h = by_pair w f short h
+pair_rejected domain problem plan limit (Fails c) short h = absurd h
+pair_rejected domain problem plan limit (Undecided line) short h = absurd h
+pair_rejected domain problem plan limit Memory short h = tt
 
-verdict_judged : (domain problem plan : List ℕ) (limit : ℕ) (d : Domain) (p : Problem) (q : Plan) (a : Answer) → AreSpelled domain problem plan d p q
-    → IsVerdict d p q limit a → Judged domain problem plan limit a
-verdict_judged domain problem plan limit d p q (Solves c) s v = (d, p, q, s, v)
-verdict_judged domain problem plan limit d p q (Fails c) s v = (d, p, q, s, v)
-verdict_judged domain problem plan limit d p q (Undecided line) s v = (d, p, q, s, v)
-verdict_judged domain problem plan limit d p q (Rejected w f) s v = absurd v
+plan_rejected_for : (domain problem plan : List ℕ) (limit : ℕ) (w : World) (f : PlanFault)
+    (r : Option Fault) → reported_plan f ≡ r → first_too_long domain problem plan ≡ None
+    → IsWorldOf domain problem w → IsPlanFault plan f
+    → Ends (Judged domain problem plan limit) (rejected_for which.Plan r)
+plan_rejected_for domain problem plan limit w f None e short read h = tt
+plan_rejected_for domain problem plan limit w f (Some r) e short read h =
+    by_plan read.d read.p f r short read.are_read h e
 
-planned_judged : (domain problem plan : List ℕ) (limit : ℕ) (d : Domain) (p : Problem) (a : Answer) → first_too_long domain problem plan ≡ None
-    → AreRead domain problem d p → IsPlanAnswer d p plan limit a → Judged domain problem plan limit a
-planned_judged domain problem plan limit d p a short read (inl (q, planned, inl (flat, v))) =
-    verdict_judged domain problem plan limit d p q a (record { short = short; read = read; planned = planned; judged = flat }) v
-planned_judged domain problem plan limit d p a short read (inl (q, planned, inr (r, deep, is))) =
-    subst (Judged domain problem plan limit) (sym is) (by_plan d p r short read (unjudged q r planned deep))
-planned_judged domain problem plan limit d p a short read (inr (f, faulty, (r, e, is))) =
-    subst (Judged domain problem plan limit) (sym is) (by_plan d p r short read (unplanned f r faulty e))
+pub plan_rejected : (domain problem plan : List ℕ) (limit : ℕ) (w : World) (f : PlanFault)
+    → first_too_long domain problem plan ≡ None → IsWorldOf domain problem w
+    → IsPlanFault plan f → Ends (Judged domain problem plan limit) (plan_end f)
+plan_rejected domain problem plan limit w f short read h =
+    plan_rejected_for domain problem plan limit w f (reported_plan f) refl short read h
 
-pub plan_judged : (domain problem plan : List ℕ) (limit : ℕ) (d : Domain) (p : Problem) (r : Result Answer Memory) → first_too_long domain problem plan ≡ None
-    → AreRead domain problem d p → IfOk r (IsPlanAnswer d p plan limit) → IfOk r (Judged domain problem plan limit)
-plan_judged domain problem plan limit d p (Err e) short read h = tt
-plan_judged domain problem plan limit d p (Ok a) short read h = planned_judged domain problem plan limit d p a short read h
+-- what is said of the plan in the world of the domain and the problem is said of the three texts
+module _ (domain problem plan : List ℕ) (limit : ℕ) (w : World) (q : Plan)
+    (short : first_too_long domain problem plan ≡ None) (read : IsWorldOf domain problem w)
+    (says : IsPlan plan q) where
+  spelled : (P : World → Plan → Type 0) → P w q
+      → (d : Domain) × (p : Problem) × (r : Plan) × AreSpelled domain problem plan d p r × P (world_of d p) r
+  spelled P h = (
+    read.d,
+    read.p,
+    q,
+    record {
+      short = short;
+      says_domain = read.are_read.says_domain;
+      says_problem = read.are_read.says_problem;
+      sound = read.are_read.sound;
+      says_plan = says;
+    },
+    subst (λ v. P v q) read.is h,
+  )
+
+  pub plan_solves : (c : Certificate) → IsVerdict limit (answers.Solves c) w q
+      → Judged domain problem plan limit (answers.Solves c)
+  plan_solves c h = spelled (IsVerdict limit (answers.Solves c)) h
+
+  pub plan_ends : (e : NotSolved) → Ends (λ a. IsVerdict limit a w q) e
+      → Ends (Judged domain problem plan limit) e
+  plan_ends (Rejected which fault) h = absurd h
+  plan_ends (Fails c) h = spelled (IsVerdict limit (answers.Fails c)) h
+  plan_ends (Undecided line) h = spelled (IsVerdict limit (answers.Undecided line)) h
+  plan_ends Memory h = tt
+
+  -- so it is with what the judge of a plan answers
+  pub texts_solve : (r : Result Certificate NotSolved)
+      → IfOk r (λ c. IsVerdict limit (answers.Solves c) w q)
+      → IfOk r (λ c. Judged domain problem plan limit (answers.Solves c))
+  texts_solve (Ok c) h = plan_solves c h
+  texts_solve (Err e) h = tt
+
+  pub texts_end : (r : Result Certificate NotSolved)
+      → IfErr r (Ends (λ a. IsVerdict limit a w q))
+      → IfErr r (Ends (Judged domain problem plan limit))
+  texts_end (Ok c) h = tt
+  texts_end (Err e) h = plan_ends e h

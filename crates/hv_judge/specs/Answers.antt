@@ -1,12 +1,17 @@
--- When two answers say the same.
-use Rattle.std.specs.Prelude.{◌≡◌, ℕ, List}
+-- The laws of answers: three texts and a limit have one, it says whether there is a solution, and a
+-- text is rejected exactly where the three do not spell what is judged.
+use Rattle.std.specs.Prelude.{◌≡◌, ◌⊎◌, ℕ, List}
+use Rattle.hv_syntax.specs.Values.{Domain, Problem}
 use Rattle.hv_plan.specs.Values.{Plan}
+use Rattle.hv_order.specs.declared.certificate.Certificate.{Certificate}
 use Rattle.hv_judge.specs.declared.answer.Answer.{Answer}
 use Rattle.hv_judge.specs.declared.answer.Answer.TheVariants.{Solves, Fails, Undecided, Rejected}
 use Rattle.hv_judge.specs.declared.answer.Cause.{Cause}
-use Rattle.hv_judge.specs.declared.answer.Certificate.{Certificate}
-use Rattle.hv_judge.specs.Values.{Domain, Problem}
-use Rattle.hv_judge.specs.Verdicts.{AreSpelled, IsSolution, Judged}
+use Rattle.hv_judge.specs.declared.answer.Fault.{Fault}
+use Rattle.hv_judge.specs.declared.answer.Which.{Which}
+use Rattle.hv_judge.specs.Rejections.{IsRejected}
+use Rattle.hv_judge.specs.Solutions.{IsSolution}
+use Rattle.hv_judge.specs.Verdicts.{AreSpelled, IsSpelledAs, Judged}
 
 -- two answers are one, their certificates aside
 abbrev pub SameAnswer : Answer → Answer → Type 0
@@ -16,15 +21,12 @@ SameAnswer (Undecided l) (Undecided m) = l ≡ m
 SameAnswer (Rejected w f) (Rejected v g) = (w ≡ v) × (f ≡ g)
 SameAnswer _ _ = ⊥
 
--- three texts and a limit have one answer: the bytes decide which text is rejected and where, the verdict, the cause and its line
+-- three texts and a limit have one answer: the bytes decide which text is rejected and where, the
+-- verdict, the cause and its line
 abbrev pub OneAnswerLaw : Type 0
 OneAnswerLaw =
     (domain problem plan : List ℕ) (limit : ℕ) (a b : Answer)
     → Judged domain problem plan limit a → Judged domain problem plan limit b → SameAnswer a b
-
--- the texts spell a domain, a problem and a plan of which this holds
-abbrev pub IsSpelledAs : List ℕ → List ℕ → List ℕ → (Domain → Problem → Plan → Type 0) → Type 0
-IsSpelledAs domain problem plan P = (d : Domain) × (p : Problem) × (q : Plan) × AreSpelled domain problem plan d p q × P d p q
 
 -- where a plan is said to solve its problem, it is a solution
 abbrev pub SolvesLaw : Type 0
@@ -36,4 +38,39 @@ SolvesLaw =
 abbrev pub FailsLaw : Type 0
 FailsLaw =
     (domain problem plan : List ℕ) (limit : ℕ) (c : Cause)
-    → Judged domain problem plan limit (Fails c) → IsSpelledAs domain problem plan (λ d p q. IsSolution d p q → ⊥)
+    → Judged domain problem plan limit (Fails c)
+    → IsSpelledAs domain problem plan (λ w q. IsSolution w q → ⊥)
+
+-- three texts spell a domain, a problem and a plan, and no static rule is broken
+abbrev pub HaveValues : List ℕ → List ℕ → List ℕ → Type 0
+HaveValues domain problem plan =
+    (d : Domain) × (p : Problem) × (q : Plan) × AreSpelled domain problem plan d p q
+
+-- one of three texts is rejected, for a fault
+abbrev pub HaveRejection : List ℕ → List ℕ → List ℕ → Type 0
+HaveRejection domain problem plan = (w : Which) × (f : Fault) × IsRejected domain problem plan w f
+
+-- any three texts spell values, or one of them is rejected
+abbrev pub ValuesOrRejectionLaw : Type 0
+ValuesOrRejectionLaw =
+    (domain problem plan : List ℕ)
+    → HaveValues domain problem plan ⊎ HaveRejection domain problem plan
+
+-- no three texts do both
+abbrev pub NeverBothLaw : Type 0
+NeverBothLaw =
+    (domain problem plan : List ℕ)
+    → HaveValues domain problem plan → HaveRejection domain problem plan → ⊥
+
+-- three texts spell at most one domain, one problem and one plan
+abbrev pub OneSpellingLaw : Type 0
+OneSpellingLaw =
+    (domain problem plan : List ℕ) (d e : Domain) (p r : Problem) (q s : Plan)
+    → AreSpelled domain problem plan d p q → AreSpelled domain problem plan e r s
+    → (d ≡ e) × (p ≡ r) × (q ≡ s)
+
+-- of three texts at most one is rejected, for one fault at one place
+abbrev pub OneRejectionLaw : Type 0
+OneRejectionLaw =
+    (domain problem plan : List ℕ) (w v : Which) (f g : Fault)
+    → IsRejected domain problem plan w f → IsRejected domain problem plan v g → (w ≡ v) × (f ≡ g)

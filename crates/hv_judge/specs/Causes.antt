@@ -1,97 +1,71 @@
--- When the lines of a plan form a tree that fits a problem, and for which cause they do not. There are no decomposition
--- lines, so that each action line is to be a child of `root`.
-use Rattle.std.specs.Prelude.{◌≡◌, ℕ, List, [], ◌∷◌, ◌++◌, length, Contains}
-use Rattle.hv_text.specs.Lists.{Once}
+-- Why a plan fails: each cause is read where none before it applies.
+use Rattle.std.specs.Prelude.{◌≡◌, ◌<◌, ◌≤◌, ℕ, None, Some, length, slice_get}
+use Rattle.hv_world.specs.Worlds.{World}
+use Rattle.hv_state.specs.Plans.{GoalHolds, StopsAt}
 use Rattle.hv_plan.specs.Values.{Action, Plan}
-use Rattle.hv_judge.specs.Counting.{multiplicity}
-use Rattle.hv_judge.specs.Trees.{at_line, ids_of, child_names}
+use Rattle.hv_plan.specs.Causes.{IsCause}
+use Rattle.hv_plan.specs.PlanTrees.{Node, PlanTree}
+use Rattle.hv_plan.specs.declared.cause.Cause as trees
+use Rattle.hv_match.specs.Counts.{CountIsAt}
+use Rattle.hv_order.specs.Settings.{HaveCandidates, IsFirstWithout, IsSolved}
 use Rattle.hv_judge.specs.declared.answer.Cause.{Cause}
-use Rattle.hv_judge.specs.declared.answer.CauseKind.TheVariants as kinds
+use Rattle.hv_judge.specs.declared.answer.CauseKind.{CauseKind}
+use Rattle.hv_judge.specs.declared.answer.CauseKind.TheVariants as causes
+use Rattle.hv_judge.specs.Solutions.{HasTree, run_of, IsRun, ReachesGoal, judged_in, judged_without}
 
--- each id begins one line
-abbrev pub IdsDiffer : Plan → Type 0
-IdsDiffer p = Once (ids_of p.actions)
+-- a cause at a line, and one that has none
+abbrev pub cause_at : CauseKind → ℕ → Cause
+cause_at kind line = record { kind = kind; line = Some line }
 
--- each child is the id of a line
-abbrev pub ChildrenAreLines : Plan → Type 0
-ChildrenAreLines p = (i : ℕ) → Contains p.root.ids i → Contains (ids_of p.actions) i
+abbrev pub cause_nowhere : CauseKind → Cause
+cause_nowhere kind = record { kind = kind; line = None }
 
--- no child has two parents, or one parent twice
-abbrev pub ChildrenDiffer : Plan → Type 0
-ChildrenDiffer p = Once p.root.ids
+-- the cause for which the lines of a plan form no tree that fits the world, as one of the judge's
+abbrev pub tree_cause : trees.Cause → Cause
+tree_cause c = cause_at (causes.Tree c.kind) c.line
 
--- a line is reached from `root`
-abbrev pub IsReached : Plan → Action → Type 0
-IsReached p a = Contains p.root.ids a.id
+-- the count of a node is at most the limit, and is above it
+abbrev pub IsCountWithin : World → PlanTree → ℕ → ℕ → Type 0
+IsCountWithin w t limit v = CountIsAt w t v (λ k. k ≤ limit)
 
--- the lines form a tree below `root`
-pub record FormTree (p : Plan) : Type 0 where
-  pub ids : IdsDiffer p
-  pub lines : ChildrenAreLines p
-  pub children : ChildrenDiffer p
-  pub reached : (a : Action) → Contains p.actions a → IsReached p a
+abbrev pub IsCountAbove : World → PlanTree → ℕ → ℕ → Type 0
+IsCountAbove w t limit v = CountIsAt w t v (λ k. limit < k)
 
--- each line names a declared action
-abbrev pub NameActions : List (List ℕ) → Plan → Type 0
-NameActions declared p = (a : Action) → Contains p.actions a → Contains declared a.name
+-- no node has a count above the limit
+abbrev pub IsWithinLimit : World → PlanTree → ℕ → Type 0
+IsWithinLimit w t limit = (v : ℕ) → v < length t.nodes → IsCountWithin w t limit v
 
--- there are no objects, so no line has an argument
-abbrev pub HaveNoArguments : Plan → Type 0
-HaveNoArguments p = (a : Action) → Contains p.actions a → a.arguments ≡ []
+-- in the order of nodes, which begins with the root line and goes on by the text, the first node
+-- whose count is above the limit is the one of this line
+pub record IsFirstAbove (w : World) (t : PlanTree) (limit line : ℕ) : Type 0 where
+  pub place : ℕ
+  pub number : ℕ
+  pub stands : slice_get t.order place ≡ Some number
+  pub node : Node
+  pub has_node : slice_get t.nodes number ≡ Some node
+  pub above : IsCountAbove w t limit number
+  pub earlier : (i v : ℕ) → i < place → slice_get t.order i ≡ Some v → IsCountWithin w t limit v
+  pub on_line : node.line ≡ line
 
--- the lines fit what the domain declares
-pub record FitActions (declared : List (List ℕ)) (p : Plan) : Type 0 where
-  pub names : NameActions declared p
-  pub arguments : HaveNoArguments p
-
--- `root` has as many children as the initial network has subtasks
-abbrev pub AreAsMany : List (List ℕ) → Plan → Type 0
-AreAsMany subtasks p = length p.root.ids ≡ length subtasks
-
--- a name is as often that of a child as that of a subtask
-abbrev pub IsAsOften : List (List ℕ) → Plan → List ℕ → Type 0
-IsAsOften subtasks p w = multiplicity w (child_names p) ≡ multiplicity w subtasks
-
--- the children of `root` are those that the initial network wants
-pub record FitSubtasks (subtasks : List (List ℕ)) (p : Plan) : Type 0 where
-  pub number : AreAsMany subtasks p
-  pub names : (w : List ℕ) → IsAsOften subtasks p w
-
--- the lines form a tree that fits the declared actions and the subtasks of the initial network
-pub record Fits (declared subtasks : List (List ℕ)) (p : Plan) : Type 0 where
-  pub tree : FormTree p
-  pub actions : FitActions declared p
-  pub children : FitSubtasks subtasks p
-
--- the first of some lines that has a property
-pub record IsFirst (lines : List Action) (Has : Action → Type 0) (a : Action) : Type 0 where
-  pub before : List Action
-  pub after : List Action
-  pub split : lines ≡ before ++ a ∷ after
-  pub none_before : (b : Action) → Contains before b → Has b → ⊥
-  pub has : Has a
-
--- the first of some lines whose id begins a line before it
-pub record IsFirstRepetition (lines : List Action) (a : Action) : Type 0 where
-  pub before : List Action
-  pub after : List Action
-  pub split : lines ≡ before ++ a ∷ after
-  pub none_before : Once (ids_of before)
-  pub repeats : Contains (ids_of before) a.id
-
--- Why the lines form no tree that fits, and the line that is named for it. Each cause is read where none above it applies,
--- and the first line that qualifies is named
-pub data IsTreeCause (declared subtasks : List (List ℕ)) (p : Plan) : Cause → Type 0 where
-  repeated_id : (a : Action) → IsFirstRepetition p.actions a → IsTreeCause declared subtasks p (at_line kinds.RepeatedId a.line)
-  unknown_child : IdsDiffer p → (ChildrenAreLines p → ⊥) → IsTreeCause declared subtasks p (at_line kinds.UnknownChild p.root.line)
-  two_parents : IdsDiffer p → ChildrenAreLines p → (ChildrenDiffer p → ⊥) → IsTreeCause declared subtasks p (at_line kinds.TwoParents p.root.line)
-  unreached : IdsDiffer p → ChildrenAreLines p → ChildrenDiffer p → (a : Action) → IsFirst p.actions (λ b. IsReached p b → ⊥) a
-      → IsTreeCause declared subtasks p (at_line kinds.Unreached a.line)
-  unknown_task : FormTree p → (a : Action) → IsFirst p.actions (λ b. Contains declared b.name → ⊥) a
-      → IsTreeCause declared subtasks p (at_line kinds.UnknownTask a.line)
-  unknown_object : FormTree p → NameActions declared p → (a : Action) → IsFirst p.actions (λ b. b.arguments ≡ [] → ⊥) a
-      → IsTreeCause declared subtasks p (at_line kinds.UnknownObject a.line)
-  other_count : FormTree p → FitActions declared p → (AreAsMany subtasks p → ⊥)
-      → IsTreeCause declared subtasks p (at_line kinds.ChildCount p.root.line)
-  other_names : FormTree p → FitActions declared p → AreAsMany subtasks p → (((w : List ℕ) → IsAsOften subtasks p w) → ⊥)
-      → IsTreeCause declared subtasks p (at_line kinds.ChildNames p.root.line)
+-- Why a plan fails:
+--     by_tree      its lines form no tree that fits the world
+--     by_action      an action is not applicable: the first one, at its line
+--     by_goal      the goal is false behind the last action
+--     by_binding      a node has no candidate: the first one, at its line
+--     by_order      there is no sequence, not even with each method's precondition taken as true
+--     by_precondition      there is one so, but none with the methods' preconditions
+-- The last three are read only where no count is above the limit
+pub data IsCauseOf (w : World) (p : Plan) (limit : ℕ) : Cause → Type 0 where
+  by_tree : (c : trees.Cause) → IsCause w p c → IsCauseOf w p limit (tree_cause c)
+  by_action : (t : PlanTree) (k : ℕ) (a : Action) → HasTree w p t → StopsAt (run_of w t) k
+      → slice_get p.actions k ≡ Some a → IsCauseOf w p limit (cause_at causes.Inapplicable a.line)
+  by_goal : (t : PlanTree) → IsRun w p t → (GoalHolds (run_of w t) → ⊥)
+      → IsCauseOf w p limit (cause_nowhere causes.GoalFalse)
+  by_binding : (t : PlanTree) (line : ℕ) → ReachesGoal w p t → IsWithinLimit w t limit
+      → IsFirstWithout (judged_in w t) line → IsCauseOf w p limit (cause_at causes.NoBinding line)
+  by_order : (t : PlanTree) → ReachesGoal w p t → IsWithinLimit w t limit
+      → HaveCandidates (judged_in w t) → (IsSolved (judged_without w t) → ⊥)
+      → IsCauseOf w p limit (cause_nowhere causes.OrderBroken)
+  by_precondition : (t : PlanTree) → ReachesGoal w p t → IsWithinLimit w t limit
+      → IsSolved (judged_without w t) → (IsSolved (judged_in w t) → ⊥)
+      → IsCauseOf w p limit (cause_nowhere causes.PreconditionUnplaced)

@@ -1,5 +1,6 @@
 -- The numbers and names under which faults and causes are reported.
 use Rattle.std.specs.Prelude.{ℕ, List, codes}
+use Rattle.hv_plan.specs.Causes as trees
 use Rattle.hv_judge.specs.declared.answer.Which.{Which}
 use Rattle.hv_judge.specs.declared.answer.Which.TheVariants as texts
 use Rattle.hv_judge.specs.declared.answer.FaultKind.{FaultKind}
@@ -7,11 +8,13 @@ use Rattle.hv_judge.specs.declared.answer.FaultKind.TheVariants as faults
 use Rattle.hv_judge.specs.declared.answer.CauseKind.{CauseKind}
 use Rattle.hv_judge.specs.declared.answer.CauseKind.TheVariants as causes
 
+-- the name of a text
 abbrev pub which_name : Which → List ℕ
 which_name texts.Domain = codes "domain"
 which_name texts.Problem = codes "problem"
 which_name texts.Plan = codes "plan"
 
+-- the number and the name of a fault of a text
 abbrev pub fault_number : FaultKind → ℕ
 fault_number faults.BadByte = 1
 fault_number faults.Unclosed = 2
@@ -72,21 +75,9 @@ fault_name faults.IdTooLarge = codes "IdTooLarge"
 fault_name faults.NoRoot = codes "NoRoot"
 fault_name faults.RepeatedRoot = codes "RepeatedRoot"
 
+-- the number and the name of a cause; those of the causes from 50 to 63 are said where the tree is
 abbrev pub cause_number : CauseKind → ℕ
-cause_number causes.RepeatedId = 50
-cause_number causes.UnknownChild = 51
-cause_number causes.TwoParents = 52
-cause_number causes.Unreached = 53
-cause_number causes.UnknownTask = 54
-cause_number causes.UnknownMethod = 55
-cause_number causes.UnknownObject = 56
-cause_number causes.ArgumentCount = 57
-cause_number causes.ArgumentType = 58
-cause_number causes.NotPrimitive = 59
-cause_number causes.NotAbstract = 60
-cause_number causes.OtherTask = 61
-cause_number causes.ChildCount = 62
-cause_number causes.ChildNames = 63
+cause_number (causes.Tree kind) = trees.number kind
 cause_number causes.Inapplicable = 64
 cause_number causes.GoalFalse = 65
 cause_number causes.NoBinding = 66
@@ -94,20 +85,7 @@ cause_number causes.OrderBroken = 67
 cause_number causes.PreconditionUnplaced = 68
 
 abbrev pub cause_name : CauseKind → List ℕ
-cause_name causes.RepeatedId = codes "RepeatedId"
-cause_name causes.UnknownChild = codes "UnknownChild"
-cause_name causes.TwoParents = codes "TwoParents"
-cause_name causes.Unreached = codes "Unreached"
-cause_name causes.UnknownTask = codes "UnknownTask"
-cause_name causes.UnknownMethod = codes "UnknownMethod"
-cause_name causes.UnknownObject = codes "UnknownObject"
-cause_name causes.ArgumentCount = codes "ArgumentCount"
-cause_name causes.ArgumentType = codes "ArgumentType"
-cause_name causes.NotPrimitive = codes "NotPrimitive"
-cause_name causes.NotAbstract = codes "NotAbstract"
-cause_name causes.OtherTask = codes "OtherTask"
-cause_name causes.ChildCount = codes "ChildCount"
-cause_name causes.ChildNames = codes "ChildNames"
+cause_name (causes.Tree kind) = trees.name kind
 cause_name causes.Inapplicable = codes "Inapplicable"
 cause_name causes.GoalFalse = codes "GoalFalse"
 cause_name causes.NoBinding = codes "NoBinding"

@@ -1,5 +1,5 @@
 -- What is written where a text is printed.
-use Rattle.std.specs.Prelude.{◌≡◌, ℕ, false, List, Option, Some, None, Result, Ok, Err}
+use Rattle.std.specs.Prelude.{◌≡◌, ℕ, false, List, Option, Some, Result, Ok, Err}
 use Rattle.std.specs.Io.KnownBytes.{Appends}
 use Rattle.hv_text.specs.Io.{IsRead, AppendsBeginning}
 use Rattle.hv_text.specs.declared.fault.TheConstants.{MOST_BYTES}
@@ -33,30 +33,42 @@ use Rattle.hv_judge.specs.Runs.{IsTooLong}
 abbrev pub rejection : Which → Fault → List ℕ
 rejection w f = answer_text (answers.Rejected w f) false
 
--- what is written of a text, and how that ends: the canonical text of what it says, or the line of its rejection
+-- what is written of a text, and how that ends: the canonical text of what it says, or the line of
+-- its rejection
 pub data IsPrint (text : List ℕ) : Which → Printed → List ℕ → Type 0 where
-  a_domain : (d : Domain) → IsDomainText text d → IsPrint text which.Domain ends.Done (canonical_domain d)
-  a_problem : (p : Problem) → IsProblemText text p → IsPrint text which.Problem ends.Done (canonical_problem p)
+  a_domain : (d : Domain) → IsDomainText text d
+      → IsPrint text which.Domain ends.Done (canonical_domain d)
+  a_problem : (p : Problem) → IsProblemText text p
+      → IsPrint text which.Problem ends.Done (canonical_problem p)
   a_plan : (p : Plan) → IsPlan text p → IsPrint text which.Plan ends.Done (plan_text p)
-  no_domain : (kind : SyntaxKind) (s : Span) (k : FaultKind) → IsDomainFault text kind s → reported kind ≡ Some k
+  no_domain : (kind : SyntaxKind) (s : Span) (k : FaultKind) → IsDomainFault text kind s
+      → reported kind ≡ Some k
       → IsPrint text which.Domain ends.Rejected (rejection which.Domain (fault_in k text s))
-  no_problem : (kind : SyntaxKind) (s : Span) (k : FaultKind) → IsProblemFault text kind s → reported kind ≡ Some k
+  no_problem : (kind : SyntaxKind) (s : Span) (k : FaultKind) → IsProblemFault text kind s
+      → reported kind ≡ Some k
       → IsPrint text which.Problem ends.Rejected (rejection which.Problem (fault_in k text s))
-  no_plan : (f : PlanFault) (r : Fault) → IsPlanFault text f → reported_plan f ≡ Some r → IsPrint text which.Plan ends.Rejected (rejection which.Plan r)
+  no_plan : (f : PlanFault) (r : Fault) → IsPlanFault text f → reported_plan f ≡ Some r
+      → IsPrint text which.Plan ends.Rejected (rejection which.Plan r)
 
 -- what is written of a reader's bytes; a text that is too long is rejected
-pub data IsPrintOf {R : Type 0} (w : Which) (left : R → Option (List ℕ)) (old new : R) : Printed → List ℕ → Type 0 where
-  text_read : (text : List ℕ) (end : Printed) (bytes : List ℕ) → IsRead (left old) (left new) MOST_BYTES text → IsPrint text w end bytes
+pub data IsPrintOf {R : Type 0} (w : Which) (left : R → Option (List ℕ)) (old new : R) : Printed
+    → List ℕ → Type 0 where
+  text_read : (text : List ℕ) (end : Printed) (bytes : List ℕ)
+      → IsRead (left old) (left new) MOST_BYTES text → IsPrint text w end bytes
       → IsPrintOf w left old new end bytes
-  text_too_long : IsTooLong (left old) (left new) → IsPrintOf w left old new ends.Rejected (rejection w (fault_nowhere faults.TooLong))
+  text_too_long : IsTooLong (left old) (left new)
+      → IsPrintOf w left old new ends.Rejected (rejection w (fault_nowhere faults.TooLong))
 
--- what `P` allows was written, and that is how it ended; a beginning of it, where the writer failed; nothing was done with the
--- writer, where the text was not read or memory was refused
-abbrev pub WrotePrint : {W : Type 0} → (Printed → List ℕ → Type 0) → (W → Option (List ℕ)) → W → W → Result Printed RunFault → Type 0
-WrotePrint P taken old new (Ok end) = (bytes : List ℕ) × P end bytes × Appends (taken old) (taken new) bytes
+-- what `P` allows was written, and that is how it ended; a beginning of it, where the writer
+-- failed; nothing was done with the writer, where the text was not read or memory was refused
+abbrev pub WrotePrint : {W : Type 0} → (Printed → List ℕ → Type 0) → (W → Option (List ℕ)) → W → W
+    → Result Printed RunFault → Type 0
+WrotePrint P taken old new (Ok end) = (bytes : List ℕ) × P end bytes
+    × Appends (taken old) (taken new) bytes
 WrotePrint P taken old new (Err (runs.Read w)) = new ≡ old
 WrotePrint P taken old new (Err runs.Memory) = new ≡ old
-WrotePrint P taken old new (Err runs.Write) = (end : Printed) × (bytes : List ℕ) × P end bytes × AppendsBeginning (taken old) (taken new) bytes
+WrotePrint P taken old new (Err runs.Write) = (end : Printed) × (bytes : List ℕ) × P end bytes
+    × AppendsBeginning (taken old) (taken new) bytes
 
 -- what the parts of the code do
 
@@ -70,12 +82,15 @@ IsRejection w f end bytes = (end ≡ ends.Rejected) × (bytes ≡ rejection w f)
 
 -- the line of the rejection of a domain or a problem
 abbrev pub IsTextRejection : Which → List ℕ → SyntaxFault → Printed → List ℕ → Type 0
-IsTextRejection w text f end bytes = (k : FaultKind) × (reported f.kind ≡ Some k) × IsRejection w (fault_in k text f.span) end bytes
+IsTextRejection w text f end bytes = (k : FaultKind) × (reported f.kind ≡ Some k)
+    × IsRejection w (fault_in k text f.span) end bytes
 
 -- the line of the rejection of a plan
 abbrev pub IsPlanRejection : PlanFault → Printed → List ℕ → Type 0
-IsPlanRejection f end bytes = (r : Fault) × (reported_plan f ≡ Some r) × IsRejection which.Plan r end bytes
+IsPlanRejection f end bytes = (r : Fault) × (reported_plan f ≡ Some r)
+    × IsRejection which.Plan r end bytes
 
 -- the line of the rejection of a text that is too long
 abbrev pub IsUnreadRejection : Which → ReadFault → Printed → List ℕ → Type 0
-IsUnreadRejection w fault end bytes = (fault ≡ reads.TooLong) × IsRejection w (fault_nowhere faults.TooLong) end bytes
+IsUnreadRejection w fault end bytes = (fault ≡ reads.TooLong)
+    × IsRejection w (fault_nowhere faults.TooLong) end bytes

@@ -1,11 +1,10 @@
 -- Which texts are rejected, and with which fault at which place.
-use Rattle.std.specs.Prelude.{◌≡◌, ◌==◌, ◌+◌, ℕ, not, nat_lt, List, [], ◌∷◌, length, take, count_by, Option, None, Some, if◌then◌else◌}
+use Rattle.std.specs.Prelude.{◌≡◌, ◌==◌, ◌+◌, ℕ, Bool, not, nat_lt, List, length, take, count_by, Option, None, Some, if◌then◌else◌}
 use Rattle.std.specs.List.{suffix_len}
 use Rattle.hv_text.specs.declared.span.Span.{Span}
 use Rattle.hv_text.specs.declared.fault.TextKind.TheVariants as texts
 use Rattle.hv_text.specs.declared.fault.TheConstants.{MOST_BYTES}
-use Rattle.hv_plan.specs.Values.{Decomposition, Plan}
-use Rattle.hv_plan.specs.Spellings.{IsPlan, IsPlanFault}
+use Rattle.hv_plan.specs.Spellings.{IsPlanFault}
 use Rattle.hv_plan.specs.declared.fault.PlanFault.{PlanFault}
 use Rattle.hv_plan.specs.declared.fault.PlanFault.TheVariants as plans
 use Rattle.hv_judge.specs.declared.answer.Which.{Which}
@@ -14,20 +13,19 @@ use Rattle.hv_judge.specs.declared.answer.FaultKind.{FaultKind}
 use Rattle.hv_judge.specs.declared.answer.FaultKind.TheVariants as faults
 use Rattle.hv_judge.specs.declared.answer.Fault.{Fault}
 use Rattle.hv_judge.specs.declared.answer.Place.TheVariants.{Nowhere, Line, At}
-use Rattle.hv_judge.specs.declared.judgement.Unread.{Unread}
-use Rattle.hv_judge.specs.declared.judgement.Unread.TheVariants as unread
 use Rattle.hv_syntax.specs.declared.fault.SyntaxKind.{SyntaxKind}
 use Rattle.hv_syntax.specs.declared.fault.SyntaxKind.TheVariants as kinds
-use Rattle.hv_judge.specs.declared.world.fault.Side.{Side}
-use Rattle.hv_judge.specs.declared.world.fault.Side.TheVariants as sides
-use Rattle.hv_judge.specs.declared.world.fault.StaticKind.{StaticKind}
-use Rattle.hv_judge.specs.declared.world.fault.StaticKind.TheVariants as statics
-use Rattle.hv_judge.specs.declared.world.fault.StaticFault.{StaticFault}
-use Rattle.hv_judge.specs.Values.{Domain, Problem}
-use Rattle.hv_judge.specs.Statics.{IsStatic, IsFirstFault}
-use Rattle.hv_judge.specs.Texts.{IsDomainText, IsDomainFault, IsProblemText, IsProblemFault}
+use Rattle.hv_syntax.specs.Values.{Domain, Problem}
+use Rattle.hv_syntax.specs.Texts.{IsDomainText, IsDomainFault, IsProblemText, IsProblemFault}
+use Rattle.hv_world.specs.declared.fault.Side.{Side}
+use Rattle.hv_world.specs.declared.fault.Side.TheVariants as sides
+use Rattle.hv_world.specs.declared.fault.StaticKind.{StaticKind}
+use Rattle.hv_world.specs.declared.fault.StaticKind.TheVariants as statics
+use Rattle.hv_world.specs.declared.fault.StaticFault.{StaticFault}
+use Rattle.hv_world.specs.StaticRules.{IsStatic, first_fault}
 
--- the kind under which a fault of a domain's or a problem's text is reported; want of memory is reported as no fault
+-- the kind under which a fault of a domain's or a problem's text is reported; want of memory is
+-- reported as none
 abbrev pub reported : SyntaxKind → Option FaultKind
 reported (kinds.Text texts.BadByte) = Some faults.BadByte
 reported (kinds.Text texts.Unclosed) = Some faults.Unclosed
@@ -42,16 +40,36 @@ reported kinds.MissingSection = Some faults.MissingSection
 reported kinds.BadShape = Some faults.BadShape
 reported kinds.Unsupported = Some faults.Unsupported
 
+-- the kind under which a static fault is reported; want of memory is reported as none
 abbrev pub reported_static : StaticKind → Option FaultKind
+reported_static statics.UnknownType = Some faults.UnknownType
+reported_static statics.UnknownObject = Some faults.UnknownObject
 reported_static statics.UnknownPredicate = Some faults.UnknownPredicate
 reported_static statics.UnknownTask = Some faults.UnknownTask
+reported_static statics.UnboundVariable = Some faults.UnboundVariable
+reported_static statics.Arity = Some faults.Arity
 reported_static statics.DuplicateName = Some faults.DuplicateName
+reported_static statics.DuplicateVariable = Some faults.DuplicateVariable
+reported_static statics.DuplicateLabel = Some faults.DuplicateLabel
+reported_static statics.UnknownLabel = Some faults.UnknownLabel
+reported_static statics.CyclicOrdering = Some faults.CyclicOrdering
 reported_static statics.Memory = None
 
--- a fault at a line and column, which count from 1: lines by the bytes 10 before the place, columns by the bytes since the last of these
+-- a byte that ends a line
+abbrev pub is_line_end : ℕ → Bool
+is_line_end b = b == 10
+
+-- the line and the column of a place, which count from 1: lines by the ends of lines before the
+-- place, columns by the bytes since the last of these
+abbrev pub line_of : List ℕ → Span → ℕ
+line_of text s = 1 + count_by is_line_end (take s.start text)
+
+abbrev pub column_of : List ℕ → Span → ℕ
+column_of text s = 1 + suffix_len (λ b. not (is_line_end b)) (take s.start text)
+
+-- a fault at a place of a text
 abbrev pub fault_in : FaultKind → List ℕ → Span → Fault
-fault_in kind text s =
-    record { kind = kind; place = At (1 + count_by (λ b. b == 10) (take s.start text)) (1 + suffix_len (λ b. not (b == 10)) (take s.start text)) }
+fault_in kind text s = record { kind = kind; place = At (line_of text s) (column_of text s) }
 
 -- a fault without a place, and a fault at a line
 abbrev pub fault_nowhere : FaultKind → Fault
@@ -72,11 +90,6 @@ reported_plan plans.NoRoot = Some (fault_nowhere faults.NoRoot)
 reported_plan (plans.RepeatedRoot line) = Some (fault_on faults.RepeatedRoot line)
 reported_plan plans.Memory = None
 
--- the fault of a plan with these decomposition lines: as decomposition trees are not judged yet, the first of the lines is a bad one
-abbrev pub decomposition_fault : List Decomposition → Option Fault
-decomposition_fault [] = None
-decomposition_fault (d ∷ ds) = Some (fault_on faults.BadLine d.line)
-
 -- the first text that is too long
 abbrev pub first_too_long : List ℕ → List ℕ → List ℕ → Option Which
 first_too_long domain problem plan =
@@ -84,6 +97,7 @@ first_too_long domain problem plan =
     if nat_lt MOST_BYTES (length problem) then Some which.Problem else
     if nat_lt MOST_BYTES (length plan) then Some which.Plan else None
 
+-- the text that a static fault stands in
 abbrev pub which_of : Side → Which
 which_of sides.Domain = which.Domain
 which_of sides.Problem = which.Problem
@@ -98,33 +112,28 @@ pub record AreRead (domain problem : List ℕ) (d : Domain) (p : Problem) : Type
   pub says_problem : IsProblemText problem p
   pub sound : IsStatic d p
 
--- a domain or a problem is rejected: the domain's text comes first, then the problem's, then static faults
+-- A domain or a problem is rejected: the domain's text comes first, then the problem's, then the
+-- first static fault of the two
 pub data IsRejectedPair (domain problem : List ℕ) : Which → Fault → Type 0 where
-  by_domain : (kind : SyntaxKind) (s : Span) (k : FaultKind) → IsDomainFault domain kind s → reported kind ≡ Some k
+  by_domain : (kind : SyntaxKind) (s : Span) (k : FaultKind)
+      → IsDomainFault domain kind s → reported kind ≡ Some k
       → IsRejectedPair domain problem which.Domain (fault_in k domain s)
-  by_problem : (d : Domain) (kind : SyntaxKind) (s : Span) (k : FaultKind) → IsDomainText domain d → IsProblemFault problem kind s → reported kind ≡ Some k
+  by_problem : (d : Domain) (kind : SyntaxKind) (s : Span) (k : FaultKind)
+      → IsDomainText domain d → IsProblemFault problem kind s → reported kind ≡ Some k
       → IsRejectedPair domain problem which.Problem (fault_in k problem s)
-  by_statics : (d : Domain) (p : Problem) (f : StaticFault) (k : FaultKind) → IsDomainText domain d → IsProblemText problem p → IsFirstFault d p f
-      → reported_static f.kind ≡ Some k → IsRejectedPair domain problem (which_of f.side) (fault_in k (text_of_side domain problem f.side) f.span)
-
--- a plan's text is rejected: it holds no plan, or one with decomposition lines
-pub data IsRejectedPlan (plan : List ℕ) : Fault → Type 0 where
-  unplanned : (f : PlanFault) (r : Fault) → IsPlanFault plan f → reported_plan f ≡ Some r → IsRejectedPlan plan r
-  unjudged : (q : Plan) (r : Fault) → IsPlan plan q → decomposition_fault q.decompositions ≡ Some r → IsRejectedPlan plan r
-
--- what the code says where a text is faulty: a fault of this kind at its place, or want of memory where there is no kind
-abbrev pub unread_by : Option FaultKind → Which → List ℕ → Span → Unread
-unread_by None w text s = unread.Memory
-unread_by (Some k) w text s = unread.Rejected w (fault_in k text s)
-
--- what the code knows where there is no world
-abbrev pub IsUnread : List ℕ → List ℕ → Unread → Type 0
-IsUnread domain problem (unread.Rejected w f) = IsRejectedPair domain problem w f
-IsUnread domain problem unread.Memory = Unit {0}
+  by_statics : (d : Domain) (p : Problem) (f : StaticFault) (k : FaultKind)
+      → IsDomainText domain d → IsProblemText problem p → first_fault d p ≡ Some f
+      → reported_static f.kind ≡ Some k
+      → IsRejectedPair domain problem (which_of f.side)
+      (fault_in k (text_of_side domain problem f.side) f.span)
 
 -- A text is rejected: the first that is too long; else the domain or the problem; else the plan
 pub data IsRejected (domain problem plan : List ℕ) : Which → Fault → Type 0 where
-  by_length : (w : Which) → first_too_long domain problem plan ≡ Some w → IsRejected domain problem plan w (fault_nowhere faults.TooLong)
-  by_pair : (w : Which) (f : Fault) → first_too_long domain problem plan ≡ None → IsRejectedPair domain problem w f → IsRejected domain problem plan w f
-  by_plan : (d : Domain) (p : Problem) (f : Fault) → first_too_long domain problem plan ≡ None → AreRead domain problem d p → IsRejectedPlan plan f
+  by_length : (w : Which) → first_too_long domain problem plan ≡ Some w
+      → IsRejected domain problem plan w (fault_nowhere faults.TooLong)
+  by_pair : (w : Which) (f : Fault) → first_too_long domain problem plan ≡ None
+      → IsRejectedPair domain problem w f → IsRejected domain problem plan w f
+  by_plan : (d : Domain) (p : Problem) (e : PlanFault) (f : Fault)
+      → first_too_long domain problem plan ≡ None → AreRead domain problem d p
+      → IsPlanFault plan e → reported_plan e ≡ Some f
       → IsRejected domain problem plan which.Plan f

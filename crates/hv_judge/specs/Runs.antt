@@ -59,58 +59,86 @@ writes_failed (Err (runs.Read w)) = 0
 writes_failed (Err runs.Memory) = 0
 writes_failed (Err runs.Write) = 1
 
--- the text of an answer that `P` allows was written, and its kind is given; a beginning of such a text, where the writer failed;
--- nothing was done with the writer, where a text was not read or memory was refused
-abbrev pub Wrote : {W : Type 0} → (Answer → Type 0) → (W → Option (List ℕ)) → W → W → Bool → Result Kind RunFault → Type 0
-Wrote P taken old new explain (Ok k) = (a : Answer) × P a × (k ≡ kind_of a) × Appends (taken old) (taken new) (answer_text a explain)
+-- the text of an answer that `P` allows was written, and its kind is given; a beginning of such a
+-- text, where the writer failed; nothing was done with the writer, where a text was not read or
+-- memory was refused
+abbrev pub Wrote : {W : Type 0} → (Answer → Type 0) → (W → Option (List ℕ)) → W → W → Bool
+    → Result Kind RunFault → Type 0
+Wrote P taken old new explain (Ok k) = (a : Answer) × P a × (k ≡ kind_of a)
+    × Appends (taken old) (taken new) (answer_text a explain)
 Wrote P taken old new explain (Err (runs.Read w)) = new ≡ old
 Wrote P taken old new explain (Err runs.Memory) = new ≡ old
-Wrote P taken old new explain (Err runs.Write) = (a : Answer) × P a × AppendsBeginning (taken old) (taken new) (answer_text a explain)
+Wrote P taken old new explain (Err runs.Write) = (a : Answer) × P a
+    × AppendsBeginning (taken old) (taken new) (answer_text a explain)
 
--- the answer after the domain and the problem were read: what is judged of the plan, or that it is too long
-pub data IsRunOfPlan {C : Type 0} (left : C → Option (List ℕ)) (c c' : C) (limit : ℕ) (domain problem : List ℕ) : Answer → Type 0 where
-  plan_read : (plan : List ℕ) (a : Answer) → IsRead (left c) (left c') MOST_BYTES plan → Judged domain problem plan limit a
+-- the answer after the domain and the problem were read: what is judged of the plan, or that it is
+-- too long
+pub data IsRunOfPlan {C : Type 0} (left : C → Option (List ℕ)) (c c' : C) (limit : ℕ)
+    (domain problem : List ℕ) : Answer → Type 0 where
+  plan_read : (plan : List ℕ) (a : Answer) → IsRead (left c) (left c') MOST_BYTES plan
+      → Judged domain problem plan limit a
       → IsRunOfPlan left c c' limit domain problem a
   plan_too_long : IsTooLong (left c) (left c')
       → IsRunOfPlan left c c' limit domain problem (too_long_answer texts.Plan)
 
--- the answer after the domain was read: where the problem is too long, nothing was done with the plan's reader
-pub data IsRunOfProblem {B C : Type 0} (left_b : B → Option (List ℕ)) (b b' : B) (left_c : C → Option (List ℕ)) (c c' : C) (limit : ℕ) (domain : List ℕ) : Answer → Type 0 where
-  problem_read : (problem : List ℕ) (a : Answer) → IsRead (left_b b) (left_b b') MOST_BYTES problem → IsRunOfPlan left_c c c' limit domain problem a
+-- the answer after the domain was read: where the problem is too long, nothing was done with the
+-- plan's reader
+pub data IsRunOfProblem {B C : Type 0} (left_b : B → Option (List ℕ)) (b b' : B)
+    (left_c : C → Option (List ℕ)) (c c' : C) (limit : ℕ) (domain : List ℕ) : Answer → Type 0 where
+  problem_read : (problem : List ℕ) (a : Answer) → IsRead (left_b b) (left_b b') MOST_BYTES problem
+      → IsRunOfPlan left_c c c' limit domain problem a
       → IsRunOfProblem left_b b b' left_c c c' limit domain a
   problem_too_long : IsTooLong (left_b b) (left_b b') → c' ≡ c
       → IsRunOfProblem left_b b b' left_c c c' limit domain (too_long_answer texts.Problem)
 
 -- the answer to three readers: where the domain is too long, nothing was done with the other two
-pub data IsRunOf {A B C : Type 0} (left_a : A → Option (List ℕ)) (a a' : A) (left_b : B → Option (List ℕ)) (b b' : B) (left_c : C → Option (List ℕ)) (c c' : C) (limit : ℕ) : Answer → Type 0 where
-  domain_read : (domain : List ℕ) (x : Answer) → IsRead (left_a a) (left_a a') MOST_BYTES domain → IsRunOfProblem left_b b b' left_c c c' limit domain x
+pub data IsRunOf {A B C : Type 0} (left_a : A → Option (List ℕ)) (a a' : A)
+    (left_b : B → Option (List ℕ)) (b b' : B) (left_c : C → Option (List ℕ)) (c c' : C)
+    (limit : ℕ) : Answer → Type 0 where
+  domain_read : (domain : List ℕ) (x : Answer) → IsRead (left_a a) (left_a a') MOST_BYTES domain
+      → IsRunOfProblem left_b b b' left_c c c' limit domain x
       → IsRunOf left_a a a' left_b b b' left_c c c' limit x
   domain_too_long : IsTooLong (left_a a) (left_a a') → b' ≡ b → c' ≡ c
       → IsRunOf left_a a a' left_b b b' left_c c c' limit (too_long_answer texts.Domain)
 
--- a reader was not read to its end, for this reason: it failed itself, or a growth was refused on the way. It has moved on by what it gave
+-- a reader was not read to its end, for this reason: it failed itself, or a growth was refused on
+-- the way. It has moved on by what it gave
 abbrev pub IsFailedRead : Which → Option (List ℕ) → Option (List ℕ) → RunFault → Type 0
 IsFailedRead w old new (runs.Read v) = (v ≡ w) × IsReadFault old new MOST_BYTES reads.Device
 IsFailedRead w old new runs.Memory = IsReadFault old new MOST_BYTES reads.Memory
 IsFailedRead w old new runs.Write = ⊥
 
--- the last reader where a run gives nothing: it was not read to its end, or it was, and a growth was refused behind it
-pub data IsHaltOfText {R : Type 0} (w : Which) (left : R → Option (List ℕ)) (r r' : R) : RunFault → Type 0 where
-  text_failed : (fault : RunFault) → IsFailedRead w (left r) (left r') fault → IsHaltOfText w left r r' fault
-  text_given : (text : List ℕ) → IsRead (left r) (left r') MOST_BYTES text → IsHaltOfText w left r r' runs.Memory
+-- the last reader where a run gives nothing: it was not read to its end, or it was, and a growth
+-- was refused behind it
+pub data IsHaltOfText {R : Type 0} (w : Which) (left : R → Option (List ℕ)) (r r' : R) : RunFault
+    → Type 0 where
+  text_failed : (fault : RunFault) → IsFailedRead w (left r) (left r') fault
+      → IsHaltOfText w left r r' fault
+  text_given : (text : List ℕ) → IsRead (left r) (left r') MOST_BYTES text
+      → IsHaltOfText w left r r' runs.Memory
 
--- the readers of the problem and the plan where a run gives no verdict: nothing was done with the one behind one that was not read to its end
-pub data IsHaltOfProblem {B C : Type 0} (left_b : B → Option (List ℕ)) (b b' : B) (left_c : C → Option (List ℕ)) (c c' : C) : RunFault → Type 0 where
-  problem_failed : (fault : RunFault) → IsFailedRead texts.Problem (left_b b) (left_b b') fault → c' ≡ c
+-- the readers of the problem and the plan where a run gives no verdict: nothing was done with the
+-- one behind one that was not read to its end
+pub data IsHaltOfProblem {B C : Type 0} (left_b : B → Option (List ℕ)) (b b' : B)
+    (left_c : C → Option (List ℕ)) (c c' : C) : RunFault → Type 0 where
+  problem_failed : (fault : RunFault) → IsFailedRead texts.Problem (left_b b) (left_b b') fault
+      → c' ≡ c
       → IsHaltOfProblem left_b b b' left_c c c' fault
-  problem_given : (problem : List ℕ) (fault : RunFault) → IsRead (left_b b) (left_b b') MOST_BYTES problem → IsHaltOfText texts.Plan left_c c c' fault
+  problem_given : (problem : List ℕ) (fault : RunFault)
+      → IsRead (left_b b) (left_b b') MOST_BYTES problem → IsHaltOfText texts.Plan left_c c c' fault
       → IsHaltOfProblem left_b b b' left_c c c' fault
 
--- the three readers where a run gives no verdict: nothing was done with those behind one that was not read to its end
-pub data IsHaltOf {A B C : Type 0} (left_a : A → Option (List ℕ)) (a a' : A) (left_b : B → Option (List ℕ)) (b b' : B) (left_c : C → Option (List ℕ)) (c c' : C) : RunFault → Type 0 where
-  domain_failed : (fault : RunFault) → IsFailedRead texts.Domain (left_a a) (left_a a') fault → b' ≡ b → c' ≡ c
+-- the three readers where a run gives no verdict: nothing was done with those behind one that was
+-- not read to its end
+pub data IsHaltOf {A B C : Type 0} (left_a : A → Option (List ℕ)) (a a' : A)
+    (left_b : B → Option (List ℕ)) (b b' : B) (left_c : C → Option (List ℕ)) (c c' : C) : RunFault
+    → Type 0 where
+  domain_failed : (fault : RunFault) → IsFailedRead texts.Domain (left_a a) (left_a a') fault
+      → b' ≡ b → c' ≡ c
       → IsHaltOf left_a a a' left_b b b' left_c c c' fault
-  domain_given : (domain : List ℕ) (fault : RunFault) → IsRead (left_a a) (left_a a') MOST_BYTES domain → IsHaltOfProblem left_b b b' left_c c c' fault
+  domain_given : (domain : List ℕ) (fault : RunFault)
+      → IsRead (left_a a) (left_a a') MOST_BYTES domain
+      → IsHaltOfProblem left_b b b' left_c c c' fault
       → IsHaltOf left_a a a' left_b b b' left_c c c' fault
 
 -- where a run gave nothing, `P` holds of the reason

@@ -1,50 +1,55 @@
--- Solutions of a plan without decomposition lines: its tree, the matchings of its root, and the sequences that they have.
-use Rattle.std.specs.Prelude.{◌≡◌, ◌==◌, ℕ, Bool, true, false, List, [], ◌∷◌, length, map, Some, if◌then◌else◌, Contains}
-use Rattle.std.specs.List.{position_or_len}
-use Rattle.hv_text.specs.Lists.{Once}
-use Rattle.hv_plan.specs.Trees.{Item, Act, Task, Pre, Tree}
-use Rattle.hv_order.specs.Meanings.{Meaning, listed, listed_for}
-use Rattle.hv_order.specs.Sequences.{HasSolution}
-use Rattle.hv_plan.specs.Values.{Action, Plan}
-use Rattle.hv_judge.specs.Trees.{name_of, occurs}
+-- Solutions: the tree of a plan, the states that its actions pass, and the order of its steps.
+use Rattle.std.specs.Prelude.{true, false}
+use Rattle.hv_world.specs.Worlds.{World}
+use Rattle.hv_state.specs.Plans as states
+use Rattle.hv_state.specs.Plans.{CanRun, GoalHolds}
+use Rattle.hv_plan.specs.Values.{Plan}
+use Rattle.hv_plan.specs.Shapes.{FormTree}
+use Rattle.hv_plan.specs.Fits.{FitWorld}
+use Rattle.hv_plan.specs.PlanTrees.{PlanTree, IsTreeOf}
+use Rattle.hv_order.specs.Settings.{Setting, setting, IsSolved}
+use Rattle.hv_order.specs.Certified.{Certifies}
+use Rattle.hv_order.specs.declared.certificate.Certificate.{Certificate}
 
--- the place of the action line that an id begins, counted from 0
-abbrev pub place_of : List Action → ℕ → ℕ
-place_of lines i = position_or_len (λ a. i == a.id) lines
+-- the lines of a plan form a tree that fits the world, and this is the tree; a plan has no other
+pub record HasTree (w : World) (p : Plan) (t : PlanTree) : Type 0 where
+  pub forms : FormTree p
+  pub fits : FitWorld w p
+  pub is_tree : IsTreeOf w p t
 
--- the tree of a plan: the children of `root` are the initial tasks, each an action, and no line has children
-abbrev pub item_of : Plan → ℕ → Item
-item_of p i = Act (place_of p.actions i)
+-- the world, and the actions of a tree in plan order
+abbrev pub run_of : World → PlanTree → states.Plan
+run_of w t = states.plan w t.actions
 
-abbrev pub tree_of : Plan → Tree
-tree_of p = record { initial_tasks = map (item_of p) p.root.ids; children = λ v. [] }
+-- the lines form this tree, and each action is applicable where it stands
+pub record IsRun (w : World) (p : Plan) (t : PlanTree) : Type 0 where
+  pub tree : HasTree w p t
+  pub can_run : CanRun (run_of w t)
 
--- one number stands before another in a list
-abbrev pub stands_before : List ℕ → ℕ → ℕ → Bool
-stands_before [] j k = false
-stands_before (i ∷ is) j k = if i == j then occurs k is else stands_before is j k
+-- so it is, and the goal is true behind the last action
+pub record ReachesGoal (w : World) (p : Plan) (t : PlanTree) : Type 0 where
+  pub run : IsRun w p t
+  pub goal : GoalHolds (run_of w t)
 
--- actions are ordered as their places stand in a list
-abbrev pub orders : List ℕ → Item → Item → Bool
-orders places (Act j) (Act k) = stands_before places j k
-orders places (Act j) (Task v) = false
-orders places (Act j) (Pre v) = false
-orders places (Task v) y = false
-orders places (Pre v) y = false
+-- what the order of the steps is judged by: the tree, and the states that its actions pass
+abbrev pub judged_in : World → PlanTree → Setting
+judged_in w t = setting t (run_of w t) true
 
--- what a matching of the root says of the order: the subtasks are ordered as they are written, and so are their children
-abbrev pub meaning_of : Plan → List ℕ → Meaning
-meaning_of p children = record { before = orders (map (place_of p.actions) children); true_at = λ k. true }
+-- the same, with each precondition of a method taken as true
+abbrev pub judged_without : World → PlanTree → Setting
+judged_without w t = setting t (run_of w t) false
 
--- A matching of the children of `root` to subtasks with these names: for each subtask, in written order, the id of its child.
--- Each child stands once, and its line names its subtask
-pub record IsMatching (names : List (List ℕ)) (p : Plan) (children : List ℕ) : Type 0 where
-  pub once : Once children
-  pub all : (i : ℕ) → Contains p.root.ids i → Contains children i
-  pub only : (i : ℕ) → Contains children i → Contains p.root.ids i
-  pub named : map (name_of p.actions) children ≡ map Some names
+-- A solution: the plan reaches the goal, and under some candidates of its nodes the initial network
+-- derives one whose steps can be put in a sequence that is executable, with the actions in plan
+-- order
+pub record IsSolution (w : World) (p : Plan) : Type 0 where
+  pub tree : PlanTree
+  pub reaches : ReachesGoal w p tree
+  pub solved : IsSolved (judged_in w tree)
 
--- with this matching there is a derivation, and an executable sequence of its end that has the plan's actions in plan order,
--- goal and applicability aside
-abbrev pub IsOrderedBy : Plan → List ℕ → Type 0
-IsOrderedBy p children = HasSolution (tree_of p) (listed (meaning_of p children ∷ [])) (listed_for (λ v. [])) (length p.actions)
+-- the plan reaches the goal, and the certificate says such candidates, and where each precondition
+-- of a method stands in such a sequence
+pub record SolvesBy (w : World) (p : Plan) (c : Certificate) : Type 0 where
+  pub tree : PlanTree
+  pub reaches : ReachesGoal w p tree
+  pub certified : Certifies (judged_in w tree) c

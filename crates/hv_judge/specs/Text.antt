@@ -9,8 +9,8 @@ use Rattle.hv_text.specs.declared.name.Name.{Name}
 use Rattle.hv_judge.specs.declared.answer.Which.{Which}
 use Rattle.hv_judge.specs.declared.answer.Fault.{Fault}
 use Rattle.hv_judge.specs.declared.answer.Cause.{Cause}
-use Rattle.hv_judge.specs.declared.answer.Choice.{Choice}
-use Rattle.hv_judge.specs.declared.answer.Certificate.{Certificate}
+use Rattle.hv_order.specs.declared.certificate.Choice.{Choice}
+use Rattle.hv_order.specs.declared.certificate.Certificate.{Certificate}
 use Rattle.hv_judge.specs.declared.answer.Answer.{Answer}
 use Rattle.hv_judge.specs.declared.answer.Answer.TheVariants.{Solves, Fails, Undecided, Rejected}
 
@@ -42,7 +42,8 @@ name_text n = codes " " ++ text_of n
 abbrev pub names_text : List Name → List ℕ
 names_text ns = flat_map name_text ns
 
--- the children of a node in the order of its subtasks, and the objects in the order of its parameters
+-- the children of a node in the order of its subtasks, and the objects in the order of its
+-- parameters
 abbrev pub children_text : Choice → List ℕ
 children_text c = codes " children" ++ ids_text c.children.items
 
@@ -58,7 +59,8 @@ root_text c = (codes "root" ++ choice_text c) ++ codes "\n"
 
 -- the line of a decomposition line
 abbrev pub node_text : (ℕ × Choice × ℕ) → List ℕ
-node_text l = (decimal l.0 ++ choice_text l.1) ++ joined (codes " pre " ∷ decimal l.2 ∷ codes "\n" ∷ [])
+node_text l =
+    (decimal l.0 ++ choice_text l.1) ++ joined (codes " pre " ∷ decimal l.2 ∷ codes "\n" ∷ [])
 
 abbrev pub nodes_text : List (ℕ × Choice × ℕ) → List ℕ
 nodes_text ls = flat_map node_text ls
@@ -68,12 +70,16 @@ certificate_text c = root_text c.root ++ nodes_text c.lines.items
 
 -- why a plan fails
 abbrev pub cause_text : Cause → List ℕ
-cause_text c = joined (codes "fails " ∷ decimal (cause_number c.kind) ∷ codes " " ∷ cause_name c.kind ∷ []) ++ line_text c.line
+cause_text c =
+    joined (codes "fails " ∷ decimal (cause_number c.kind) ∷ codes " " ∷ cause_name c.kind ∷ [])
+    ++ line_text c.line
 
 -- why a text is rejected
 abbrev pub fault_text : Which → Fault → List ℕ
 fault_text w f =
-    joined (codes "rejected " ∷ which_name w ∷ codes " " ∷ decimal (fault_number f.kind) ∷ codes " " ∷ fault_name f.kind ∷ []) ++ place_text f.place
+    joined (codes "rejected " ∷ which_name w ∷ codes " " ∷ decimal (fault_number f.kind)
+    ∷ codes " " ∷ fault_name f.kind ∷ [])
+    ++ place_text f.place
 
 -- the first line of an answer, without its end
 abbrev pub verdict_text : Answer → List ℕ

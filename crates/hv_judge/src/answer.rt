@@ -2,9 +2,11 @@
 
 ghost use Rattle.std.specs.Prelude.{◌≡◌};
 ghost use Rattle.hv_judge.specs.Kinds.{fault_number, fault_name, cause_number, cause_name, which_name};
+ghost use Rattle.hv_judge.specs.Causes.{cause_at, cause_nowhere};
 ghost use Rattle.hv_judge.specs.Runs.{kind_of};
 
-use hv_text::Name;
+use hv_order::certificate::Certificate;
+use hv_plan::CauseKind as TreeKind;
 
 /// Which of the three texts.
 #[derive(Clone, Copy, Debug, PartialEq, Eq)]
@@ -27,7 +29,8 @@ impl Which {
     }
 }
 
-/// What is wrong with a text that is rejected. Each kind has a number and a name, under which users find it.
+/// What is wrong with a text that is rejected. Each kind has a number and a name, under which users
+/// find it.
 #[derive(Clone, Copy, Debug, PartialEq, Eq)]
 pub enum FaultKind {
     /// A byte outside comments that no word holds and that is no white space.
@@ -78,8 +81,7 @@ pub enum FaultKind {
     NoStart,
     /// No line `<==` after the first `==>`.
     NoEnd,
-    /// A line of no form of a plan. Decomposition lines are not judged yet: the first of them is one, where the text of
-    /// the plan has no fault.
+    /// A line of no form of a plan.
     BadLine,
     /// An id past 18,446,744,073,709,551,615.
     IdTooLarge,
@@ -196,34 +198,8 @@ impl Fault {
 /// Why a plan fails. Each kind has a number and a name, under which users find it.
 #[derive(Clone, Copy, Debug, PartialEq, Eq)]
 pub enum CauseKind {
-    /// An id begins two lines.
-    RepeatedId,
-    /// A child id begins no line.
-    UnknownChild,
-    /// An id is a child twice.
-    TwoParents,
-    /// A line is not reached from `root` by children.
-    Unreached,
-    /// A name is neither a task nor an action.
-    UnknownTask,
-    /// A name is no method.
-    UnknownMethod,
-    /// An argument is no object.
-    UnknownObject,
-    /// Another number of arguments than declared.
-    ArgumentCount,
-    /// An object is not of its parameter's type.
-    ArgumentType,
-    /// An action line names a task.
-    NotPrimitive,
-    /// A decomposition line names an action.
-    NotAbstract,
-    /// The method is for another task.
-    OtherTask,
-    /// The numbers of children and of subtasks differ.
-    ChildCount,
-    /// The names of children and of subtasks, each as often as it stands there, differ.
-    ChildNames,
+    /// Its lines form no tree that fits the world.
+    Tree(TreeKind),
     /// An action's precondition is false before it.
     Inapplicable,
     /// The goal is false at the end.
@@ -242,20 +218,7 @@ impl CauseKind {
         ensures { result ≡ cause_number self }
     {
         match self {
-            CauseKind::RepeatedId => 50,
-            CauseKind::UnknownChild => 51,
-            CauseKind::TwoParents => 52,
-            CauseKind::Unreached => 53,
-            CauseKind::UnknownTask => 54,
-            CauseKind::UnknownMethod => 55,
-            CauseKind::UnknownObject => 56,
-            CauseKind::ArgumentCount => 57,
-            CauseKind::ArgumentType => 58,
-            CauseKind::NotPrimitive => 59,
-            CauseKind::NotAbstract => 60,
-            CauseKind::OtherTask => 61,
-            CauseKind::ChildCount => 62,
-            CauseKind::ChildNames => 63,
+            CauseKind::Tree(kind) => kind.number(),
             CauseKind::Inapplicable => 64,
             CauseKind::GoalFalse => 65,
             CauseKind::NoBinding => 66,
@@ -269,20 +232,7 @@ impl CauseKind {
         ensures { result.now ≡ cause_name self }
     {
         match self {
-            CauseKind::RepeatedId => "RepeatedId",
-            CauseKind::UnknownChild => "UnknownChild",
-            CauseKind::TwoParents => "TwoParents",
-            CauseKind::Unreached => "Unreached",
-            CauseKind::UnknownTask => "UnknownTask",
-            CauseKind::UnknownMethod => "UnknownMethod",
-            CauseKind::UnknownObject => "UnknownObject",
-            CauseKind::ArgumentCount => "ArgumentCount",
-            CauseKind::ArgumentType => "ArgumentType",
-            CauseKind::NotPrimitive => "NotPrimitive",
-            CauseKind::NotAbstract => "NotAbstract",
-            CauseKind::OtherTask => "OtherTask",
-            CauseKind::ChildCount => "ChildCount",
-            CauseKind::ChildNames => "ChildNames",
+            CauseKind::Tree(kind) => kind.name(),
             CauseKind::Inapplicable => "Inapplicable",
             CauseKind::GoalFalse => "GoalFalse",
             CauseKind::NoBinding => "NoBinding",
@@ -299,21 +249,23 @@ pub struct Cause {
     pub line: Option<u32>,
 }
 
-/// What is chosen for one node of a plan.
-#[derive(Drop)]
-pub struct Choice<'s> {
-    /// For each subtask, in written order, the id of the child that does it.
-    pub children: Vec<u64>,
-    /// For each parameter, in written order, its object.
-    pub objects: Vec<Name<'s>>,
-}
+impl Cause {
+    /// A cause at a line.
+    pub(crate) fn at(kind: CauseKind, line: u32) -> Cause
+        ensures { result ≡ cause_at kind line }
+    {
+        Cause {
+            kind,
+            line: Some(line),
+        }
+    }
 
-/// Why a plan solves its problem: one choice for `root`, and for each decomposition line, in the order of the text, its id,
-/// its choice and the index of the state in which its method's precondition is true.
-#[derive(Drop)]
-pub struct Certificate<'s> {
-    pub root: Choice<'s>,
-    pub lines: Vec<(u64, Choice<'s>, u32)>,
+    /// A cause that no line is named for.
+    pub(crate) fn nowhere(kind: CauseKind) -> Cause
+        ensures { result ≡ cause_nowhere kind }
+    {
+        Cause { kind, line: None }
+    }
 }
 
 /// The verdict.

@@ -1,24 +1,59 @@
-//! What holds of every answer. A function only cites the laws that it stands on: its contract is the law.
+//! What holds of every answer. A function only cites the laws that it stands on: its contract is
+//! the law.
 
 ghost use Rattle.hv_judge.specs.Answers.{OneAnswerLaw, SolvesLaw, FailsLaw};
+ghost use Rattle.hv_judge.specs.Answers.{ValuesOrRejectionLaw, NeverBothLaw};
+ghost use Rattle.hv_judge.specs.Answers.{OneSpellingLaw, OneRejectionLaw};
 
-use hv_plan::a_plan_or_a_fault;
-use hv_text::{a_text_has_one_reading, words_are_in_order};
+use hv_match::counts_are_one;
+use hv_order::certified_plans::certified_plans_are_solved;
+use hv_plan::{a_plan_has_one_tree, a_plan_or_a_fault, a_tree_or_a_cause};
+use hv_syntax::{a_domain_or_a_fault, a_problem_or_a_fault, a_text_says_one_thing};
+use hv_world::a_world_or_a_fault;
 
-/// Three texts and a limit have one answer: whatever the judge may answer for them, it is the same text that is
-/// rejected, for the same fault at the same place, or the same verdict, with the same cause and line. Only the
-/// certificate of a plan that solves its problem is left open, since several may be right.
+/// Three texts and a limit have one answer: whatever the judge may answer for them, it is the same
+/// text that is rejected, for the same fault at the same place, or the same verdict, with the same
+/// cause and line. Only the certificate of a plan that solves its problem is left open: several may
+/// be right.
 pub fn one_answer()
     ensures { OneAnswerLaw }
 {
-    a_text_has_one_reading();
-    words_are_in_order();
+    a_text_says_one_thing();
+    a_domain_or_a_fault();
+    a_problem_or_a_fault();
+    a_world_or_a_fault();
     a_plan_or_a_fault();
+    a_plan_has_one_tree();
+    a_tree_or_a_cause();
+    counts_are_one();
+    certified_plans_are_solved();
 }
 
-/// A plan that is said to solve its problem is a solution of it, and one that is said to fail is none: the three texts spell a
-/// domain, a problem and a plan of which that holds.
+/// A plan that is said to solve its problem is a solution of it, and one that is said to fail is
+/// none, whatever the cause: the three texts spell a domain, a problem and a plan of which that
+/// holds.
 pub fn a_solution_or_none()
     ensures solves { SolvesLaw }
     ensures fails { FailsLaw }
-{}
+{
+    a_plan_has_one_tree();
+    a_tree_or_a_cause();
+    counts_are_one();
+    certified_plans_are_solved();
+}
+
+/// Any three texts spell a domain, a problem and a plan that are judged, or one of them is
+/// rejected, and never both: what they spell is one domain, one problem and one plan, and a
+/// rejection is of one text for one fault.
+pub fn values_or_a_rejection()
+    ensures some { ValuesOrRejectionLaw }
+    ensures never_both { NeverBothLaw }
+    ensures one_values { OneSpellingLaw }
+    ensures one_fault { OneRejectionLaw }
+{
+    a_text_says_one_thing();
+    a_domain_or_a_fault();
+    a_problem_or_a_fault();
+    a_world_or_a_fault();
+    a_plan_or_a_fault();
+}

@@ -4,23 +4,19 @@
 mod answer;
 mod judgement;
 mod law;
-mod matching;
+mod limit;
+mod not_solved;
+mod order;
 mod printing;
 mod rejection;
 mod running;
-mod state;
-mod syntax;
-mod trace;
-mod tree;
 mod verdict;
-mod world;
 mod write;
 
-pub use answer::{
-    Answer, Cause, CauseKind, Certificate, Choice, Fault, FaultKind, Kind, Place, Which,
-};
+pub use answer::{Answer, Cause, CauseKind, Fault, FaultKind, Kind, Place, Which};
+pub use hv_order::certificate::{Certificate, Choice};
 pub use judgement::judge;
-pub use law::{a_solution_or_none, one_answer};
+pub use law::{a_solution_or_none, one_answer, values_or_a_rejection};
 pub use printing::{Printed, run_print};
 pub use running::{RunFault, run};
 pub use write::write_answer;

@@ -46,7 +46,8 @@ fn reject_text<W: Sink>(
 ) -> Result<Printed, RunFault>
     requires text { length text.now ≤ MOST_BYTES }
     requires out { W.failures out.old < 2 ^ 64 - 1 }
-    ensures wrote { WrotePrint (IsTextRejection which text.now fault) W.taken out.old out.new result }
+    ensures wrote { WrotePrint
+        (IsTextRejection which text.now fault) W.taken out.old out.new result }
     ensures reads { (w : Which) → reads_failed w result ≡ 0 }
     ensures halted { IfHalted IsWant result }
     ensures writes { W.failures out.new ≡ W.failures out.old + writes_failed result }
@@ -175,13 +176,13 @@ fn print_unread<W: Sink>(which: Which, fault: ReadFault, out: &mut W) -> Result<
     }
 }
 
-/// Reads a text of this kind and writes its canonical text; where it says nothing of its kind, it writes the line of its
-/// rejection. Texts of the whole language are printed.
+/// Reads a text of this kind and writes its canonical text; where it says nothing of its kind, it
+/// writes the line of its rejection. Texts of the whole language are printed.
 ///
 /// # Errors
 ///
-/// `Read` where the reader failed and `Memory` where a growth was refused: nothing was written then. `Write` where the writer failed
-/// or took no byte of a text that is not empty.
+/// `Read` where the reader failed and `Memory` where a growth was refused: nothing was written
+/// then. `Write` where the writer failed or took no byte of a text that is not empty.
 pub fn run_print<R: Source, W: Sink>(
     alloc: Global,
     which: Which,
@@ -190,7 +191,8 @@ pub fn run_print<R: Source, W: Sink>(
 ) -> Result<Printed, RunFault>
     requires reader { R.failures reader.old < 2 ^ 64 - 1 }
     requires out { W.failures out.old < 2 ^ 64 - 1 }
-    ensures wrote { WrotePrint (IsPrintOf which R.left reader.old reader.new) W.taken out.old out.new result }
+    ensures wrote { WrotePrint
+        (IsPrintOf which R.left reader.old reader.new) W.taken out.old out.new result }
     ensures reads { R.failures reader.new ≡ R.failures reader.old + reads_failed which result }
     // no other reader is blamed
     ensures only { (w : Which) → is_same w which ≡ false → reads_failed w result ≡ 0 }

@@ -5,10 +5,10 @@ ghost use Rattle.hv_text.specs.declared.fault.TheConstants.{MOST_BYTES};
 ghost use Rattle.hv_judge.specs.Rejections.{fault_in, reported, reported_static, reported_plan};
 
 use crate::answer::{Fault, FaultKind, Place};
-use crate::world::StaticKind;
 use hv_plan::PlanFault;
 use hv_syntax::SyntaxKind;
 use hv_text::{MOST_BYTES, Span, TextKind, place};
+use hv_world::StaticKind;
 
 // The fault of this kind at a place of a text.
 pub(crate) fn fault_in(kind: FaultKind, text: &[u8], span: Span) -> Fault
@@ -22,7 +22,8 @@ pub(crate) fn fault_in(kind: FaultKind, text: &[u8], span: Span) -> Fault
     }
 }
 
-// The kind under which a fault of the text of a domain or a problem is reported; None for want of memory.
+// The kind under which a fault of the text of a domain or a problem is reported; None for want of
+// memory.
 pub(crate) fn reported(kind: SyntaxKind) -> Option<FaultKind>
     ensures { result ≡ reported kind }
 {
@@ -47,15 +48,23 @@ pub(crate) fn reported_static(kind: StaticKind) -> Option<FaultKind>
     ensures { result ≡ reported_static kind }
 {
     match kind {
+        StaticKind::UnknownType => Some(FaultKind::UnknownType),
+        StaticKind::UnknownObject => Some(FaultKind::UnknownObject),
         StaticKind::UnknownPredicate => Some(FaultKind::UnknownPredicate),
         StaticKind::UnknownTask => Some(FaultKind::UnknownTask),
+        StaticKind::UnboundVariable => Some(FaultKind::UnboundVariable),
+        StaticKind::Arity => Some(FaultKind::Arity),
         StaticKind::DuplicateName => Some(FaultKind::DuplicateName),
+        StaticKind::DuplicateVariable => Some(FaultKind::DuplicateVariable),
+        StaticKind::DuplicateLabel => Some(FaultKind::DuplicateLabel),
+        StaticKind::UnknownLabel => Some(FaultKind::UnknownLabel),
+        StaticKind::CyclicOrdering => Some(FaultKind::CyclicOrdering),
         StaticKind::Memory => None,
     }
 }
 
 // A plan's fault is told by its line alone.
-pub(crate) fn at_line(kind: FaultKind, line: u32) -> Option<Fault>
+fn at_line(kind: FaultKind, line: u32) -> Option<Fault>
     ensures { result ≡ Some (record { kind = kind; place = Place.Line line }) }
 {
     Some(Fault {

@@ -22,7 +22,8 @@ pub enum RunFault {
     /// A growth of memory was refused. Nothing was written.
     #[error("out of memory")]
     Memory,
-    /// The writer failed, or took no byte of a text that is not empty. A beginning of the text was written.
+    /// The writer failed, or took no byte of a text that is not empty. A beginning of the text was
+    /// written.
     #[error("the verdict cannot be written")]
     Write,
 }
@@ -90,7 +91,8 @@ fn judge_texts<W: Sink>(
     out: &mut W,
 ) -> Result<Kind, RunFault>
     requires { W.failures out.old < 2 ^ 64 - 1 }
-    ensures wrote { Wrote (Judged domain.now problem.now plan.now limit) W.taken out.old out.new explain result }
+    ensures wrote { Wrote
+        (Judged domain.now problem.now plan.now limit) W.taken out.old out.new explain result }
     ensures reads { (w : Which) → reads_failed w result ≡ 0 }
     ensures halted { IfHalted IsWant result }
     ensures writes { W.failures out.new ≡ W.failures out.old + writes_failed result }
@@ -111,10 +113,13 @@ fn run_plan<C: Source, W: Sink>(
 ) -> Result<Kind, RunFault>
     requires plan { C.failures plan.old < 2 ^ 64 - 1 }
     requires out { W.failures out.old < 2 ^ 64 - 1 }
-    ensures wrote { Wrote (IsRunOfPlan C.left plan.old plan.new limit domain.now problem.now) W.taken out.old out.new explain result }
+    ensures wrote { Wrote
+        (IsRunOfPlan C.left plan.old plan.new limit domain.now problem.now)
+        W.taken out.old out.new explain result }
     ensures reads_domain { reads_failed texts.Domain result ≡ 0 }
     ensures reads_problem { reads_failed texts.Problem result ≡ 0 }
-    ensures reads_plan { C.failures plan.new ≡ C.failures plan.old + reads_failed texts.Plan result }
+    ensures reads_plan { C.failures plan.new
+        ≡ C.failures plan.old + reads_failed texts.Plan result }
     ensures halted { IfHalted (IsHaltOfText texts.Plan C.left plan.old plan.new) result }
     ensures writes { W.failures out.new ≡ W.failures out.old + writes_failed result }
 {
@@ -137,12 +142,17 @@ fn run_problem<B: Source, C: Source, W: Sink>(
     requires problem { B.failures problem.old < 2 ^ 64 - 1 }
     requires plan { C.failures plan.old < 2 ^ 64 - 1 }
     requires out { W.failures out.old < 2 ^ 64 - 1 }
-    ensures wrote { Wrote (IsRunOfProblem B.left problem.old problem.new C.left plan.old plan.new limit domain.now) W.taken out.old out.new explain result }
+    ensures wrote { Wrote
+        (IsRunOfProblem B.left problem.old problem.new C.left plan.old plan.new limit domain.now)
+        W.taken out.old out.new explain result }
     ensures reads_domain { reads_failed texts.Domain result ≡ 0 }
-    ensures reads_problem { B.failures problem.new ≡ B.failures problem.old + reads_failed texts.Problem result }
-    ensures reads_plan { C.failures plan.new ≡ C.failures plan.old + reads_failed texts.Plan result }
+    ensures reads_problem { B.failures problem.new
+        ≡ B.failures problem.old + reads_failed texts.Problem result }
+    ensures reads_plan { C.failures plan.new
+        ≡ C.failures plan.old + reads_failed texts.Plan result }
     ensures later_plan { 0 < reads_failed texts.Problem result → plan.new ≡ plan.old }
-    ensures halted { IfHalted (IsHaltOfProblem B.left problem.old problem.new C.left plan.old plan.new) result }
+    ensures halted { IfHalted
+        (IsHaltOfProblem B.left problem.old problem.new C.left plan.old plan.new) result }
     ensures writes { W.failures out.new ≡ W.failures out.old + writes_failed result }
 {
     match read_all(alloc, problem, MOST_BYTES) {
@@ -151,13 +161,14 @@ fn run_problem<B: Source, C: Source, W: Sink>(
     }
 }
 
-/// Reads a domain, a problem and a plan, in this order, judges them, and writes the verdict, whose kind it answers. A text
-/// that is too long is rejected at once. The readers behind one that failed or gave too much are left alone.
+/// Reads a domain, a problem and a plan, in this order, judges them, and writes the verdict, whose
+/// kind it answers. A text that is too long is rejected at once. The readers behind one that failed
+/// or gave too much are left alone.
 ///
 /// # Errors
 ///
-/// `Read` where a reader failed and `Memory` where a growth was refused: nothing was written then. `Write` where the writer failed
-/// or took no byte of a text that is not empty.
+/// `Read` where a reader failed and `Memory` where a growth was refused: nothing was written then.
+/// `Write` where the writer failed or took no byte of a text that is not empty.
 pub fn run<A: Source, B: Source, C: Source, W: Sink>(
     alloc: Global,
     domain: &mut A,
@@ -171,15 +182,24 @@ pub fn run<A: Source, B: Source, C: Source, W: Sink>(
     requires problem { B.failures problem.old < 2 ^ 64 - 1 }
     requires plan { C.failures plan.old < 2 ^ 64 - 1 }
     requires out { W.failures out.old < 2 ^ 64 - 1 }
-    ensures wrote { Wrote (IsRunOf A.left domain.old domain.new B.left problem.old problem.new C.left plan.old plan.new limit) W.taken out.old out.new explain result }
-    ensures reads_domain { A.failures domain.new ≡ A.failures domain.old + reads_failed texts.Domain result }
-    ensures reads_problem { B.failures problem.new ≡ B.failures problem.old + reads_failed texts.Problem result }
-    ensures reads_plan { C.failures plan.new ≡ C.failures plan.old + reads_failed texts.Plan result }
+    ensures wrote { Wrote
+        (IsRunOf A.left domain.old domain.new B.left problem.old problem.new
+        C.left plan.old plan.new limit)
+        W.taken out.old out.new explain result }
+    ensures reads_domain { A.failures domain.new
+        ≡ A.failures domain.old + reads_failed texts.Domain result }
+    ensures reads_problem { B.failures problem.new
+        ≡ B.failures problem.old + reads_failed texts.Problem result }
+    ensures reads_plan { C.failures plan.new
+        ≡ C.failures plan.old + reads_failed texts.Plan result }
     // where no verdict is given, each reader has moved on by what it gave
-    ensures halted { IfHalted (IsHaltOf A.left domain.old domain.new B.left problem.old problem.new C.left plan.old plan.new) result }
+    ensures halted { IfHalted
+        (IsHaltOf A.left domain.old domain.new B.left problem.old problem.new
+        C.left plan.old plan.new) result }
     // a reader behind one that failed is left alone
     ensures later_problem { 0 < reads_failed texts.Domain result → problem.new ≡ problem.old }
-    ensures later_plan { 0 < reads_failed texts.Domain result + reads_failed texts.Problem result → plan.new ≡ plan.old }
+    ensures later_plan { 0 < reads_failed texts.Domain result + reads_failed texts.Problem result
+        → plan.new ≡ plan.old }
     ensures writes { W.failures out.new ≡ W.failures out.old + writes_failed result }
 {
     match read_all(alloc, domain, MOST_BYTES) {

@@ -7,14 +7,16 @@ ghost use Rattle.hv_text.specs.Names.{text_of};
 ghost use Rattle.hv_text.specs.Io.{AppendsBeginning};
 ghost use Rattle.hv_judge.specs.Text.{line_text, place_text, ids_text, names_text, children_text, objects_text, choice_text, root_text, node_text, nodes_text, certificate_text, cause_text, fault_text, verdict_text, explanation, answer_text};
 
-use crate::answer::{Answer, Cause, Certificate, Choice, Fault, Place, Which};
+use crate::answer::{Answer, Cause, Fault, Place, Which};
+use hv_order::certificate::{Certificate, Choice};
 use hv_text::{Name, Sink, WriteFault, write_all, write_parts};
 use itoa::Buffer;
 
 fn write_line<W: Sink>(out: &mut W, line: u32) -> Result<(), WriteFault>
     requires { W.failures out.old < 2 ^ 64 - 1 }
     ensures ok { OnOk result (Appends (W.taken out.old) (W.taken out.new) (line_text (Some line))) }
-    ensures err { OnErr result (AppendsBeginning (W.taken out.old) (W.taken out.new) (line_text (Some line))) }
+    ensures err { OnErr result (AppendsBeginning (W.taken out.old) (W.taken out.new)
+        (line_text (Some line))) }
     ensures failures { W.failures out.new ≡ W.failures out.old + (if is_ok result then 0 else 1) }
 {
     let mut buffer = Buffer::new();
@@ -26,7 +28,8 @@ fn write_lower_part<W: Sink>(out: &mut W, bytes: &[u8]) -> Result<(), WriteFault
     requires few { length bytes.now ≤ 64 }
     requires failures { W.failures out.old < 2 ^ 64 - 1 }
     ensures ok { OnOk result (Appends (W.taken out.old) (W.taken out.new) (lower bytes.now)) }
-    ensures err { OnErr result (AppendsBeginning (W.taken out.old) (W.taken out.new) (lower bytes.now)) }
+    ensures err { OnErr result (AppendsBeginning (W.taken out.old) (W.taken out.new)
+        (lower bytes.now)) }
     ensures failures { W.failures out.new ≡ W.failures out.old + (if is_ok result then 0 else 1) }
 {
     let mut part = [0; 64];
@@ -40,7 +43,8 @@ fn write_lower_part<W: Sink>(out: &mut W, bytes: &[u8]) -> Result<(), WriteFault
 fn write_lower<W: Sink>(out: &mut W, bytes: &[u8]) -> Result<(), WriteFault>
     requires { W.failures out.old < 2 ^ 64 - 1 }
     ensures ok { OnOk result (Appends (W.taken out.old) (W.taken out.new) (lower bytes.now)) }
-    ensures err { OnErr result (AppendsBeginning (W.taken out.old) (W.taken out.new) (lower bytes.now)) }
+    ensures err { OnErr result (AppendsBeginning (W.taken out.old) (W.taken out.new)
+        (lower bytes.now)) }
     ensures failures { W.failures out.new ≡ W.failures out.old + (if is_ok result then 0 else 1) }
 {
     let mut at = 0;
@@ -54,8 +58,10 @@ fn write_lower<W: Sink>(out: &mut W, bytes: &[u8]) -> Result<(), WriteFault>
 
 fn write_name<W: Sink>(out: &mut W, name: &Name<'_>) -> Result<(), WriteFault>
     requires { W.failures out.old < 2 ^ 64 - 1 }
-    ensures ok { OnOk result (Appends (W.taken out.old) (W.taken out.new) (codes " " ++ text_of name.now)) }
-    ensures err { OnErr result (AppendsBeginning (W.taken out.old) (W.taken out.new) (codes " " ++ text_of name.now)) }
+    ensures ok { OnOk result (Appends (W.taken out.old) (W.taken out.new)
+        (codes " " ++ text_of name.now)) }
+    ensures err { OnErr result (AppendsBeginning (W.taken out.old) (W.taken out.new)
+        (codes " " ++ text_of name.now)) }
     ensures failures { W.failures out.new ≡ W.failures out.old + (if is_ok result then 0 else 1) }
 {
     write_all(out, b" ")?;
@@ -65,7 +71,8 @@ fn write_name<W: Sink>(out: &mut W, name: &Name<'_>) -> Result<(), WriteFault>
 fn write_ids<W: Sink>(out: &mut W, ids: &[u64]) -> Result<(), WriteFault>
     requires { W.failures out.old < 2 ^ 64 - 1 }
     ensures ok { OnOk result (Appends (W.taken out.old) (W.taken out.new) (ids_text ids.now)) }
-    ensures err { OnErr result (AppendsBeginning (W.taken out.old) (W.taken out.new) (ids_text ids.now)) }
+    ensures err { OnErr result (AppendsBeginning (W.taken out.old) (W.taken out.new)
+        (ids_text ids.now)) }
     ensures failures { W.failures out.new ≡ W.failures out.old + (if is_ok result then 0 else 1) }
 {
     for id in ids {
@@ -78,7 +85,8 @@ fn write_ids<W: Sink>(out: &mut W, ids: &[u64]) -> Result<(), WriteFault>
 fn write_names<W: Sink>(out: &mut W, names: &[Name<'_>]) -> Result<(), WriteFault>
     requires { W.failures out.old < 2 ^ 64 - 1 }
     ensures ok { OnOk result (Appends (W.taken out.old) (W.taken out.new) (names_text names.now)) }
-    ensures err { OnErr result (AppendsBeginning (W.taken out.old) (W.taken out.new) (names_text names.now)) }
+    ensures err { OnErr result (AppendsBeginning (W.taken out.old) (W.taken out.new)
+        (names_text names.now)) }
     ensures failures { W.failures out.new ≡ W.failures out.old + (if is_ok result then 0 else 1) }
 {
     for name in names {
@@ -89,8 +97,10 @@ fn write_names<W: Sink>(out: &mut W, names: &[Name<'_>]) -> Result<(), WriteFaul
 
 fn write_children<W: Sink>(out: &mut W, choice: &Choice<'_>) -> Result<(), WriteFault>
     requires { W.failures out.old < 2 ^ 64 - 1 }
-    ensures ok { OnOk result (Appends (W.taken out.old) (W.taken out.new) (children_text choice.now)) }
-    ensures err { OnErr result (AppendsBeginning (W.taken out.old) (W.taken out.new) (children_text choice.now)) }
+    ensures ok { OnOk result (Appends (W.taken out.old) (W.taken out.new)
+        (children_text choice.now)) }
+    ensures err { OnErr result (AppendsBeginning (W.taken out.old) (W.taken out.new)
+        (children_text choice.now)) }
     ensures failures { W.failures out.new ≡ W.failures out.old + (if is_ok result then 0 else 1) }
 {
     write_all(out, b" children")?;
@@ -99,8 +109,10 @@ fn write_children<W: Sink>(out: &mut W, choice: &Choice<'_>) -> Result<(), Write
 
 fn write_objects<W: Sink>(out: &mut W, choice: &Choice<'_>) -> Result<(), WriteFault>
     requires { W.failures out.old < 2 ^ 64 - 1 }
-    ensures ok { OnOk result (Appends (W.taken out.old) (W.taken out.new) (objects_text choice.now)) }
-    ensures err { OnErr result (AppendsBeginning (W.taken out.old) (W.taken out.new) (objects_text choice.now)) }
+    ensures ok { OnOk result (Appends (W.taken out.old) (W.taken out.new)
+        (objects_text choice.now)) }
+    ensures err { OnErr result (AppendsBeginning (W.taken out.old) (W.taken out.new)
+        (objects_text choice.now)) }
     ensures failures { W.failures out.new ≡ W.failures out.old + (if is_ok result then 0 else 1) }
 {
     write_all(out, b" objects")?;
@@ -109,8 +121,10 @@ fn write_objects<W: Sink>(out: &mut W, choice: &Choice<'_>) -> Result<(), WriteF
 
 fn write_choice<W: Sink>(out: &mut W, choice: &Choice<'_>) -> Result<(), WriteFault>
     requires { W.failures out.old < 2 ^ 64 - 1 }
-    ensures ok { OnOk result (Appends (W.taken out.old) (W.taken out.new) (choice_text choice.now)) }
-    ensures err { OnErr result (AppendsBeginning (W.taken out.old) (W.taken out.new) (choice_text choice.now)) }
+    ensures ok { OnOk result (Appends (W.taken out.old) (W.taken out.new)
+        (choice_text choice.now)) }
+    ensures err { OnErr result (AppendsBeginning (W.taken out.old) (W.taken out.new)
+        (choice_text choice.now)) }
     ensures failures { W.failures out.new ≡ W.failures out.old + (if is_ok result then 0 else 1) }
 {
     write_children(out, choice)?;
@@ -123,8 +137,10 @@ fn write_named_choice<W: Sink>(
     choice: &Choice<'_>,
 ) -> Result<(), WriteFault>
     requires { W.failures out.old < 2 ^ 64 - 1 }
-    ensures ok { OnOk result (Appends (W.taken out.old) (W.taken out.new) (name.now ++ choice_text choice.now)) }
-    ensures err { OnErr result (AppendsBeginning (W.taken out.old) (W.taken out.new) (name.now ++ choice_text choice.now)) }
+    ensures ok { OnOk result (Appends (W.taken out.old) (W.taken out.new)
+        (name.now ++ choice_text choice.now)) }
+    ensures err { OnErr result (AppendsBeginning (W.taken out.old) (W.taken out.new)
+        (name.now ++ choice_text choice.now)) }
     ensures failures { W.failures out.new ≡ W.failures out.old + (if is_ok result then 0 else 1) }
 {
     write_all(out, name)?;
@@ -134,7 +150,8 @@ fn write_named_choice<W: Sink>(
 fn write_root<W: Sink>(out: &mut W, root: &Choice<'_>) -> Result<(), WriteFault>
     requires { W.failures out.old < 2 ^ 64 - 1 }
     ensures ok { OnOk result (Appends (W.taken out.old) (W.taken out.new) (root_text root.now)) }
-    ensures err { OnErr result (AppendsBeginning (W.taken out.old) (W.taken out.new) (root_text root.now)) }
+    ensures err { OnErr result (AppendsBeginning (W.taken out.old) (W.taken out.new)
+        (root_text root.now)) }
     ensures failures { W.failures out.new ≡ W.failures out.old + (if is_ok result then 0 else 1) }
 {
     write_named_choice(out, b"root", root)?;
@@ -144,7 +161,8 @@ fn write_root<W: Sink>(out: &mut W, root: &Choice<'_>) -> Result<(), WriteFault>
 fn write_node<W: Sink>(out: &mut W, node: &(u64, Choice<'_>, u32)) -> Result<(), WriteFault>
     requires { W.failures out.old < 2 ^ 64 - 1 }
     ensures ok { OnOk result (Appends (W.taken out.old) (W.taken out.new) (node_text node.now)) }
-    ensures err { OnErr result (AppendsBeginning (W.taken out.old) (W.taken out.new) (node_text node.now)) }
+    ensures err { OnErr result (AppendsBeginning (W.taken out.old) (W.taken out.new)
+        (node_text node.now)) }
     ensures failures { W.failures out.new ≡ W.failures out.old + (if is_ok result then 0 else 1) }
 {
     let mut id = Buffer::new();
@@ -156,7 +174,8 @@ fn write_node<W: Sink>(out: &mut W, node: &(u64, Choice<'_>, u32)) -> Result<(),
 fn write_nodes<W: Sink>(out: &mut W, nodes: &[(u64, Choice<'_>, u32)]) -> Result<(), WriteFault>
     requires { W.failures out.old < 2 ^ 64 - 1 }
     ensures ok { OnOk result (Appends (W.taken out.old) (W.taken out.new) (nodes_text nodes.now)) }
-    ensures err { OnErr result (AppendsBeginning (W.taken out.old) (W.taken out.new) (nodes_text nodes.now)) }
+    ensures err { OnErr result (AppendsBeginning (W.taken out.old) (W.taken out.new)
+        (nodes_text nodes.now)) }
     ensures failures { W.failures out.new ≡ W.failures out.old + (if is_ok result then 0 else 1) }
 {
     for node in nodes {
@@ -167,8 +186,10 @@ fn write_nodes<W: Sink>(out: &mut W, nodes: &[(u64, Choice<'_>, u32)]) -> Result
 
 fn write_certificate<W: Sink>(out: &mut W, certificate: &Certificate<'_>) -> Result<(), WriteFault>
     requires { W.failures out.old < 2 ^ 64 - 1 }
-    ensures ok { OnOk result (Appends (W.taken out.old) (W.taken out.new) (certificate_text certificate.now)) }
-    ensures err { OnErr result (AppendsBeginning (W.taken out.old) (W.taken out.new) (certificate_text certificate.now)) }
+    ensures ok { OnOk result (Appends (W.taken out.old) (W.taken out.new)
+        (certificate_text certificate.now)) }
+    ensures err { OnErr result (AppendsBeginning (W.taken out.old) (W.taken out.new)
+        (certificate_text certificate.now)) }
     ensures failures { W.failures out.new ≡ W.failures out.old + (if is_ok result then 0 else 1) }
 {
     write_root(out, &certificate.root)?;
@@ -178,7 +199,8 @@ fn write_certificate<W: Sink>(out: &mut W, certificate: &Certificate<'_>) -> Res
 fn write_cause<W: Sink>(out: &mut W, cause: Cause) -> Result<(), WriteFault>
     requires { W.failures out.old < 2 ^ 64 - 1 }
     ensures ok { OnOk result (Appends (W.taken out.old) (W.taken out.new) (cause_text cause)) }
-    ensures err { OnErr result (AppendsBeginning (W.taken out.old) (W.taken out.new) (cause_text cause)) }
+    ensures err { OnErr result (AppendsBeginning (W.taken out.old) (W.taken out.new)
+        (cause_text cause)) }
     ensures failures { W.failures out.new ≡ W.failures out.old + (if is_ok result then 0 else 1) }
 {
     let mut number = Buffer::new();
@@ -196,7 +218,8 @@ fn write_cause<W: Sink>(out: &mut W, cause: Cause) -> Result<(), WriteFault>
 fn write_place<W: Sink>(out: &mut W, place: Place) -> Result<(), WriteFault>
     requires { W.failures out.old < 2 ^ 64 - 1 }
     ensures ok { OnOk result (Appends (W.taken out.old) (W.taken out.new) (place_text place)) }
-    ensures err { OnErr result (AppendsBeginning (W.taken out.old) (W.taken out.new) (place_text place)) }
+    ensures err { OnErr result (AppendsBeginning (W.taken out.old) (W.taken out.new)
+        (place_text place)) }
     ensures failures { W.failures out.new ≡ W.failures out.old + (if is_ok result then 0 else 1) }
 {
     match place {
@@ -214,8 +237,10 @@ fn write_place<W: Sink>(out: &mut W, place: Place) -> Result<(), WriteFault>
 
 fn write_fault<W: Sink>(out: &mut W, which: Which, fault: Fault) -> Result<(), WriteFault>
     requires { W.failures out.old < 2 ^ 64 - 1 }
-    ensures ok { OnOk result (Appends (W.taken out.old) (W.taken out.new) (fault_text which fault)) }
-    ensures err { OnErr result (AppendsBeginning (W.taken out.old) (W.taken out.new) (fault_text which fault)) }
+    ensures ok { OnOk result (Appends (W.taken out.old) (W.taken out.new)
+        (fault_text which fault)) }
+    ensures err { OnErr result (AppendsBeginning (W.taken out.old) (W.taken out.new)
+        (fault_text which fault)) }
     ensures failures { W.failures out.new ≡ W.failures out.old + (if is_ok result then 0 else 1) }
 {
     let mut number = Buffer::new();
@@ -237,8 +262,10 @@ fn write_fault<W: Sink>(out: &mut W, which: Which, fault: Fault) -> Result<(), W
 
 fn write_verdict<W: Sink>(out: &mut W, answer: &Answer<'_>) -> Result<(), WriteFault>
     requires { W.failures out.old < 2 ^ 64 - 1 }
-    ensures ok { OnOk result (Appends (W.taken out.old) (W.taken out.new) (verdict_text answer.now)) }
-    ensures err { OnErr result (AppendsBeginning (W.taken out.old) (W.taken out.new) (verdict_text answer.now)) }
+    ensures ok { OnOk result (Appends (W.taken out.old) (W.taken out.new)
+        (verdict_text answer.now)) }
+    ensures err { OnErr result (AppendsBeginning (W.taken out.old) (W.taken out.new)
+        (verdict_text answer.now)) }
     ensures failures { W.failures out.new ≡ W.failures out.old + (if is_ok result then 0 else 1) }
 {
     match answer {
@@ -254,8 +281,10 @@ fn write_verdict<W: Sink>(out: &mut W, answer: &Answer<'_>) -> Result<(), WriteF
 
 fn write_first_line<W: Sink>(out: &mut W, answer: &Answer<'_>) -> Result<(), WriteFault>
     requires { W.failures out.old < 2 ^ 64 - 1 }
-    ensures ok { OnOk result (Appends (W.taken out.old) (W.taken out.new) (verdict_text answer.now ++ codes "\n")) }
-    ensures err { OnErr result (AppendsBeginning (W.taken out.old) (W.taken out.new) (verdict_text answer.now ++ codes "\n")) }
+    ensures ok { OnOk result (Appends (W.taken out.old) (W.taken out.new)
+        (verdict_text answer.now ++ codes "\n")) }
+    ensures err { OnErr result (AppendsBeginning (W.taken out.old) (W.taken out.new)
+        (verdict_text answer.now ++ codes "\n")) }
     ensures failures { W.failures out.new ≡ W.failures out.old + (if is_ok result then 0 else 1) }
 {
     write_verdict(out, answer)?;
@@ -268,8 +297,10 @@ fn write_explanation<W: Sink>(
     explain: bool,
 ) -> Result<(), WriteFault>
     requires { W.failures out.old < 2 ^ 64 - 1 }
-    ensures ok { OnOk result (Appends (W.taken out.old) (W.taken out.new) (explanation answer.now explain)) }
-    ensures err { OnErr result (AppendsBeginning (W.taken out.old) (W.taken out.new) (explanation answer.now explain)) }
+    ensures ok { OnOk result (Appends (W.taken out.old) (W.taken out.new)
+        (explanation answer.now explain)) }
+    ensures err { OnErr result (AppendsBeginning (W.taken out.old) (W.taken out.new)
+        (explanation answer.now explain)) }
     ensures failures { W.failures out.new ≡ W.failures out.old + (if is_ok result then 0 else 1) }
 {
     let Answer::Solves(certificate) = answer else {
@@ -281,16 +312,19 @@ fn write_explanation<W: Sink>(
     write_certificate(out, certificate)
 }
 
-/// Writes the text of an answer: one line, and where a plan solves its problem and `explain` is asked for, a line for `root`
-/// and one for each decomposition line. Where a write fails, a beginning of that text was written. No memory is taken.
+/// Writes the text of an answer: one line, and where a plan solves its problem and `explain` is
+/// asked for, a line for `root` and one for each decomposition line. Where a write fails, a
+/// beginning of that text was written. No memory is taken.
 pub fn write_answer<W: Sink>(
     answer: &Answer<'_>,
     explain: bool,
     out: &mut W,
 ) -> Result<(), WriteFault>
     requires { W.failures out.old < 2 ^ 64 - 1 }
-    ensures ok { OnOk result (Appends (W.taken out.old) (W.taken out.new) (answer_text answer.now explain)) }
-    ensures err { OnErr result (AppendsBeginning (W.taken out.old) (W.taken out.new) (answer_text answer.now explain)) }
+    ensures ok { OnOk result (Appends (W.taken out.old) (W.taken out.new)
+        (answer_text answer.now explain)) }
+    ensures err { OnErr result (AppendsBeginning (W.taken out.old) (W.taken out.new)
+        (answer_text answer.now explain)) }
     ensures failures { W.failures out.new ≡ W.failures out.old + (if is_ok result then 0 else 1) }
 {
     write_first_line(out, answer)?;

@@ -1,9 +1,13 @@
-//! The tests of the judge, which call its public items alone. Beside the tests there is nothing here.
+//! The tests of the judge that its worked texts do not hold: readers and writers that falter, a long
+//! chain, and texts that are printed anew. They call its public items alone; beside them there is
+//! nothing here.
 #![tactic(auto)]
 
 #[cfg(test)]
-mod flat;
+mod chain;
+#[cfg(test)]
+mod faltering;
+#[cfg(test)]
+mod judged;
 #[cfg(test)]
 mod printing;
-#[cfg(test)]
-mod verdicts;

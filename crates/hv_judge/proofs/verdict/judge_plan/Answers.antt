@@ -1,0 +1,86 @@
+use Rattle.std.proofs.Common.{◌<◌, subst}
+use Rattle.std.proofs.lemmas.Result.{err_from_is_err_and}
+use Rattle.hv_world.specs.WorldViews.{world_view}
+use Rattle.hv_state.specs.Plans as states
+use Rattle.hv_state.specs.Plans.{IsStop}
+use Rattle.hv_plan.specs.BuiltTrees.{tree_view}
+use Rattle.hv_plan.specs.LineViews.{plan_view}
+use Rattle.hv_plan.specs.PlanTrees.{IsActionOf}
+use Rattle.hv_plan.proofs.FitLemmas.{same_length}
+use Rattle.hv_judge.specs.Causes.{IsFirstAbove, IsWithinLimit}
+use Rattle.hv_judge.proofs.VerdictLemmas.{has_tree, no_tree, no_run, no_goal, reaches_goal, solved, not_solved}
+use Rattle.hv_judge.proofs.verdict.judge_plan.Goals as goal
+use Rattle.hv_world.specs.Bindings.{ground_actions_view}
+
+pub returns-in_err-tree-clause-err : goal.returns-in_err-tree-clause-err
+returns-in_err-tree-clause-err c =
+    let p = err_from_is_err_and c.from_residual.result c.from_residual.ensures.1 in
+    rw (p.1, p.2)
+    (no_tree (world_view c.args.world.now) (plan_view c.args.plan.now) c.args.limit
+    c.in_err-tree.field-0.0 c.in_err-tree.ensures.err)
+
+pub returns-in-Err-clause-err : goal.returns-in-Err-clause-err
+returns-in-Err-clause-err c =
+    let w = world_view c.args.world.now in
+    let q = plan_view c.args.plan.now in
+    let t = tree_view c.in_ok-tree.tree in
+    rw (c.stopped.ensures, c.actions-in-Err.ensures)
+    (no_run w q t c.args.limit c.in-Err.stop (has_tree w q t c.in_ok-tree.ensures.ok)
+    (subst (λ gs. IsStop (states.plan w gs) c.in-Err.stop) c.actions.ensures c.in-Err.ensures.stop))
+
+pub returns-then-not-goal_holds-clause-err : goal.returns-then-not-goal_holds-clause-err
+returns-then-not-goal_holds-clause-err c =
+    let w = world_view c.args.world.now in
+    let q = plan_view c.args.plan.now in
+    let t = tree_view c.in_ok-tree.tree in
+    rw c.nowhere.ensures
+    (no_goal w q t c.args.limit c.in-Ok.trace (ground_actions_view c.actions.result.now)
+    (has_tree w q t c.in_ok-tree.ensures.ok) c.actions.ensures c.in-Ok.ensures.plan
+    c.in-Ok.ensures.ran c.goal_holds.result c.goal_holds.ensures c.if-not-goal_holds.true)
+
+pub returns-in-Some-clause-err : goal.returns-in-Some-clause-err
+returns-in-Some-clause-err c =
+    let w = world_view c.args.world.now in
+    let q = plan_view c.args.plan.now in
+    let t = tree_view c.in_ok-tree.tree in (
+      t,
+      reaches_goal w q t c.args.limit c.in-Ok.trace (ground_actions_view c.actions.result.now)
+          (has_tree w q t c.in_ok-tree.ensures.ok) c.actions.ensures c.in-Ok.ensures.plan
+          c.in-Ok.ensures.ran c.goal_holds.result c.goal_holds.ensures c.if-not-goal_holds.false,
+      subst (λ v. IsFirstAbove v t c.args.limit c.in-Some.line) c.in_ok-matcher.ensures
+          c.in-Some.ensures,
+    )
+
+pub certificate-requires-clause-small : goal.certificate-requires-clause-small
+certificate-requires-clause-small c =
+    let w = world_view c.args.world.now in
+    let q = plan_view c.args.plan.now in
+    let t = tree_view c.in_ok-tree.tree in
+    subst (λ n. n < 4294967295)
+    (same_length (IsActionOf w) q.actions t.actions
+    (has_tree w q t c.in_ok-tree.ensures.ok).is_tree.actions)
+    c.requires.small
+
+pub returns-clause-ok : goal.returns-clause-ok
+returns-clause-ok c =
+    let w = world_view c.args.world.now in
+    let q = plan_view c.args.plan.now in
+    let t = tree_view c.in_ok-tree.tree in
+    solved w q t c.args.limit
+    (reaches_goal w q t c.args.limit c.in-Ok.trace (ground_actions_view c.actions.result.now)
+    (has_tree w q t c.in_ok-tree.ensures.ok) c.actions.ensures c.in-Ok.ensures.plan
+    c.in-Ok.ensures.ran c.goal_holds.result c.goal_holds.ensures c.if-not-goal_holds.false)
+    (subst (λ v. IsWithinLimit v t c.args.limit) c.in_ok-matcher.ensures c.in_default.ensures)
+    c.certificate.result c.certificate.ensures.ok
+
+pub returns-clause-err : goal.returns-clause-err
+returns-clause-err c =
+    let w = world_view c.args.world.now in
+    let q = plan_view c.args.plan.now in
+    let t = tree_view c.in_ok-tree.tree in
+    not_solved w q t c.args.limit
+    (reaches_goal w q t c.args.limit c.in-Ok.trace (ground_actions_view c.actions.result.now)
+    (has_tree w q t c.in_ok-tree.ensures.ok) c.actions.ensures c.in-Ok.ensures.plan
+    c.in-Ok.ensures.ran c.goal_holds.result c.goal_holds.ensures c.if-not-goal_holds.false)
+    (subst (λ v. IsWithinLimit v t c.args.limit) c.in_ok-matcher.ensures c.in_default.ensures)
+    c.certificate.result c.certificate.ensures.err

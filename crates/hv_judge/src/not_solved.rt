@@ -1,0 +1,88 @@
+//! What the judge answers where it finds no certificate.
+
+ghost use Rattle.std.specs.Prelude.{◌≡◌, IfOk};
+ghost use Rattle.hv_judge.specs.inside.Ends.{IsAnswerOf};
+
+use crate::answer::{Answer, Cause, CauseKind, Fault, Which};
+use crate::rejection::reported_plan;
+use hv_order::solution::RowFault;
+use hv_plan::{PlanFault, TreeFault};
+use hv_text::Memory;
+
+/// Why it is not said that a plan solves its problem.
+#[derive(Clone, Copy, Debug, PartialEq, Eq)]
+pub(crate) enum NotSolved {
+    /// One of the texts is rejected.
+    Rejected(Which, Fault),
+    /// The plan fails.
+    Fails(Cause),
+    /// The node on this line has more choices than the limit.
+    Undecided(u32),
+    /// A growth of memory was refused.
+    Memory,
+}
+
+impl NotSolved {
+    /// The answer, which there is unless a growth was refused.
+    pub(crate) fn answer<'s>(self) -> Result<Answer<'s>, Memory>
+        ensures { IfOk result (IsAnswerOf self) }
+    {
+        match self {
+            NotSolved::Rejected(which, fault) => Ok(Answer::Rejected(which, fault)),
+            NotSolved::Fails(cause) => Ok(Answer::Fails(cause)),
+            NotSolved::Undecided(line) => Ok(Answer::Undecided(line)),
+            NotSolved::Memory => Err(Memory),
+        }
+    }
+}
+
+impl From<Memory> for NotSolved {
+    ghost use Rattle.hv_judge.specs.declared.not_solved.NotSolved.TheVariants as ends;
+
+    ghost from_gives = { λ _ e. e ≡ ends.Memory };
+
+    fn from(_refused: Memory) -> NotSolved {
+        NotSolved::Memory
+    }
+}
+
+impl From<PlanFault> for NotSolved {
+    ghost use Rattle.hv_judge.specs.inside.Ends.{plan_end};
+
+    ghost from_gives = { λ f e. e ≡ plan_end f };
+
+    fn from(fault: PlanFault) -> NotSolved {
+        match reported_plan(fault) {
+            Some(fault) => NotSolved::Rejected(Which::Plan, fault),
+            None => NotSolved::Memory,
+        }
+    }
+}
+
+impl From<TreeFault> for NotSolved {
+    ghost use Rattle.hv_judge.specs.inside.Ends.{tree_end};
+
+    ghost from_gives = { λ f e. e ≡ tree_end f };
+
+    fn from(fault: TreeFault) -> NotSolved {
+        match fault {
+            TreeFault::Cause(cause) => {
+                NotSolved::Fails(Cause::at(CauseKind::Tree(cause.kind), cause.line))
+            }
+            TreeFault::Memory => NotSolved::Memory,
+        }
+    }
+}
+
+impl From<RowFault> for NotSolved {
+    ghost use Rattle.hv_judge.specs.inside.Ends.{row_end};
+
+    ghost from_gives = { λ f e. e ≡ row_end f };
+
+    fn from(fault: RowFault) -> NotSolved {
+        match fault {
+            RowFault::NoBinding(line) => NotSolved::Fails(Cause::at(CauseKind::NoBinding, line)),
+            RowFault::Memory => NotSolved::Memory,
+        }
+    }
+}
