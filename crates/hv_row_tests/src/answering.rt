@@ -1,0 +1,70 @@
+//! Answers to rows.
+
+use crate::command::{Command, Options};
+use anyhow::Result;
+use hv_judge::{Kind, Printed, Which, run, run_print};
+use hv_text::{FromMemory, ToMemory};
+use std::alloc::Global;
+
+// How a plan is judged, in a word.
+fn judged(kind: Kind) -> &'static str {
+    match kind {
+        Kind::Solves => "solves",
+        Kind::Fails => "fails",
+        Kind::Undecided => "undecided",
+        Kind::Rejected => "rejected",
+    }
+}
+
+// How a text is printed, in a word.
+fn printed(printed: Printed) -> &'static str {
+    match printed {
+        Printed::Done => "printed",
+        Printed::Rejected => "rejected",
+    }
+}
+
+// Judges a plan, and says in a word how that ended, and what was written.
+fn judge_texts(
+    alloc: Global,
+    domain: &[u8],
+    problem: &[u8],
+    plan: &[u8],
+    options: Options,
+) -> Result<(&'static str, String)> {
+    let mut out = ToMemory::new(alloc);
+    let kind = run(
+        alloc,
+        &mut FromMemory::new(domain),
+        &mut FromMemory::new(problem),
+        &mut FromMemory::new(plan),
+        options.limit,
+        options.explain,
+        &mut out,
+    )?;
+    Ok((judged(kind), String::from_utf8_lossy(alloc, out.written())?))
+}
+
+// Prints a text, and says the same.
+fn print_text(alloc: Global, which: Which, text: &[u8]) -> Result<(&'static str, String)> {
+    let mut out = ToMemory::new(alloc);
+    let end = run_print(alloc, which, &mut FromMemory::new(text), &mut out)?;
+    Ok((printed(end), String::from_utf8_lossy(alloc, out.written())?))
+}
+
+/// Does what a row asks for, and says in a word how that ended, and what was written.
+///
+/// # Errors
+///
+/// A growth of memory was refused.
+pub fn answer(alloc: Global, command: &Command<'_>) -> Result<(&'static str, String)> {
+    match *command {
+        Command::Judge {
+            domain,
+            problem,
+            plan,
+            options,
+        } => judge_texts(alloc, domain, problem, plan, options),
+        Command::Print(which, text) => print_text(alloc, which, text),
+    }
+}
