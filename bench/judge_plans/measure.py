@@ -17,4 +17,4 @@ for _ in range(5):
     best = spent if best is None or spent < best else best
     peak = max(peak, usage.ru_maxrss)
 size = sum(os.path.getsize(f"{folder}/{f}") for f in ("domain.hddl", "problem.hddl", "plan.txt"))
-print(f"{name:>8} actions, {size:>9} bytes: {best * 1000:8.1f} ms, {peak / 1024:7.1f} MiB, {said!r}")
+print(f"{name:>18}, {size:>9} bytes: {best * 1000:8.1f} ms, {peak / 1024:7.1f} MiB, {said!r}")
