@@ -9,7 +9,6 @@ mod nodes;
 mod numbers;
 mod places;
 mod repeats;
-mod seed;
 mod walk;
 
 ghost use Rattle.std.specs.Prelude.{◌≡◌, ℕ, ◌+◌, None, map, length, Contains, IfOk, IfErr, OnOk};
@@ -23,15 +22,15 @@ ghost use Rattle.hv_plan.specs.inside.Shaping.{line_unless, IsFirst, IsMissed, I
 ghost use Rattle.hv_plan.specs.declared.cause.CauseKind.TheVariants as kinds;
 
 use crate::cause::{Cause, CauseKind, TreeFault};
+use crate::id_table::Seeded;
 use crate::plan::PlanText;
 use begins::{line_count, line_numbers};
 use hv_text::{Lists, Memory};
 use indexmap::IndexSet;
 pub(crate) use nodes::Shape;
 use numbers::{node_children, number_met, short};
-use places::{child_places, id_table, places_of, unknown_child};
+use places::{child_places, line_table, places_of, unknown_child};
 use repeats::{earlier, repeated_id, second_parent};
-use seed::Seeded;
 use std::alloc::Global;
 use walk::walk_from;
 
@@ -109,7 +108,7 @@ fn known_places(alloc: Global, plan: &PlanText<'_>, second: Option<u32>) -> Resu
     ensures none { OnOk result (NoneBelow (plan_view plan.now) 53) }
     ensures err { IfErr result (IsFormFault (plan_view plan.now)) }
 {
-    let table = id_table(alloc, plan)?;
+    let table = line_table(alloc, plan)?;
     check_children(alloc, plan, &table, second)?;
     let below = places_below(alloc, plan, &table)?;
     Ok(below)

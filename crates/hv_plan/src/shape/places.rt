@@ -8,31 +8,22 @@ ghost use Rattle.hv_plan.specs.inside.Shaping.{place_of, is_known, IsFirst, IsMi
 
 use super::begins::{children, line_ids};
 use super::repeats::earlier;
-use super::seed::Seeded;
+use crate::id_table::{Seeded, place_in, table_of_ids};
 use crate::plan::{DecompositionLines, PlanText};
 use hv_text::{Lists, Memory};
 use indexmap::IndexSet;
 use std::alloc::Global;
 
-// The table of ids, each with its place.
-fn table(alloc: Global, ids: &[u64]) -> Result<IndexSet<u64, Seeded>, Memory>
-    requires { Once ids.now }
-    ensures { IfOk result (λ t. t.keys ≡ ids.now) }
-{
-    let mut table = IndexSet::with_capacity_and_hasher(alloc, ids.len(), Seeded::of(ids))?;
-    for id in ids {
-        table.insert(*id)?;
-    }
-    Ok(table)
-}
-
 /// The table of the ids that begin lines, each with the place of its line.
-pub(super) fn id_table(alloc: Global, plan: &PlanText<'_>) -> Result<IndexSet<u64, Seeded>, Memory>
+pub(super) fn line_table(
+    alloc: Global,
+    plan: &PlanText<'_>,
+) -> Result<IndexSet<u64, Seeded>, Memory>
     requires { Once (ids (plan_view plan.now)) }
     ensures { IfOk result (λ t. t.keys ≡ ids (plan_view plan.now)) }
 {
     let ids = line_ids(alloc, plan)?;
-    let table = table(alloc, &ids)?;
+    let table = table_of_ids(alloc, &ids)?;
     Ok(table)
 }
 
@@ -62,16 +53,6 @@ pub(super) fn unknown_child(
     Ok(unknown_id(table, &children.ids, &children.lines))
 }
 
-// The place of an id; that behind the last where it has none.
-fn place_of(table: &IndexSet<u64, Seeded>, id: u64) -> usize
-    ensures { result ≡ place_of table.now.keys id }
-{
-    match table.get_index_of(&id) {
-        Some(place) => place,
-        None => table.len(),
-    }
-}
-
 /// The places of ids.
 pub(super) fn places_of(
     alloc: Global,
@@ -82,7 +63,7 @@ pub(super) fn places_of(
 {
     let mut places = Vec::with_capacity(alloc, ids.len())?;
     for id in ids {
-        places.push(place_of(table, *id))?;
+        places.push(place_in(table, *id))?;
     }
     Ok(places)
 }

@@ -8,7 +8,7 @@ ghost use Rattle.hv_plan.specs.Shapes.{ids, all_children};
 ghost use Rattle.hv_plan.specs.inside.Shaping.{first_of, again_of, earlier, IsFirst, IsRepeat, lines_of_heads, lines_of_children};
 
 use super::begins::{begins, children};
-use super::seed::Seeded;
+use crate::id_table::Seeded;
 use crate::plan::PlanText;
 use hv_text::Memory;
 use indexmap::IndexMap;

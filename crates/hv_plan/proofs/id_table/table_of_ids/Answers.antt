@@ -1,6 +1,6 @@
 use Rattle.std.proofs.Common.{refl}
 use Rattle.hv_plan.proofs.ShapePlaces.{table_next}
-use Rattle.hv_plan.proofs.shape.places.table.Goals as goal
+use Rattle.hv_plan.proofs.id_table.table_of_ids.Goals as goal
 
 pub loop-id-preserved : goal.loop-id-preserved
 loop-id-preserved c =
