@@ -96,7 +96,7 @@ module _ (t : Tree) (tree : IsTree t) (o : Choice) (at at' : ℕ → ℕ) (same 
   same_ends (Task k) r = refl
   same_ends (Pre k) r = same k (line_of_pre t tree k r)
 
-  same_schedule : (s f : ℕ) → IsSchedule t o at' s f → IsSchedule t o at s f
+  pub same_schedule : (s f : ℕ) → IsSchedule t o at' s f → IsSchedule t o at s f
   same_schedule s f w = record {
     holds = λ v r. subst (λ k. (o.line v).true_at k ≡ true) (same v r) (w.holds v r);
     from = λ x i r. let e = w.from x i r in rw (← same_begins x r) e;

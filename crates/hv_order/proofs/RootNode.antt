@@ -45,7 +45,7 @@ module _ (q : Setting) (is : IsSetting q) where
   none_true B k = let P : Formula → Type 0 = λ f. True q.plan.world.typing (StateAt q.plan k) f B in subst P (sym is.top) tt
 
   -- its precondition is true in each state
-  always : (c : Meaning) → IsMeaning q (root_number q.tree) c → (k : ℕ) → c.true_at k ≡ true
+  pub always : (c : Meaning) → IsMeaning q (root_number q.tree) c → (k : ℕ) → c.true_at k ≡ true
   always c w k =
       let a = w.amounts in
       let top = its_method a.node a.method (no_method a.node a.has_node) a.has_method in

@@ -17,3 +17,4 @@ pub mod Chosen
 pub mod PlanFacts
 pub mod Listers
 pub mod PlanNodes
+pub mod Checks

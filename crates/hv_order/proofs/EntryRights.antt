@@ -1,0 +1,197 @@
+-- What is said of a node is right exactly where its places and objects are a candidate, and the
+-- precondition is true.
+use Rattle.std.proofs.Common.{◌≡◌, ℕ, zero, suc, ◌+◌, ◌<◌, ◌⊎◌, inl, inr, Bool, true, false, List, [], ◌∷◌, ◌++◌, Option, Some, None, length, map, slice_get, refl, sym, ap, ◌∙◌, subst, arith, All, length-append}
+use Rattle.std.specs.Prelude.{slice_index}
+use Rattle.std.specs.List.{AllZip}
+use Rattle.std.specs.Global.{Vec}
+use Rattle.std.proofs.lemmas.Option.{slice_get_within}
+use Rattle.std.proofs.lemmas.List.Elements.{All-head, All-tail, All-nil, All-cons}
+use Rattle.std.proofs.lemmas.List.{length-map}
+use Rattle.hv_world.specs.Bindings.{object_number}
+use Rattle.hv_world.specs.Bounds.{IsSound}
+use Rattle.hv_world.specs.Worlds.{World}
+use Rattle.hv_world.specs.declared.id.ObjectId.{ObjectId}
+use Rattle.hv_state.specs.Plans as states
+use Rattle.hv_plan.specs.Trees.{Item}
+use Rattle.hv_plan.specs.PlanTrees.{Node, PlanTree, IsTreeIn}
+use Rattle.hv_match.specs.Candidates.{Tells, IsCandidateAt, child_task}
+use Rattle.hv_order.specs.Settings.{Setting, setting, HoldsAt}
+use Rattle.hv_order.specs.Certified.{IsChildId, IsNameOf, line_numbers}
+use Rattle.hv_order.specs.inside.PlanFacts.{OfMethod}
+use Rattle.hv_order.specs.inside.Writings.{HasId}
+use Rattle.hv_order.specs.inside.Checks.{AreObjectsOf, IsPlaceOf, ArePlacesOf, AreNamed, IsPart, HasIdOf, HasLines, ArePlaces, IsRight, IsEntryFor, IsEntryOf, AreEntries, HasEntries, binding_of}
+use Rattle.hv_order.specs.declared.certificate.Choice.{Choice}
+use Rattle.hv_order.specs.declared.certificate.Certificate.{Certificate}
+use Rattle.hv_order.specs.declared.entries.Entry.{Entry}
+use Rattle.hv_order.proofs.Checked.{told_no}
+use Rattle.hv_order.proofs.EntryLemmas.{count_lines}
+use Rattle.hv_order.proofs.NodeParts.{candidate_here, zip_length}
+use Rattle.hv_order.proofs.ToldApart.{one_object, same_firsts}
+use Rattle.hv_order.proofs.TreeLines.{child_has_id}
+
+same_two : {A B : Type 0} (R S : A → B → Type 0) (xs ys : List A) (zs : List B) → ((x y : A) (z : B) → R x z → S y z → x ≡ y)
+    → AllZip R xs zs → AllZip S ys zs → xs ≡ ys
+same_two R S [] [] zs one r s = refl
+same_two R S [] (y ∷ ys) [] one r s = absurd s
+same_two R S [] (y ∷ ys) (z ∷ zs) one r s = absurd r
+same_two R S (x ∷ xs) [] [] one r s = absurd r
+same_two R S (x ∷ xs) [] (z ∷ zs) one r s = absurd s
+same_two R S (x ∷ xs) (y ∷ ys) [] one r s = absurd r
+same_two R S (x ∷ xs) (y ∷ ys) (z ∷ zs) one r s =
+    let first : x ≡ y = one x y z r.0 s.0 in
+    let rest : xs ≡ ys = same_two R S xs ys zs one r.1 s.1 in
+    cc
+
+zip_within : {B : Type 0} (P : ℕ → Type 0) (R S : ℕ → B → Type 0) (xs : List ℕ) (zs : List B) → ((x : ℕ) (z : B) → P x → R x z → S x z) → All P xs → AllZip R xs zs → AllZip S xs zs
+zip_within P R S [] [] by all zip = tt
+zip_within P R S [] (z ∷ zs) by all zip = absurd zip
+zip_within P R S (x ∷ xs) [] by all zip = absurd zip
+zip_within P R S (x ∷ xs) (z ∷ zs) by all zip = (by x z (All-head P x xs all) zip.0, zip_within P R S xs zs by (All-tail P x xs all) zip.1)
+
+-- each of a node's children has an id
+pub all_have_ids : (w : World) (t : PlanTree) (is : IsTreeIn w t) (v : ℕ) (n : Node) (xs : List Item) → slice_get t.nodes v ≡ Some n → xs ≡ n.children → All (HasId t) xs
+all_have_ids w t is v n xs e f =
+    let P : List Item → Type 0 = λ ys. All (HasId t) ys in
+    subst P (sym f) (from n.children (λ x y at. child_has_id w t is v n x y e at))
+  where
+    from : (ys : List Item) → ((x : ℕ) (y : Item) → slice_get ys x ≡ Some y → HasId t y) → All (HasId t) ys
+    from [] each = All-nil (HasId t)
+    from (y ∷ ys) each = All-cons (HasId t) y ys (each 0 y refl) (from ys (λ x z at. each (suc x) z at))
+
+module _ (w : World) (t : PlanTree) (v k : ℕ) (s : Choice) where
+  abbrev q : Setting
+  q = setting t (states.plan w t.actions) true
+
+  pub unknown : (p : states.Plan) → p ≡ states.plan w t.actions → (o : Option (Vec ObjectId)) → AreObjectsOf w s.objects.items o → o ≡ None → IsEntryFor (setting t p true) v k s None
+  unknown p e None none f = subst (λ x. IsEntryFor (setting t x true) v k s None) (sym e) (λ M B r. none B r.says.objects)
+  unknown p e (Some os) named f = absurd (let clash : Some os ≡ None = f in cc)
+
+  pub known : (o : Option (Vec ObjectId)) (os : Vec ObjectId) → AreObjectsOf w s.objects.items o → o ≡ Some os → AreNamed w s os.items
+  known None os none f = absurd (let clash : None ≡ Some os = f in cc)
+  known (Some xs) os named f = let same : xs ≡ os = cc in subst (λ (x : Vec ObjectId). AreNamed w s x.items) same named
+
+  module _ (sound : IsSound w) (n : Node) (has : slice_get t.nodes v ≡ Some n) (xs : List Item) (children : xs ≡ n.children)
+      (os : List ObjectId) (named : AreNamed w s os) (ps : List ℕ) (places : ArePlacesOf t xs s.children.items ps) where
+    same_places : (M : List ℕ) → AllZip (IsChildId q v) M s.children.items → M ≡ ps
+    same_places M zip = same_two (IsChildId q v) (IsPlaceOf t xs) M ps s.children.items one zip places
+      where
+        one : (x y i : ℕ) → IsChildId q v x i → IsPlaceOf t xs y i → x ≡ y
+        one x y i c place =
+            let both : Some c.node ≡ Some n = sym c.has_node ∙ has in
+            let node : c.node ≡ n = cc in
+            let P : Node → Type 0 = λ m. slice_get m.children x ≡ Some c.child in
+            let Q : List Item → Type 0 = λ ys. slice_get ys x ≡ Some c.child in
+            place.only x (c.child, subst Q (sym children) (subst P node c.has_child), c.stands)
+
+    same_objects : (B : List ℕ) → AllZip (IsNameOf q) B s.objects.items → B ≡ map object_number os
+    same_objects B zip = same_firsts (IsNameOf q) B (map object_number os) s.objects.items (λ x y m a b. one_object w sound x y m a b) zip named
+
+    not_right : (IsCandidateAt w t v ps (map object_number os) → OfMethod q v (λ m. HoldsAt q m (map object_number os) k) → ⊥) → (M B : List ℕ) → IsRight q v k s M B → ⊥
+    not_right none M B r =
+        let first = same_places M r.says.children in
+        let second = same_objects B r.says.objects in
+        let P : List ℕ → Type 0 = λ M. IsCandidateAt w t v M B in
+        let Q : List ℕ → Type 0 = λ B. IsCandidateAt w t v ps B in
+        let R : List ℕ → Type 0 = λ B. OfMethod q v (λ m. HoldsAt q m B k) in
+        none (subst Q second (subst P first r.candidate)) (subst R second r.holds)
+
+    pub no_candidate : (p : states.Plan) → p ≡ states.plan w t.actions → (b : Bool) → Tells (IsCandidateAt w t v ps (map object_number os)) b → b ≡ false → IsEntryFor (setting t p true) v k s None
+    no_candidate p e b tells off =
+        subst (λ x. IsEntryFor (setting t x true) v k s None) (sym e)
+        (not_right (λ c h. told_no (IsCandidateAt w t v ps (map object_number os)) b tells off c))
+
+    pub not_there : (p : states.Plan) → p ≡ states.plan w t.actions → (b : Bool) → Tells (OfMethod (setting t p true) v (λ m. HoldsAt (setting t p true) m (map object_number os) k)) b → b ≡ false → IsEntryFor (setting t p true) v k s None
+    not_there p e b tells off =
+        let P : states.Plan → Type 0 = λ x. Tells (OfMethod (setting t x true) v (λ m. HoldsAt (setting t x true) m (map object_number os) k)) b in
+        subst (λ x. IsEntryFor (setting t x true) v k s None) (sym e)
+        (not_right (λ c h. told_no (OfMethod q v (λ m. HoldsAt q m (map object_number os) k)) b (subst P e tells) off h))
+
+    pub is_right : (p : states.Plan) → p ≡ states.plan w t.actions → (a b : Bool) → Tells (IsCandidateAt w t v ps (map object_number os)) a → a ≡ true
+        → Tells (OfMethod (setting t p true) v (λ m. HoldsAt (setting t p true) m (map object_number os) k)) b → b ≡ true → IsRight (setting t p true) v k s ps (map object_number os)
+    is_right p e a b candidate on holds there =
+        let P : states.Plan → Type 0 = λ x. Tells (OfMethod (setting t x true) v (λ m. HoldsAt (setting t x true) m (map object_number os) k)) b in
+        let is_candidate = candidate.0 on in
+        let h = candidate_here q v ps (map object_number os) is_candidate in
+        let both : Some h.node ≡ Some n = sym h.has_node ∙ has in
+        let node : h.node ≡ n = cc in
+        let count : length (map (child_task t) h.node.children) ≡ length xs = length-map h.node.children (child_task t) ∙ ap (λ (m : Node). length m.children) node ∙ ap length (sym children) in
+        let Q : ℕ → Type 0 = λ c. All (λ x. x < c) ps in
+        subst (λ x. IsRight (setting t x true) v k s ps (map object_number os)) (sym e)
+        (record {
+          says = record {
+            children = zip_within (λ x. x < length xs) (IsPlaceOf t xs) (IsChildId q v) ps s.children.items child (subst Q count h.candidate.within) places;
+            objects = named;
+          };
+          candidate = is_candidate;
+          holds = (subst P e holds).0 there;
+        })
+      where
+        child : (x i : ℕ) → x < length xs → IsPlaceOf t xs x i → IsChildId q v x i
+        child x i lt place =
+            let (y, at, stands) = place.there lt in
+            let P : List Item → Type 0 = λ ys. slice_get ys x ≡ Some y in
+            record { node = n; has_node = has; child = y; has_child = subst P children at; stands = stands }
+
+-- what is said at a place is one thing
+pub one_part : (c : Certificate) (place : ℕ) (s u : Choice) (k m : ℕ) → IsPart c place s k → IsPart c place u m → (s ≡ u) × (k ≡ m)
+one_part c zero s u k m (a, b) (d, e) = (a ∙ sym d, b ∙ sym e)
+one_part c (suc i) s u k m (x, a) (y, b) =
+    let both : Some (x, s, k) ≡ Some (y, u, m) = sym a ∙ b in
+    let same : (x, s, k) ≡ (y, u, m) = cc in
+    (ap (λ (z : ℕ × Choice × ℕ). z.1) same, ap (λ (z : ℕ × Choice × ℕ). z.2) same)
+
+module _ (q : Setting) (c : Certificate) (ps : List ℕ) where
+  pub none_right : (v k : ℕ) (s : Choice) (o : Option Entry) → v < length q.tree.nodes → IsPart c (slice_index ps v) s k → IsEntryFor q v k s o → o ≡ None → HasEntries q c ps None
+  none_right v k s None lt part none e = λ all.
+      let h = all v lt in
+      let (choice, index) = one_part c (slice_index ps v) h.choice s h.index k h.part part in
+      let P : Choice → Type 0 = λ u. IsRight q v h.index u h.matching h.binding in
+      let Q : ℕ → Type 0 = λ m. IsRight q v m s h.matching h.binding in
+      none h.matching h.binding (subst Q index (subst P choice h.right))
+  none_right v k s (Some e) lt part right f = absurd (let clash : Some e ≡ None = f in cc)
+
+  entry_is : (v k : ℕ) (s : Choice) (o : Option Entry) (e : Entry) → IsPart c (slice_index ps v) s k → IsEntryFor q v k s o → o ≡ Some e → IsEntryOf q c (slice_index ps v) v e
+  entry_is v k s None e part none f = absurd (let clash : None ≡ Some e = f in cc)
+  entry_is v k s (Some d) e part (right, index) f =
+      let same : d ≡ e = cc in
+      let P : ℕ → Type 0 = λ m. IsPart c (slice_index ps v) s m in
+      let Q : ℕ → Type 0 = λ m. IsRight q v m s d.places.items (binding_of d) in
+      subst (λ (x : Entry). IsEntryOf q c (slice_index ps v) v x) same (record { choice = s; part = subst P (sym index) part; right = subst Q (sym index) right })
+
+  abbrev pub AreFirstEntries : List Entry → ℕ → Type 0
+  AreFirstEntries es k = (length es ≡ k) × ((v : ℕ) (e : Entry) → slice_get es v ≡ Some e → IsEntryOf q c (slice_index ps v) v e)
+
+  pushed : (es : List Entry) (x : Entry) (v : ℕ) (y : Entry) → slice_get (es ++ x ∷ []) v ≡ Some y → (slice_get es v ≡ Some y) ⊎ ((v ≡ length es) × (x ≡ y))
+  pushed [] x zero y e = inr (refl, (let both : Some x ≡ Some y = e in cc))
+  pushed [] x (suc v) y e = absurd (let clash : None ≡ Some y = e in cc)
+  pushed (z ∷ zs) x zero y e = inl e
+  pushed (z ∷ zs) x (suc v) y e = by (pushed zs x v y e)
+    where
+      by : (slice_get zs v ≡ Some y) ⊎ ((v ≡ length zs) × (x ≡ y)) → (slice_get (z ∷ zs) (suc v) ≡ Some y) ⊎ ((suc v ≡ length (z ∷ zs)) × (x ≡ y))
+      by (inl f) = inl f
+      by (inr (f, g)) = inr (ap suc f, g)
+
+  pub entry_more : (es : List Entry) (v k : ℕ) (s : Choice) (o : Option Entry) (e : Entry) → IsPart c (slice_index ps v) s k → IsEntryFor q v k s o → o ≡ Some e
+      → AreFirstEntries es v → AreFirstEntries (es ++ e ∷ []) (v + 1)
+  entry_more es v k s o e part for f first = (length-append es (e ∷ []) ∙ ap (λ n. n + 1) first.0, each)
+    where
+      each : (u : ℕ) (d : Entry) → slice_get (es ++ e ∷ []) u ≡ Some d → IsEntryOf q c (slice_index ps u) u d
+      each u d at = by (pushed es e u d at)
+        where
+          by : (slice_get es u ≡ Some d) ⊎ ((u ≡ length es) × (e ≡ d)) → IsEntryOf q c (slice_index ps u) u d
+          by (inl g) = first.1 u d g
+          by (inr (g, h)) =
+              let here : v ≡ u = sym first.0 ∙ sym g in
+              let P : ℕ → Type 0 = λ n. IsEntryOf q c (slice_index ps n) n d in
+              subst P here (subst (λ (x : Entry). IsEntryOf q c (slice_index ps v) v x) h (entry_is v k s o e part for f))
+
+  pub all_entries : (es : List Entry) (k : ℕ) → k ≡ length q.tree.nodes → AreFirstEntries es k → AreEntries q c ps es
+  all_entries es k e first = record { as_many = first.0 ∙ e; each = first.1 }
+
+-- there is a line for each place behind the first
+pub place_there : (w : World) (t : PlanTree) (is : IsTreeIn w t) (c : Certificate) (ps : List ℕ) (v : ℕ) → HasLines t c → ArePlaces t ps → v < length t.nodes → slice_index ps v < length c.lines.items + 1
+place_there w t is c ps v lines places lt =
+    let within = slice_get_within t.order (slice_index ps v) v (places.each v lt) in
+    let count = zip_length (HasIdOf t) (line_numbers t) c.lines.items lines in
+    let whole = count_lines t in
+    omega (arith, within, count, whole)

@@ -1,0 +1,13 @@
+use Rattle.std.proofs.Common.{◌≡◌, ◌-◌, length, ap, ◌∙◌, arith}
+use Rattle.std.specs.Prelude.{slice_index}
+use Rattle.hv_world.specs.WorldViews.{world_view}
+use Rattle.hv_plan.specs.BuiltTrees.{tree_view}
+use Rattle.hv_order.proofs.CheckSteps.{by_nodes}
+use Rattle.hv_order.proofs.check.keep_all.Goals as goal
+
+pub returns-then-finish_of-len : goal.returns-then-finish_of-len
+returns-then-finish_of-len c =
+    let t = tree_view c.args.tree.now in
+    let root : c.finish_of.result ≡ slice_index c.args.finishes.now (length t.nodes - 1) = c.finish_of.ensures ∙ ap (λ n. slice_index c.args.finishes.now (n - 1)) c.node_count.ensures in
+    by_nodes (world_view c.args.world.now) t c.args.entries.now c.args.finishes.now (length t.actions) c.keep_nodes.result
+    (let n : c.len.result ≡ length t.actions = c.len.ensures ∙ ap length c.actions.ensures in omega (arith, root, n, c.if-finish_of-len.true)) c.keep_nodes.ensures

@@ -1,0 +1,169 @@
+-- What the check of a certificate works out, node by node.
+use Rattle.std.specs.Prelude.{◌≡◌, ℕ, suc, zero, ◌+◌, ◌-◌, ◌<◌, ◌≤◌, List, map, length, slice_get, slice_index, Option, Some, None, Contains}
+use Rattle.std.specs.List.{AllZip}
+use Rattle.std.specs.Global.{Vec}
+use Rattle.hv_text.specs.Lists.{Once}
+use Rattle.hv_text.specs.declared.name.Name.{Name}
+use Rattle.hv_world.specs.Worlds.{World, Method}
+use Rattle.hv_world.specs.Orders.{Written, IsDirect}
+use Rattle.hv_world.specs.Bindings.{object_number}
+use Rattle.hv_world.specs.declared.id.ObjectId.{ObjectId}
+use Rattle.hv_plan.specs.Trees.{Item, Act, Task, Pre}
+use Rattle.hv_plan.specs.PlanTrees.{PlanTree, NodeIs, StandsFor, children_at}
+use Rattle.hv_match.specs.Candidates.{IsCandidateAt, method_at}
+use Rattle.hv_order.specs.Settings.{Setting, HoldsAt}
+use Rattle.hv_order.specs.Certificates.{subtask_start}
+use Rattle.hv_order.specs.Certified.{Says, line_numbers}
+use Rattle.hv_order.specs.inside.PlanFacts.{OfMethod, child_in}
+use Rattle.hv_order.specs.inside.Writings.{IsIdOf, IsNameIn}
+use Rattle.hv_order.specs.declared.certificate.Choice.{Choice}
+use Rattle.hv_order.specs.declared.certificate.Certificate.{Certificate}
+use Rattle.hv_order.specs.declared.entries.Entry.{Entry}
+use Rattle.hv_order.specs.declared.entries.Part.{Part}
+
+-- p is the place of an id in a list that has each once; where it is not there, p is behind the list
+pub record IsPlaceIn (ids : List ℕ) (i p : ℕ) : Type 0 where
+  pub there : p < length ids → slice_get ids p ≡ Some i
+  pub only : (x : ℕ) → slice_get ids x ≡ Some i → x ≡ p
+
+-- the child at place x begins with this id
+abbrev pub StandsAt : PlanTree → List Item → ℕ → ℕ → Type 0
+StandsAt t xs i x = (y : Item) × (slice_get xs x ≡ Some y) × StandsFor t i y
+
+-- p is the place of the child that begins with an id; where none does, p is behind them
+pub record IsPlaceOf (t : PlanTree) (xs : List Item) (p i : ℕ) : Type 0 where
+  pub there : p < length xs → StandsAt t xs i p
+  pub only : (x : ℕ) → StandsAt t xs i x → x ≡ p
+
+abbrev pub ArePlacesOf : PlanTree → List Item → List ℕ → List ℕ → Type 0
+ArePlacesOf t xs ids ps = AllZip (IsPlaceOf t xs) ps ids
+
+-- no two children begin with one id
+abbrev pub AreToldApart : PlanTree → List Item → Type 0
+AreToldApart t xs = (ids : List ℕ) → AllZip (IsIdOf t) xs ids → Once ids
+
+-- the objects of names, or some name is that of no object
+abbrev pub AreObjectsOf : World → List Name → Option (Vec ObjectId) → Type 0
+AreObjectsOf w names None = (os : List ℕ) → AllZip (IsNameIn w) os names → ⊥
+AreObjectsOf w names (Some os) = AllZip (IsNameIn w) (map object_number os.items) names
+
+-- the objects of the names that are said of a node
+abbrev pub AreNamed : World → Choice → List ObjectId → Type 0
+AreNamed w s os = AllZip (IsNameIn w) (map object_number os) s.objects.items
+
+-- What a certificate says of the node at a place in the order of nodes: the root line stands first
+-- and has no index
+abbrev pub IsPart : Certificate → ℕ → Choice → ℕ → Type 0
+IsPart c zero s k = (s ≡ c.root) × (k ≡ 0)
+IsPart c (suc i) s k = (id : ℕ) × (slice_get c.lines.items i ≡ Some (id, s, k))
+
+abbrev pub IsPartAt : Certificate → ℕ → Part → Type 0
+IsPartAt c k p = IsPart c k p.choice.now p.at
+
+-- the certificate's lines have the ids of the decomposition lines, in the order of the text
+abbrev pub HasIdOf : PlanTree → ℕ → ℕ × Choice × ℕ → Type 0
+HasIdOf t v l = NodeIs t (λ n. n.id ≡ Some l.0) v
+
+abbrev pub HasLines : PlanTree → Certificate → Type 0
+HasLines t c = AllZip (HasIdOf t) (line_numbers t) c.lines.items
+
+-- for each node the place at which it stands in their order
+pub record ArePlaces (t : PlanTree) (ps : List ℕ) : Type 0 where
+  pub as_many : length ps ≡ length t.nodes
+  pub each : (v : ℕ) → v < length t.nodes → slice_get t.order (slice_index ps v) ≡ Some v
+
+-- What is said of a node is the candidate M and B, and its precondition is true at the index k
+pub record IsRight (q : Setting) (v k : ℕ) (s : Choice) (M B : List ℕ) : Type 0 where
+  pub says : Says q v M B s
+  pub candidate : IsCandidateAt q.plan.world q.tree v M B
+  pub holds : OfMethod q v (λ m. HoldsAt q m B k)
+
+-- the numbers of the objects of an entry
+abbrev pub binding_of : Entry → List ℕ
+binding_of e = map object_number e.objects.items
+
+-- the entry of a node, or what is said of it is not right
+abbrev pub IsEntryFor : Setting → ℕ → ℕ → Choice → Option Entry → Type 0
+IsEntryFor q v k s None = (M B : List ℕ) → IsRight q v k s M B → ⊥
+IsEntryFor q v k s (Some e) = IsRight q v k s e.places.items (binding_of e) × (e.at ≡ k)
+
+-- the entry of a node is what the certificate says of it, which is right
+pub record IsEntryOf (q : Setting) (c : Certificate) (place v : ℕ) (e : Entry) : Type 0 where
+  pub choice : Choice
+  pub part : IsPart c place choice e.at
+  pub right : IsRight q v e.at choice e.places.items (binding_of e)
+
+-- so for each node
+pub record AreEntries (q : Setting) (c : Certificate) (ps : List ℕ) (es : List Entry) : Type 0 where
+  pub as_many : length es ≡ length q.tree.nodes
+  pub each : (v : ℕ) (e : Entry) → slice_get es v ≡ Some e → IsEntryOf q c (slice_index ps v) v e
+
+-- what is said of all nodes is right
+pub record AreRight (q : Setting) (c : Certificate) (place : ℕ) (v : ℕ) : Type 0 where
+  pub choice : Choice
+  pub index : ℕ
+  pub part : IsPart c place choice index
+  pub matching : List ℕ
+  pub binding : List ℕ
+  pub right : IsRight q v index choice matching binding
+
+-- the entries of all nodes, or what is said of some node is not right
+abbrev pub HasEntries : Setting → Certificate → List ℕ → Option (Vec Entry) → Type 0
+HasEntries q c ps None =
+    ((v : ℕ) → v < length q.tree.nodes → AreRight q c (slice_index ps v) v) → ⊥
+HasEntries q c ps (Some es) = AreEntries q c ps es.items
+
+-- the index of a node, and the places of its children for its subtasks
+abbrev pub at_of : Option Entry → ℕ
+at_of None = 0
+at_of (Some e) = e.at
+
+abbrev pub index_in : List Entry → ℕ → ℕ
+index_in es v = at_of (slice_get es v)
+
+-- when a child is over, by the finishes of the nodes
+abbrev pub finish_in : List ℕ → Item → ℕ
+finish_in fs (Act k) = k + 1
+finish_in fs (Task v) = slice_index fs v
+finish_in fs (Pre v) = 0
+
+-- f is the latest of an index and the finishes of children
+pub record IsLatest (at : ℕ) (xs : List Item) (finish : Item → ℕ) (f : ℕ) : Type 0 where
+  pub own : at ≤ f
+  pub child : (x : Item) → Contains xs x → finish x ≤ f
+  pub least : (g : ℕ) → at ≤ g → ((x : Item) → Contains xs x → finish x ≤ g) → f ≤ g
+
+-- the child that stands for a subtask
+abbrev pub child_at : List Item → List ℕ → ℕ → Item
+child_at xs M j = child_in xs (slice_index M j)
+
+-- the subtasks of a list are over by s
+abbrev pub AreOver : List ℕ → List Item → List ℕ → List ℕ → ℕ → Type 0
+AreOver fs xs M is s = (i : ℕ) → Contains is i → finish_in fs (child_at xs M i) ≤ s
+
+-- each subtask starts when those directly before it are over
+abbrev pub KeepsDirect : List Entry → List ℕ → List Item → List ℕ → Written → Type 0
+KeepsDirect es fs xs M n =
+    (i j : ℕ) → j < length M → IsDirect n i j
+    → finish_in fs (child_at xs M i) ≤ subtask_start (index_in es) (child_at xs M j)
+
+-- none of these children starts before an index
+abbrev pub StartBehind : List Entry → List Item → ℕ → Type 0
+StartBehind es xs at = (x : Item) → Contains xs x → at ≤ subtask_start (index_in es) x
+
+-- the children of a node start behind its precondition and in its order
+pub record KeepsNode
+    (w : World) (t : PlanTree) (es : List Entry) (fs : List ℕ) (v : ℕ) (e : Entry)
+    : Type 0 where
+  pub behind : StartBehind es (children_at t.nodes v) e.at
+  pub order :
+      (m : Method) → method_at w t v ≡ Some m
+      → KeepsDirect es fs (children_at t.nodes v) e.places.items m.network.order
+
+abbrev pub KeepNodes : World → PlanTree → List Entry → List ℕ → Type 0
+KeepNodes w t es fs = (v : ℕ) (e : Entry) → slice_get es v ≡ Some e → KeepsNode w t es fs v e
+
+-- so do those of all nodes, and the root is over when the plan is
+pub record KeepAll (w : World) (t : PlanTree) (es : List Entry) (fs : List ℕ) (n : ℕ) : Type 0 where
+  pub nodes : KeepNodes w t es fs
+  pub until : slice_index fs (length t.nodes - 1) ≤ n

@@ -1,0 +1,210 @@
+//! What a certificate says of each node, with numbers for ids and names, where it is right.
+
+ghost use Rattle.std.specs.Prelude.{◌≡◌, ◌+◌, ◌<◌, ◌≤◌, true, length, map, option_map, IfOk};
+ghost use Rattle.hv_world.specs.Bindings.{object_number};
+ghost use Rattle.hv_world.specs.WorldViews.{world_view};
+ghost use Rattle.hv_state.specs.Plans.{plan};
+ghost use Rattle.hv_plan.specs.BuiltTrees.{tree_view};
+ghost use Rattle.hv_plan.specs.PlanTrees.{IsTreeIn};
+ghost use Rattle.hv_match.specs.Candidates.{Tells};
+ghost use Rattle.hv_order.specs.Settings.{setting, HoldsAt};
+ghost use Rattle.hv_order.specs.inside.PlanFacts.{OfMethod};
+ghost use Rattle.hv_order.specs.inside.Checks.{HasLines, ArePlaces, IsPartAt, IsEntryFor, HasEntries, AreNamed};
+
+use crate::certificate::{Certificate, Choice};
+use crate::lines::{child_id, number_at};
+use crate::memory::Memory;
+use crate::named::{objects_of, places_of};
+use crate::node_methods::{method_of, node_of};
+use hv_match::is_candidate;
+use hv_plan::{Child, Tree};
+use hv_state::{BitState, Trace};
+use hv_world::{Binding, ObjectId, World};
+use std::alloc::Global;
+
+/// What a certificate says of a node: for each subtask the place of its child among the node's
+/// children, for each parameter its object, and the index of the precondition.
+#[derive(Drop)]
+pub struct Entry {
+    pub places: Vec<u32>,
+    pub objects: Vec<ObjectId>,
+    pub at: u32,
+}
+
+/// What a certificate says of a node, as it stands there. The root line has no index: its
+/// precondition, which is always true, is taken to stand before all.
+#[derive(Clone, Copy)]
+pub struct Part<'a, 's> {
+    pub choice: &'a Choice<'s>,
+    pub at: u32,
+}
+
+/// Whether a certificate has a line for each decomposition line, in the order of the text.
+pub(crate) fn has_lines(
+    _world: &World<'_>,
+    tree: &Tree<'_, '_>,
+    certificate: &Certificate<'_>,
+) -> bool
+    requires { IsTreeIn (world_view _world.now) (tree_view tree.now) }
+    ensures { Tells (HasLines (tree_view tree.now) certificate.now) result }
+{
+    let count = tree.node_count() as usize;
+    if certificate.lines.len() + 1 != count {
+        return false;
+    }
+    for place in 1..count {
+        let id = child_id(tree, Child::Node(number_at(tree, place)));
+        if certificate.lines[place - 1].0 != id {
+            return false;
+        }
+    }
+    true
+}
+
+/// For each node the place at which it stands in their order.
+pub(crate) fn places(
+    alloc: Global,
+    _world: &World<'_>,
+    tree: &Tree<'_, '_>,
+) -> Result<Vec<usize>, Memory>
+    requires { IsTreeIn (world_view _world.now) (tree_view tree.now) }
+    ensures { IfOk result (λ v. ArePlaces (tree_view tree.now) v.items) }
+{
+    let count = tree.node_count() as usize;
+    let mut places = vec![in alloc; 0; count]?;
+    for place in 0..count {
+        places[number_at(tree, place) as usize] = place;
+    }
+    Ok(places)
+}
+
+// What a line of a certificate says of its node.
+fn line_part<'a, 's>(line: &'a (u64, Choice<'s>, u32)) -> Part<'a, 's>
+    ensures choice { result.choice.now ≡ line.now.1 }
+    ensures index { result.at ≡ line.now.2 }
+{
+    Part {
+        choice: &line.1,
+        at: line.2,
+    }
+}
+
+/// What a certificate says of the node at a place in their order.
+pub(crate) fn said_at<'a, 's>(certificate: &'a Certificate<'s>, place: usize) -> Part<'a, 's>
+    requires { place < length certificate.now.lines.items + 1 }
+    ensures { IsPartAt certificate.now place result }
+{
+    if place == 0 {
+        return Part {
+            choice: &certificate.root,
+            at: 0,
+        };
+    }
+    line_part(&certificate.lines[place - 1])
+}
+
+// Whether the precondition of a node's method is true at an index.
+fn holds(
+    world: &World<'_>,
+    tree: &Tree<'_, '_>,
+    trace: &Trace<'_, '_, BitState>,
+    node: u32,
+    objects: &[ObjectId],
+    at: u32,
+) -> bool
+    requires tree { IsTreeIn (world_view world.now) (tree_view tree.now) }
+    requires trace { trace.now ≡ plan (world_view world.now) (tree_view tree.now).actions }
+    requires node { node < length (tree_view tree.now).nodes }
+    ensures { Tells (OfMethod (setting (tree_view tree.now) trace.now true) node
+        (λ m. HoldsAt (setting (tree_view tree.now) trace.now true) m
+        (map object_number objects.now) at)) result }
+{
+    // What is true behind the last state is what is true there.
+    let index = (at as usize).min(tree.actions().len());
+    let method = method_of(world, tree, node);
+    trace.holds_at(index, method.precondition(), &Binding::Given(objects))
+}
+
+// The entry of a node, where the objects that are said of it are known.
+fn entry_with<'s>(
+    alloc: Global,
+    world: &World<'s>,
+    tree: &Tree<'_, '_>,
+    trace: &Trace<'_, '_, BitState>,
+    node: u32,
+    said: Part<'_, 's>,
+    objects: Vec<ObjectId>,
+) -> Result<Option<Entry>, Memory>
+    requires tree { IsTreeIn (world_view world.now) (tree_view tree.now) }
+    requires trace { trace.now ≡ plan (world_view world.now) (tree_view tree.now).actions }
+    requires node { node < length (tree_view tree.now).nodes }
+    requires objects { AreNamed (world_view world.now) said.choice.now objects.items }
+    ensures { IfOk result
+        (IsEntryFor (setting (tree_view tree.now) trace.now true) node
+        said.entry.at said.entry.choice.now) }
+{
+    world.is_sound();
+    let children = node_of(tree, node).children();
+    let places = places_of(alloc, tree, children, &said.choice.children)?;
+    if !is_candidate(alloc, world, tree, node, &places, &objects)? {
+        return Ok(None);
+    }
+    if !holds(world, tree, trace, node, &objects, said.at) {
+        return Ok(None);
+    }
+    Ok(Some(Entry {
+        places,
+        objects,
+        at: said.at,
+    }))
+}
+
+/// The entry of a node; None where what is said of it is no candidate, or its precondition is not
+/// true at its index.
+pub(crate) fn entry_for<'s>(
+    alloc: Global,
+    world: &World<'s>,
+    tree: &Tree<'_, '_>,
+    trace: &Trace<'_, '_, BitState>,
+    node: u32,
+    said: Part<'_, 's>,
+) -> Result<Option<Entry>, Memory>
+    requires tree { IsTreeIn (world_view world.now) (tree_view tree.now) }
+    requires trace { trace.now ≡ plan (world_view world.now) (tree_view tree.now).actions }
+    requires node { node < length (tree_view tree.now).nodes }
+    ensures { IfOk result
+        (IsEntryFor (setting (tree_view tree.now) trace.now true) node
+        said.entry.at said.entry.choice.now) }
+{
+    match objects_of(alloc, world, &said.choice.objects)? {
+        None => Ok(None),
+        Some(objects) => entry_with(alloc, world, tree, trace, node, said, objects),
+    }
+}
+
+/// The entries of all nodes; None where what is said of one of them is not right.
+pub(crate) fn entries<'s>(
+    alloc: Global,
+    world: &World<'s>,
+    tree: &Tree<'_, '_>,
+    trace: &Trace<'_, '_, BitState>,
+    certificate: &Certificate<'s>,
+    places: &[usize],
+) -> Result<Option<Vec<Entry>>, Memory>
+    requires tree { IsTreeIn (world_view world.now) (tree_view tree.now) }
+    requires trace { trace.now ≡ plan (world_view world.now) (tree_view tree.now).actions }
+    requires lines { HasLines (tree_view tree.now) certificate.now }
+    requires places { ArePlaces (tree_view tree.now) places.now }
+    ensures { IfOk result (HasEntries
+        (setting (tree_view tree.now) trace.now true) certificate.now places.now) }
+{
+    let mut entries = Vec::new(alloc);
+    for node in 0..tree.node_count() {
+        let said = said_at(certificate, places[node as usize]);
+        match entry_for(alloc, world, tree, trace, node, said)? {
+            Some(entry) => entries.push(entry)?,
+            None => return Ok(None),
+        }
+    }
+    Ok(Some(entries))
+}

@@ -1,0 +1,70 @@
+//! The children and the objects that a certificate names, by their ids and names.
+
+ghost use Rattle.std.specs.Prelude.{◌≡◌, map, IfOk};
+ghost use Rattle.std.specs.List.{All};
+ghost use Rattle.hv_text.specs.Lists.{Once};
+ghost use Rattle.hv_world.specs.WorldViews.{world_view};
+ghost use Rattle.hv_plan.specs.BuiltTrees.{tree_view};
+ghost use Rattle.hv_plan.specs.TreeViews.{child_view};
+ghost use Rattle.hv_order.specs.inside.Writings.{HasId};
+ghost use Rattle.hv_order.specs.inside.Checks.{IsPlaceIn, ArePlacesOf, AreToldApart, AreObjectsOf};
+
+use crate::certify::child_ids;
+use crate::memory::Memory;
+use hv_plan::{Child, Seeded, Tree, place_in, table_of_ids};
+use hv_text::Name;
+use hv_world::{ObjectId, World};
+use indexmap::IndexSet;
+use std::alloc::Global;
+
+// The place of an id, that behind the last where it has none, in 32 bits, which are enough for the
+// children in every text.
+fn place_of(table: &IndexSet<u64, Seeded>, id: u64) -> Result<u32, Memory>
+    requires { Once table.now.keys }
+    ensures { IfOk result (IsPlaceIn table.now.keys id) }
+{
+    match u32::try_from(place_in(table, id)) {
+        Ok(place) => Ok(place),
+        Err(_) => Err(Memory),
+    }
+}
+
+/// The places of the children of these ids; that behind the last for an id of no child.
+pub(crate) fn places_of(
+    alloc: Global,
+    tree: &Tree<'_, '_>,
+    children: &[Child],
+    ids: &[u64],
+) -> Result<Vec<u32>, Memory>
+    requires ids { All (HasId (tree_view tree.now)) (map child_view children.now) }
+    requires apart { AreToldApart (tree_view tree.now) (map child_view children.now) }
+    ensures { IfOk result (λ v.
+        ArePlacesOf (tree_view tree.now) (map child_view children.now) ids.now v.items) }
+{
+    let own = child_ids(alloc, tree, children)?;
+    let table = table_of_ids(alloc, &own)?;
+    let mut places = Vec::new(alloc);
+    for id in ids {
+        places.push(place_of(&table, *id)?)?;
+    }
+    Ok(places)
+}
+
+/// The objects of these names; None where one of them is the name of no object.
+pub(crate) fn objects_of<'s>(
+    alloc: Global,
+    world: &World<'s>,
+    names: &[Name<'s>],
+) -> Result<Option<Vec<ObjectId>>, Memory>
+    ensures { IfOk result (AreObjectsOf (world_view world.now) names.now) }
+{
+    world.is_sound();
+    let mut objects = Vec::new(alloc);
+    for name in names {
+        match world.object_named(*name) {
+            Some(object) => objects.push(object)?,
+            None => return Ok(None),
+        }
+    }
+    Ok(Some(objects))
+}
