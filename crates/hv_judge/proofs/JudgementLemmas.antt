@@ -87,7 +87,7 @@ plan_rejected domain problem plan limit w f short read h =
 module _ (domain problem plan : List ℕ) (limit : ℕ) (w : World) (q : Plan)
     (short : first_too_long domain problem plan ≡ None) (read : IsWorldOf domain problem w)
     (says : IsPlan plan q) where
-  spelled : (P : World → Plan → Type 0) → P w q
+  pub spelled : (P : World → Plan → Type 0) → P w q
       → (d : Domain) × (p : Problem) × (r : Plan) × AreSpelled domain problem plan d p r × P (world_of d p) r
   spelled P h = (
     read.d,

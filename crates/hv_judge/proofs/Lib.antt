@@ -11,3 +11,4 @@ pub mod LawPlans
 pub mod LawStatics
 pub mod LawAnswers
 pub mod LawValues
+pub mod CheckLemmas

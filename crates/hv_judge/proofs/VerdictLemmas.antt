@@ -117,7 +117,7 @@ module _ (w : World) (p : Plan) (t : PlanTree) (limit : ℕ) (r : states.Plan) (
   is_run : IsRun w p t
   is_run = record { tree = tree; can_run = subst (λ xs. CanRun (states.plan w xs)) same can_run }
 
-  run_is : r ≡ run_of w t
+  pub run_is : r ≡ run_of w t
   run_is = ran ∙ ap (states.plan w) same
 
   -- the goal is false

@@ -4,6 +4,7 @@ pub mod Solutions
 pub mod Causes
 pub mod Rejections
 pub mod Verdicts
+pub mod Checked
 pub mod Answers
 pub mod Runs
 pub mod Prints

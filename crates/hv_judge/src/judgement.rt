@@ -20,7 +20,7 @@ use hv_world::{Side, StaticFault, World};
 use std::alloc::Global;
 
 // The first text that is too long.
-fn first_too_long(domain: &[u8], problem: &[u8], plan: &[u8]) -> Option<Which>
+pub(crate) fn first_too_long(domain: &[u8], problem: &[u8], plan: &[u8]) -> Option<Which>
     ensures { result ≡ first_too_long domain.now problem.now plan.now }
 {
     if domain.len() > MOST_BYTES {
@@ -71,7 +71,7 @@ fn not_built(domain: &[u8], problem: &[u8], fault: StaticFault) -> NotSolved
 }
 
 // The world of a domain and a problem, or the first fault of the two.
-fn read_world<'s>(
+pub(crate) fn read_world<'s>(
     alloc: Global,
     domain: &'s [u8],
     problem: &'s [u8],

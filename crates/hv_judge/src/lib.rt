@@ -2,6 +2,7 @@
 #![tactic(auto)]
 
 mod answer;
+mod checking;
 mod judgement;
 mod law;
 mod limit;
@@ -14,6 +15,7 @@ mod verdict;
 mod write;
 
 pub use answer::{Answer, Cause, CauseKind, Fault, FaultKind, Kind, Place, Which};
+pub use checking::{CheckFault, check};
 pub use hv_order::certificate::{Certificate, Choice};
 pub use judgement::judge;
 pub use law::{a_solution_or_none, one_answer, values_or_a_rejection};

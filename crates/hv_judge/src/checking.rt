@@ -1,0 +1,130 @@
+//! The check of a certificate that is given.
+
+ghost use Rattle.std.specs.Prelude.{◌≡◌, ◌<◌, length, IfOk, IfErr};
+ghost use Rattle.hv_world.specs.WorldViews.{world_view};
+ghost use Rattle.hv_plan.specs.LineViews.{plan_view};
+ghost use Rattle.hv_match.specs.Candidates.{Tells};
+ghost use Rattle.hv_order.specs.Settings.{HasNoPrecondition};
+ghost use Rattle.hv_judge.specs.Checked.{Checked, IsCheckFault};
+ghost use Rattle.hv_judge.specs.Solutions.{SolvesBy};
+
+use crate::answer::{Fault, Which};
+use crate::judgement::{first_too_long, read_world};
+use crate::not_solved::NotSolved;
+use hv_match::counts_are_one;
+use hv_order::certificate::Certificate;
+use hv_order::certified_plans::certified_plans_are_solved;
+use hv_order::check::certifies;
+use hv_plan::{
+    PlanFault, PlanText, Tree, TreeFault, a_plan_has_one_tree, a_tree_or_a_cause, plans_are_small,
+    read_plan,
+};
+use hv_state::{BitState, Stop, Trace};
+use hv_text::Memory;
+use hv_world::World;
+use std::alloc::Global;
+
+/// Why it is not said whether a certificate is right.
+#[derive(Clone, Copy, Debug, PartialEq, Eq)]
+pub enum CheckFault {
+    /// One of the texts is rejected.
+    Rejected(Which, Fault),
+    /// A growth of memory was refused.
+    Memory,
+}
+
+impl From<Memory> for CheckFault {
+    ghost use Rattle.hv_judge.specs.declared.checking.CheckFault.TheVariants as faults;
+
+    ghost from_gives = { λ _ e. e ≡ faults.Memory };
+
+    fn from(_refused: Memory) -> CheckFault {
+        CheckFault::Memory
+    }
+}
+
+impl From<NotSolved> for CheckFault {
+    ghost use Rattle.hv_judge.specs.inside.CheckEnds.{check_end};
+
+    ghost from_gives = { λ f e. e ≡ check_end f };
+
+    fn from(end: NotSolved) -> CheckFault {
+        match end {
+            NotSolved::Rejected(which, fault) => CheckFault::Rejected(which, fault),
+            _ => CheckFault::Memory,
+        }
+    }
+}
+
+impl From<PlanFault> for CheckFault {
+    ghost use Rattle.hv_judge.specs.inside.Ends.{plan_end};
+    ghost use Rattle.hv_judge.specs.inside.CheckEnds.{check_end};
+
+    ghost from_gives = { λ f e. e ≡ check_end (plan_end f) };
+
+    fn from(fault: PlanFault) -> CheckFault {
+        CheckFault::from(NotSolved::from(fault))
+    }
+}
+
+// Whether a plan solves the problem of a world by a certificate.
+fn check_plan<'s>(
+    alloc: Global,
+    world: &World<'s>,
+    plan: &PlanText<'s>,
+    certificate: &Certificate<'s>,
+) -> Result<bool, Memory>
+    requires top { HasNoPrecondition (world_view world.now) }
+    requires small { length (plan_view plan.now).actions < 4294967295 }
+    ensures { IfOk result
+        (Tells (SolvesBy (world_view world.now) (plan_view plan.now) certificate.now)) }
+{
+    a_plan_has_one_tree();
+    a_tree_or_a_cause();
+    counts_are_one();
+    certified_plans_are_solved();
+    let tree = match Tree::build(alloc, world, plan) {
+        Ok(tree) => tree,
+        Err(TreeFault::Cause(_)) => return Ok(false),
+        Err(TreeFault::Memory) => return Err(Memory),
+    };
+    let trace = match Trace::<BitState>::run(alloc, world, tree.actions()) {
+        Ok(trace) => trace,
+        Err(Stop::Inapplicable(_)) => return Ok(false),
+        Err(Stop::Memory) => return Err(Memory),
+    };
+    if !trace.goal_holds() {
+        return Ok(false);
+    }
+    match certifies(alloc, world, &tree, &trace, certificate) {
+        Ok(is_right) => Ok(is_right),
+        Err(_) => Err(Memory),
+    }
+}
+
+/// Checks one certificate: whether the plan solves the problem of the domain by the choices and the
+/// indices that it says. Nothing is searched, and no limit plays a part. A plan whose lines form no
+/// tree is solved by no certificate.
+///
+/// # Errors
+///
+/// `Rejected` where one of the texts is, as `judge` says it; `Memory` where a growth was refused.
+pub fn check<'s>(
+    alloc: Global,
+    domain: &'s [u8],
+    problem: &'s [u8],
+    plan: &'s [u8],
+    certificate: &Certificate<'s>,
+) -> Result<bool, CheckFault>
+    ensures ok { IfOk result
+        (Checked domain.entry.now problem.entry.now plan.entry.now certificate.now) }
+    ensures err { IfErr result (IsCheckFault domain.entry.now problem.entry.now plan.entry.now) }
+{
+    plans_are_small();
+    if let Some(which) = first_too_long(domain, problem, plan) {
+        return Err(CheckFault::Rejected(which, Fault::too_long()));
+    }
+    let world = read_world(alloc, domain, problem)?;
+    let plan = read_plan(alloc, plan)?;
+    Ok(check_plan(alloc, &world, &plan, certificate)?)
+}
