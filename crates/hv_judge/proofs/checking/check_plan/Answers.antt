@@ -26,9 +26,12 @@ returns-in-Err-Inapplicable c =
       certified = c.certified_plans_are_solved.ensures;
     } in
     fails laws w q c.args.certificate.now _
-    (no_run w q t 0 (stops.Inapplicable c.in-Err-Inapplicable.field-0-0) (has_tree w q t c.in-Ok.ensures.ok)
-    (subst (λ gs. IsStop (states.plan w gs) (stops.Inapplicable c.in-Err-Inapplicable.field-0-0)) c.actions.ensures
-    (subst (IsStop (states.plan w (ground_actions_view c.actions.result.now))) c.in-Err-Inapplicable.field-0-is c.in-Err-Inapplicable.ensures.stop)))
+    (no_run w q t 0 (stops.Inapplicable c.in-Err-Inapplicable.field-0-0)
+    (has_tree w q t c.in-Ok.ensures.ok)
+    (subst (λ gs. IsStop (states.plan w gs) (stops.Inapplicable c.in-Err-Inapplicable.field-0-0))
+    c.actions.ensures
+    (subst (IsStop (states.plan w (ground_actions_view c.actions.result.now)))
+    c.in-Err-Inapplicable.field-0-is c.in-Err-Inapplicable.ensures.stop)))
 
 pub returns-then-not-goal_holds : goal.returns-then-not-goal_holds
 returns-then-not-goal_holds c =
