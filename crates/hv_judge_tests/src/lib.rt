@@ -6,6 +6,8 @@
 #[cfg(test)]
 mod chain;
 #[cfg(test)]
+mod check;
+#[cfg(test)]
 mod faltering;
 #[cfg(test)]
 mod judged;

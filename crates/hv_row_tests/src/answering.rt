@@ -2,7 +2,7 @@
 
 use crate::command::{Command, Options};
 use anyhow::Result;
-use hv_judge::{Kind, Printed, Which, run, run_print};
+use hv_judge::{Answer, Kind, Printed, Which, check, judge, run, run_print};
 use hv_text::{FromMemory, ToMemory};
 use std::alloc::Global;
 
@@ -24,6 +24,28 @@ fn printed(printed: Printed) -> &'static str {
     }
 }
 
+// Whether the certificate of solved texts is right by `check`, and wrong once it names a state that
+// no plan passes.
+fn is_certified<'t>(
+    alloc: Global,
+    domain: &'t [u8],
+    problem: &'t [u8],
+    plan: &'t [u8],
+    limit: u64,
+) -> Result<bool> {
+    let Answer::Solves(mut certificate) = judge(alloc, domain, problem, plan, limit)? else {
+        return Ok(false);
+    };
+    if check(alloc, domain, problem, plan, &certificate) != Ok(true) {
+        return Ok(false);
+    }
+    match certificate.lines.last_mut() {
+        Some(line) => line.2 = u32::MAX,
+        None => return Ok(true),
+    }
+    Ok(check(alloc, domain, problem, plan, &certificate) == Ok(false))
+}
+
 // Judges a plan, and says in a word how that ended, and what was written.
 fn judge_texts(
     alloc: Global,
@@ -42,7 +64,11 @@ fn judge_texts(
         options.explain,
         &mut out,
     )?;
-    Ok((judged(kind), String::from_utf8_lossy(alloc, out.written())?))
+    let text = String::from_utf8_lossy(alloc, out.written())?;
+    if kind == Kind::Solves && !is_certified(alloc, domain, problem, plan, options.limit)? {
+        return Ok(("solves, not certified", text));
+    }
+    Ok((judged(kind), text))
 }
 
 // Prints a text, and says the same.
