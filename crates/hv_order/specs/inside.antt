@@ -8,7 +8,9 @@ pub mod Trials
 pub mod Frames
 pub mod Winners
 pub mod Nodes
+pub mod Memos
 pub mod Runs
+pub mod Memos
 pub mod Walks
 pub mod Begun
 pub mod WalkedTrees
