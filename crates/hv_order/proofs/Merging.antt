@@ -3,12 +3,10 @@ use Rattle.std.proofs.Common.{◌≡◌, ℕ, zero, suc, ◌+◌, ◌-◌, ◌�
 use Rattle.std.proofs.lemmas.Bool.{cases_lt}
 use Rattle.std.specs.Prelude.{slice_get}
 use Rattle.hv_order.specs.Tables.{IsLeast}
-use Rattle.hv_order.specs.inside.Facts.{Facts, IsRunOf}
-use Rattle.hv_order.specs.inside.Nodes.{IsWinnerOf}
-use Rattle.hv_order.specs.inside.Runs.{IsRow, AreWinners, AreApart, EndsWith, IsTrimmed}
-use Rattle.hv_order.specs.declared.trial.Arranged.{Arranged}
+use Rattle.hv_order.specs.inside.Facts.{IsRunOf}
+use Rattle.hv_order.specs.inside.Runs.{IsRow, AreApart, EndsWith, IsTrimmed}
 use Rattle.hv_order.specs.declared.trial.Run.{Run}
-use Rattle.hv_order.proofs.RunLemmas.{appended, row_more, winners_more}
+use Rattle.hv_order.proofs.RunLemmas.{appended, row_more}
 
 -- a list up to its last member
 pub up_to_last : {X : Type 0} (xs : List X) (m : ℕ) (x : X) → length xs ≡ m + 1 → slice_get xs m ≡ Some x → xs ≡ take m xs ++ x ∷ []
@@ -45,42 +43,30 @@ apart_more [] r are other = (tt, tt)
 apart_more (y ∷ []) r are other = (other zero y refl refl, (tt, tt))
 apart_more (y ∷ z ∷ zs) r are other = (are.0, apart_more (z ∷ zs) r are.1 (λ m x e is. other (suc m) x (omega arith) is))
 
--- the winners of the first runs
-pub first_winners : (q : Facts) (v : ℕ) (rs : List Run) (ws : List (Option Arranged)) (m : ℕ) → AreWinners q v rs ws → AreWinners q v (take m rs) (take m ws)
-first_winners q v [] [] zero are = tt
-first_winners q v [] [] (suc m) are = tt
-first_winners q v [] (w ∷ ws) m are = absurd are
-first_winners q v (r ∷ rs) [] m are = absurd are
-first_winners q v (r ∷ rs) (w ∷ ws) zero are = tt
-first_winners q v (r ∷ rs) (w ∷ ws) (suc m) are = (are.0, first_winners q v rs ws m are.1)
-
--- what holds of the runs so far and their winners
-pub record IsRowSoFar (q : Facts) (v n s : ℕ) (rs : List Run) (ws : List (Option Arranged)) : Type 0 where
-  pub rest : (rest : List Run) → IsRow (q.fits v) n s rest → IsRow (q.fits v) n 0 (rs ++ rest)
+-- what holds of the runs so far
+pub record IsRowSoFar (Fit : ℕ → ℕ → Type 0) (n s : ℕ) (rs : List Run) : Type 0 where
+  pub rest : (rest : List Run) → IsRow Fit n s rest → IsRow Fit n 0 (rs ++ rest)
   pub apart : AreApart rs
-  pub winners : AreWinners q v rs ws
 
-module _ (q : Facts) (v n s : ℕ) (rs : List Run) (ws : List (Option Arranged)) (r : Run) (w : Option Arranged) (far : IsRowSoFar q v n s rs ws) (is : IsRunOf (q.fits v) n s r) (won : IsWinnerOf q v r w) where
-  behind : (EndsWith rs r.finish → ⊥) → IsRowSoFar q v n (r.last + 1) (rs ++ r ∷ []) (ws ++ w ∷ [])
+module _ (Fit : ℕ → ℕ → Type 0) (n s : ℕ) (rs : List Run) (r : Run) (far : IsRowSoFar Fit n s rs) (is : IsRunOf Fit n s r) where
+  behind : (EndsWith rs r.finish → ⊥) → IsRowSoFar Fit n (r.last + 1) (rs ++ r ∷ [])
   behind other = record {
-    rest = λ rest h. row_more (q.fits v) n s rs r far.rest is rest h;
+    rest = λ rest h. row_more Fit n s rs r far.rest is rest h;
     apart = apart_more rs r far.apart (λ m x e there same. let i : m ≡ length rs - 1 = omega arith in let P : ℕ → Type 0 = λ u. slice_get rs u ≡ Some x in other (record { run = x; is_last = subst P i there; finish_is = same }));
-    winners = winners_more q v rs ws r w far.winners won;
   }
 
-  instead : (last : EndsWith rs r.finish) → length rs ≡ (length rs - 1) + 1 → IsRowSoFar q v n (r.last + 1) (take (length rs - 1) rs ++ r ∷ []) (take (length rs - 1) ws ++ w ∷ [])
+  instead : (last : EndsWith rs r.finish) → length rs ≡ (length rs - 1) + 1 → IsRowSoFar Fit n (r.last + 1) (take (length rs - 1) rs ++ r ∷ [])
   instead last long =
       let m = length rs - 1 in
       let x = last.run in
       let split : rs ≡ take m rs ++ x ∷ [] = up_to_last rs m x long last.is_last in
       record {
         rest = λ rest h.
-            let R : List Run → Type 0 = λ ys. IsRow (q.fits v) n 0 (ys ++ r ∷ rest) in
-            let whole : IsRow (q.fits v) n 0 ((take m rs ++ x ∷ []) ++ r ∷ rest) = subst R split (far.rest (r ∷ rest) (is, h)) in
-            let flat : IsRow (q.fits v) n 0 (take m rs ++ x ∷ r ∷ rest) = subst (IsRow (q.fits v) n 0) (appended (take m rs) x (r ∷ rest)) whole in
-            subst (IsRow (q.fits v) n 0) (sym (appended (take m rs) r rest)) (merged (q.fits v) n 0 (take m rs) x r rest last.finish_is flat);
+            let R : List Run → Type 0 = λ ys. IsRow Fit n 0 (ys ++ r ∷ rest) in
+            let whole : IsRow Fit n 0 ((take m rs ++ x ∷ []) ++ r ∷ rest) = subst R split (far.rest (r ∷ rest) (is, h)) in
+            let flat : IsRow Fit n 0 (take m rs ++ x ∷ r ∷ rest) = subst (IsRow Fit n 0) (appended (take m rs) x (r ∷ rest)) whole in
+            subst (IsRow Fit n 0) (sym (appended (take m rs) r rest)) (merged Fit n 0 (take m rs) x r rest last.finish_is flat);
         apart = apart_like (take m rs) x r last.finish_is (subst AreApart split far.apart);
-        winners = winners_more q v (take m rs) (take m ws) r w (first_winners q v rs ws m far.winners) won;
       }
 
   some_last : (o : Option ℕ) → EndsWith rs o → length rs ≡ (length rs - 1) + 1
@@ -91,6 +77,6 @@ module _ (q : Facts) (v n s : ℕ) (rs : List Run) (ws : List (Option Arranged))
       by_runs (y ∷ ys) x e = omega arith
 
   -- the runs so far with one run more
-  pub far_more : (rs' : List Run) (ws' : List (Option Arranged)) → IsTrimmed rs ws r.finish rs' ws' → IsRowSoFar q v n (r.last + 1) (rs' ++ r ∷ []) (ws' ++ w ∷ [])
-  far_more rs' ws' (inl stays) = rw (stays.runs_are, stays.winners_are) (behind stays.other)
-  far_more rs' ws' (inr loses) = rw (loses.runs_are, loses.winners_are) (instead loses.last (some_last r.finish loses.last))
+  pub far_more : (rs' : List Run) → IsTrimmed rs r.finish rs' → IsRowSoFar Fit n (r.last + 1) (rs' ++ r ∷ [])
+  far_more rs' (inl stays) = rw stays.runs_are (behind stays.other)
+  far_more rs' (inr loses) = rw loses.runs_are (instead loses.last (some_last r.finish loses.last))

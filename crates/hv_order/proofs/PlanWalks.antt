@@ -1,6 +1,6 @@
 -- What is walked over the nodes of a plan certifies the plan: each node stands by a candidate, and what
 -- these candidates amount to has an executable sequence.
-use Rattle.std.proofs.Common.{◌≡◌, ℕ, ◌+◌, ◌-◌, ◌<◌, ◌⊎◌, inl, inr, List, [], ◌∷◌, Option, Some, None, length, map, slice_get, refl, sym, ap, ◌∙◌, subst, arith, All, Contains, Bool}
+use Rattle.std.proofs.Common.{◌≡◌, ℕ, ◌+◌, ◌<◌, ◌⊎◌, inl, inr, List, [], ◌∷◌, Option, Some, None, length, map, slice_get, refl, sym, ap, ◌∙◌, subst, arith, All, Contains, Bool}
 use Rattle.std.specs.List.{AllZip}
 use Rattle.std.proofs.lemmas.Option.{slice_get-get_or}
 use Rattle.std.proofs.lemmas.List.Elements.{All-head, All-tail, All-weaker}
@@ -22,15 +22,12 @@ use Rattle.hv_order.specs.Certified.{Certifies}
 use Rattle.hv_order.specs.Tables.{IsLeast}
 use Rattle.std.specs.Global.{Vec}
 use Rattle.std.specs.Option.{option_map}
-use Rattle.hv_order.specs.inside.Arrangements.{Arrangement, arrangement_of}
+use Rattle.hv_order.specs.inside.Arrangements.{Arrangement}
 use Rattle.hv_order.specs.inside.PlanFacts.{IsSetting, ComesBefore, HoldsFor, Arranges, child_in, FitsNode, plan_facts}
-use Rattle.hv_order.specs.inside.Facts.{Facts}
-use Rattle.hv_order.specs.inside.Walks.{said_of, root_of, index_of, index_in, IsChildAt, AreApartNodes, HaveOneParent, IsWinnerAt, AreWalked, IsWalk}
+use Rattle.hv_order.specs.inside.Walks.{said_of, root_of, winner_of, index_of, index_in, IsChildAt, AreApartNodes, HaveOneParent, AreWalked, IsWalk}
 use Rattle.hv_order.specs.inside.WalkedTrees.{item_at, HasAll, AreOfTree, IsMeaningOf, IsChosenAt, IsChosen}
-use Rattle.hv_order.specs.inside.Chosen.{IsWon, HaveWinners, AreChosenBy}
+use Rattle.hv_order.specs.inside.Chosen.{DoAllStand, AreChosenBy}
 use Rattle.hv_order.specs.inside.Writings.{IsAtPlace, IsChosenFor, AreChosen, AreWritable, SaysAll, IsSettingOver, TellsFirst}
-use Rattle.hv_order.specs.declared.trial.Arranged.{Arranged}
-use Rattle.hv_order.specs.declared.runs.Row.{Row}
 use Rattle.hv_order.specs.declared.walk.Stand.{Stand}
 use Rattle.hv_order.specs.declared.certify.Chosen.{Chosen}
 use Rattle.hv_order.specs.declared.certificate.Certificate.{Certificate}
@@ -153,19 +150,19 @@ module _ (q : Setting) (is : IsSetting q) where
   within : IsWithin (tree_of q.tree) (root_number q.tree)
   within u m = tree.lower (root_number q.tree) u m
 
-  module _ (rows : List Row) (stands : List (Option Stand)) (count : length rows ≡ length q.tree.nodes) (walked : AreWalked (plan_facts q) rows stands) where
-    root_is : root_of rows ≡ root_number q.tree
-    root_is = ap (λ n. n - 1) count
+  module _ (stands : List (Option Stand)) (walked : AreWalked (plan_facts q) (length q.tree.nodes) stands) where
+    abbrev count : ℕ
+    count = length q.tree.nodes
 
-    of_tree : AreOfTree (plan_facts q) (tree_of q.tree) (root_of rows)
+    of_tree : AreOfTree (plan_facts q) (tree_of q.tree) (root_of count)
     of_tree = record {
-      initial = λ c r. let P : ℕ → Type 0 = λ v. HasAll c (children_at q.tree.nodes v) in subst P root_is (has_all (root_of rows) c r);
+      initial = λ c r. has_all (root_of count) c r;
       children = λ v c r. has_all v c r;
     }
 
     -- each node stands
-    stand_at : (v : ℕ) → v < length rows → (s : Stand) × (said_of stands v ≡ Some s)
-    stand_at v lt = by_side (root_or_below v is.tree.is_tree.root (omega (arith, lt, count, is.tree.is_tree.last)))
+    stand_at : (v : ℕ) → v < count → (s : Stand) × (said_of stands v ≡ Some s)
+    stand_at v lt = by_side (root_or_below v is.tree.is_tree.root (omega (arith, lt, is.tree.is_tree.last)))
       where
         root_or_below : (v root : ℕ) → v < root + 1 → (v ≡ root) ⊎ (v < root)
         root_or_below v root lt = by (less_or_same v root lt)
@@ -176,18 +173,12 @@ module _ (q : Setting) (is : IsSetting q) where
 
         by_side : (v ≡ is.tree.is_tree.root) ⊎ (v < is.tree.is_tree.root) → (s : Stand) × (said_of stands v ≡ Some s)
         by_side (inl same) =
-            let r : root_of rows ≡ v = omega (arith, same, root_is, is.tree.is_tree.last) in
+            let r : root_of count ≡ v = omega (arith, same, is.tree.is_tree.last) in
             (walked.root.0, let P : ℕ → Type 0 = λ u. said_of stands u ≡ Some walked.root.0 in subst P r walked.root.1)
-        by_side (inr below) = stands_of (plan_facts q) rows stands walked (tree_of q.tree) tree of_tree v (is.tree.is_tree.shape.reached_lines v below)
+        by_side (inr below) = stands_of (plan_facts q) count stands walked (tree_of q.tree) tree of_tree v (is.tree.is_tree.shape.reached_lines v below)
 
-    pub winners : HaveWinners rows stands
-    winners = record { as_many = walked.as_many; each = each }
-      where
-        each : (v : ℕ) → v < length rows → IsWon rows stands v
-        each v lt =
-            let (s, said) = stand_at v lt in
-            let w = walked.each v s said in
-            record { stand = s; said = said; candidate = w.candidate; winner = w.winner }
+    pub all_stand : DoAllStand stands
+    all_stand v lt = stand_at v (omega (arith, lt, walked.as_many))
 
     -- what is taken for a node
     record Taken : Type 0 where
@@ -198,80 +189,60 @@ module _ (q : Setting) (is : IsSetting q) where
     abbrev taken_by : (v : ℕ) (o : Option Stand) → said_of stands v ≡ o → Taken
     taken_by v None e = record { meaning = free_meaning; matching = []; binding = [] }
     taken_by v (Some s) e =
-        let w = walked.each v s e in
-        let c = arrangement_of w.candidate in
-        record { meaning = (meant v c w.is_candidate).0; matching = w.is_candidate.matching; binding = c.objects }
+        let c = winner_of s in
+        let w = (walked.each v s e).is.is_candidate in
+        record { meaning = (meant v c w).0; matching = w.matching; binding = c.objects }
 
     abbrev taken : ℕ → Taken
     taken v = taken_by v (said_of stands v) refl
 
-    -- it is the winner of the run by which the node stands
+    -- it is the candidate by which the node stands
     record IsTaken (v : ℕ) (s : Stand) (k : Taken) : Type 0 where
-      candidate : Arranged
-      winner : IsWinnerAt rows v s.run candidate
-      of_meaning : IsMeaningOf (plan_facts q) (arrangement_of candidate) k.meaning
+      of_meaning : IsMeaningOf (plan_facts q) (winner_of s) k.meaning
       amounts_to : AmountsTo q v k.matching k.binding k.meaning
-      children : AllZip (IsAtPlace q.tree v) k.matching (map child_view candidate.children.items)
-      objects : map object_number candidate.objects.items ≡ k.binding
+      children : AllZip (IsAtPlace q.tree v) k.matching (map child_view s.winner.children.items)
+      objects : map object_number s.winner.objects.items ≡ k.binding
 
     is_taken_by : (v : ℕ) (o : Option Stand) (e : said_of stands v ≡ o) (s : Stand) → o ≡ Some s → IsTaken v s (taken_by v o e)
     is_taken_by v None e s f = absurd (let clash : None ≡ Some s = f in cc)
     is_taken_by v (Some t) e s f =
         let same : t ≡ s = cc in
-        let w = walked.each v t e in
-        let c = arrangement_of w.candidate in
+        let c = winner_of t in
+        let w = (walked.each v t e).is.is_candidate in
         let P : Stand → Type 0 = λ x. IsTaken v x (taken_by v (Some t) e) in
         subst P same (record {
-          candidate = w.candidate;
-          winner = w.winner;
-          of_meaning = means v c w.is_candidate;
-          amounts_to = amounts v c w.is_candidate;
-          children = at_places v c w.is_candidate;
+          of_meaning = means v c w;
+          amounts_to = amounts v c w;
+          children = at_places v c w;
           objects = refl;
         })
 
     is_taken : (v : ℕ) (s : Stand) → said_of stands v ≡ Some s → IsTaken v s (taken v)
     is_taken v s e = is_taken_by v (said_of stands v) refl s e
 
-    one_winner : (v place : ℕ) (c d : Arranged) → IsWinnerAt rows v place c → IsWinnerAt rows v place d → c ≡ d
-    one_winner v place c d a b =
-        let first = a.has_row in
-        let second = b.has_row in
-        let same : a.row ≡ b.row = cc in
-        let here = a.has_winner in
-        let there = rw (← same) at b.has_winner in
-        cc
-
     abbrev choice : Choice
     choice = record { root = (taken (root_number q.tree)).meaning; line = λ v. (taken v).meaning }
 
-    taken_amounts : (v : ℕ) → v < length rows → AmountsTo q v (taken v).matching (taken v).binding (taken v).meaning
+    taken_amounts : (v : ℕ) → v < count → AmountsTo q v (taken v).matching (taken v).binding (taken v).meaning
     taken_amounts v lt = let (s, said) = stand_at v lt in (is_taken v s said).amounts_to
 
-    taken_orders : (v : ℕ) → v < length rows → IsMeaning q v (taken v).meaning
+    taken_orders : (v : ℕ) → v < count → IsMeaning q v (taken v).meaning
     taken_orders v lt = record { matching = (taken v).matching; binding = (taken v).binding; amounts = taken_amounts v lt }
 
-    root_within : root_number q.tree < length rows
-    root_within = omega (arith, count, is.tree.is_tree.last)
+    root_within : root_number q.tree < count
+    root_within = omega (arith, is.tree.is_tree.last)
 
-    below_within : (v : ℕ) → v < root_number q.tree → v < length rows
-    below_within v lt = omega (arith, lt, count)
+    below_within : (v : ℕ) → v < root_number q.tree → v < count
+    below_within v lt = omega (arith, lt)
 
-    reached_within : (v : ℕ) → Reached (tree_of q.tree) (Task v) → v < length rows
+    reached_within : (v : ℕ) → Reached (tree_of q.tree) (Task v) → v < count
     reached_within v r = below_within v (below_root q.plan.world q.tree is.tree v r)
 
-    chosen_at : (v : ℕ) → IsChosenAt (plan_facts q) rows stands v (taken v).meaning
-    chosen_at v s c said winner =
-        let k = is_taken v s said in
-        let same : k.candidate ≡ c = one_winner v s.run k.candidate c k.winner winner in
-        let P : Arranged → Type 0 = λ x. IsMeaningOf (plan_facts q) (arrangement_of x) (taken v).meaning in
-        subst P same k.of_meaning
+    chosen_at : (v : ℕ) → IsChosenAt (plan_facts q) stands v (taken v).meaning
+    chosen_at v s said = (is_taken v s said).of_meaning
 
-    is_chosen : IsChosen (plan_facts q) rows stands choice
-    is_chosen = record {
-      root = let P : ℕ → Type 0 = λ v. IsChosenAt (plan_facts q) rows stands v choice.root in subst P (sym root_is) (chosen_at (root_number q.tree));
-      line = chosen_at;
-    }
+    is_chosen : IsChosen (plan_facts q) count stands choice
+    is_chosen = record { root = chosen_at (root_number q.tree); line = chosen_at }
 
     orders : AreOrders (tree_of q.tree) choice
     orders = record {
@@ -280,9 +251,9 @@ module _ (q : Setting) (is : IsSetting q) where
     }
 
     sequence : HasSequenceAt (tree_of q.tree) choice (index_of stands) (last q)
-    sequence = walked_sequence (plan_facts q) rows stands (tree_of q.tree) choice (root_number q.tree) walked tree of_tree is_chosen orders within all_actions
+    sequence = walked_sequence (plan_facts q) count stands (tree_of q.tree) choice (root_number q.tree) walked tree of_tree is_chosen orders within all_actions
 
-    module _ (chosen : List Chosen) (by : AreChosenBy rows stands chosen) where
+    module _ (chosen : List Chosen) (by : AreChosenBy stands chosen) where
       abbrev matching_of : ℕ → List ℕ
       matching_of v = (taken v).matching
 
@@ -293,19 +264,16 @@ module _ (q : Setting) (is : IsSetting q) where
       chosen_for v c e =
           let b = by.each v c e in
           let k = is_taken v b.stand b.said in
-          let same : k.candidate ≡ b.candidate = one_winner v b.stand.run k.candidate b.candidate k.winner b.winner in
-          let children : c.children.now ≡ k.candidate.children.items = b.is.children ∙ ap (λ x. x.children.items) (sym same) in
-          let objects : c.objects.now ≡ k.candidate.objects.items = b.is.objects ∙ ap (λ x. x.objects.items) (sym same) in
           let P : List Child → Type 0 = λ xs. AllZip (IsAtPlace q.tree v) (matching_of v) (map child_view xs) in
           record {
-            children = subst P (sym children) k.children;
-            objects = ap (map object_number) objects ∙ k.objects;
+            children = subst P (sym b.is.children) k.children;
+            objects = ap (map object_number) b.is.objects ∙ k.objects;
             index = b.is.index ∙ sym (ap index_in b.said);
           }
 
       are_chosen : AreChosen q chosen matching_of binding_of (index_of stands) choice
       are_chosen = record {
-        as_many = by.as_many ∙ count;
+        as_many = by.as_many ∙ walked.as_many;
         each = chosen_for;
         root = taken_amounts (root_number q.tree) root_within;
         nodes = λ v lt. taken_amounts v (below_within v lt);
@@ -338,22 +306,13 @@ module _ (w : World) (t : PlanTree) (q : Setting) (over : IsSettingOver w t q) w
   pub says_over : (chosen : List Chosen) (s : Certificate) → SaysAll w t chosen s → SaysAll q.plan.world q.tree chosen s
   says_over chosen s h = rw (over.0, over.1) h
 
--- what a walk gives: no node of the root's has a finish, so the plan is not solved, or all is walked
-pub none_walked : (q : Setting) (is : IsSetting q) (rows : List Row) (o : Option (Vec (Option Stand))) → length rows ≡ length q.tree.nodes
-    → IsWalk (plan_facts q) rows (option_map (λ s. s.items) o) → o ≡ None → IsSolved q → ⊥
-none_walked q is rows None count walk e =
-    let root : root_of rows ≡ root_number q.tree = ap (λ n. n - 1) count in
-    let P : ℕ → Type 0 = λ v. IsLeast (FitsNode q v 0) (last q) None in
-    unsolved q is (subst P root walk)
-none_walked q is rows (Some s) count walk e = absurd (let clash : Some s ≡ None = e in cc)
-
-pub some_walked : (q : Facts) (rows rows' : List Row) (o : Option (Vec (Option Stand))) (s : Vec (Option Stand)) (stands : List (Option Stand))
-    → IsWalk q rows (option_map (λ s. s.items) o) → o ≡ Some s → rows' ≡ rows → stands ≡ s.items → AreWalked q rows' stands
-some_walked q rows rows' None s stands walk e same_rows same_stands = absurd (let clash : None ≡ Some s = e in cc)
-some_walked q rows rows' (Some t) s stands walk e same_rows same_stands =
-    let same : t ≡ s = cc in
-    let all : stands ≡ t.items = same_stands ∙ ap (λ x. x.items) (sym same) in
-    rw (same_rows, all) walk
+-- where the root of so many nodes has no finish, the plan is not solved
+pub none_walked : (q : Setting) (is : IsSetting q) (count : ℕ) (o : Option (Vec (Option Stand))) → count ≡ length q.tree.nodes
+    → IsWalk (plan_facts q) count (option_map (λ s. s.items) o) → o ≡ None → IsSolved q → ⊥
+none_walked q is count None same walk e =
+    let P : ℕ → Type 0 = λ n. IsLeast (FitsNode q (root_of n) 0) (last q) None in
+    unsolved q is (subst P same walk)
+none_walked q is count (Some s) same walk e = absurd (let clash : Some s ≡ None = e in cc)
 
 -- what is told of the first node without a candidate
 pub first_told : (w : World) (t : PlanTree) (o : Option ℕ) (line : ℕ) → TellsFirst w t o → o ≡ Some line → (q : Setting) → IsSettingOver w t q → IsFirstWithout q line

@@ -3,8 +3,7 @@ use Rattle.std.proofs.Common.{◌≡◌, ℕ, zero, suc, ◌+◌, ◌≤◌, ◌
 use Rattle.std.proofs.lemmas.Bool.{cases_lt}
 use Rattle.std.specs.Prelude.{slice_get}
 use Rattle.hv_order.specs.inside.Facts.{Facts, IsRunOf}
-use Rattle.hv_order.specs.inside.Nodes.{IsWinnerOf}
-use Rattle.hv_order.specs.inside.Runs.{IsRow, AreWinners, AreRising, AreBefore}
+use Rattle.hv_order.specs.inside.Runs.{IsRow, AreRising, AreBefore}
 use Rattle.hv_order.specs.declared.trial.Arranged.{Arranged}
 use Rattle.hv_order.specs.declared.trial.Run.{Run}
 use Rattle.hv_order.specs.declared.runs.Row.{Row}
@@ -20,13 +19,6 @@ nothing_behind (x ∷ xs) = ap (λ ys. x ∷ ys) (nothing_behind xs)
 -- one run more
 pub row_more : (Fit : ℕ → ℕ → Type 0) (n s : ℕ) (runs : List Run) (r : Run) → ((rest : List Run) → IsRow Fit n s rest → IsRow Fit n 0 (runs ++ rest)) → IsRunOf Fit n s r → (rest : List Run) → IsRow Fit n (r.last + 1) rest → IsRow Fit n 0 ((runs ++ r ∷ []) ++ rest)
 row_more Fit n s runs r far is rest h = rw (appended runs r rest) (far (r ∷ rest) (is, h))
-
--- one winner more
-pub winners_more : (q : Facts) (v : ℕ) (rs : List Run) (ws : List (Option Arranged)) (r : Run) (w : Option Arranged) → AreWinners q v rs ws → IsWinnerOf q v r w → AreWinners q v (rs ++ r ∷ []) (ws ++ w ∷ [])
-winners_more q v [] [] r w are is = (is, tt)
-winners_more q v [] (x ∷ ws) r w are is = absurd are
-winners_more q v (x ∷ rs) [] r w are is = absurd are
-winners_more q v (x ∷ rs) (y ∷ ws) r w are is = (are.0, winners_more q v rs ws r w are.1 is)
 
 -- what is so of each row is so with one more
 abbrev pub AreEach : (ℕ → Row → Type 0) → List Row → Type 0

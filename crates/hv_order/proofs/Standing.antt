@@ -1,63 +1,20 @@
--- A node stands by the winner of the run in which its start lies.
-use Rattle.std.proofs.Common.{◌≡◌, ℕ, zero, suc, ◌≤◌, ◌<◌, List, [], ◌∷◌, refl, sym, ◌∙◌, subst, arith, Option, Some, None, length, get_or}
-use Rattle.std.specs.Prelude.{slice_get}
-use Rattle.std.proofs.lemmas.Option.{slice_get_read}
+-- A node stands by the winner of its run from its start on.
+use Rattle.std.proofs.Common.{◌≡◌, ℕ, ◌≤◌, List, refl, sym, ◌∙◌, subst, arith, Option, Some, None}
 use Rattle.hv_order.specs.Tables.{IsLeastAt, IsLeast}
 use Rattle.hv_order.specs.inside.Arrangements.{Arrangement, arrangement_of}
 use Rattle.hv_order.specs.inside.Facts.{Facts, FitsWith, IsNodeRun, IsFirstTrue, IsFirstStretch}
-use Rattle.hv_order.specs.inside.Nodes.{IsWinnerOf, GivesRun}
-use Rattle.hv_order.specs.inside.Runs.{AreWinners, IsRowOf, IsPlace}
-use Rattle.hv_order.specs.inside.Begun.{IsRunIn, IsRunFrom, CanBeOver, AreLaidOut, AreSet, IsVisited}
+use Rattle.hv_order.specs.inside.Walks.{winner_of}
+use Rattle.hv_order.specs.inside.Nodes.{AreNodes, IsWinnerOf, GivesRun}
+use Rattle.hv_order.specs.inside.Begun.{CanBeOver, AreLaidOut, HasFinish, IsStandFrom, AreSet, IsVisited}
 use Rattle.hv_order.specs.declared.trial.Arranged.{Arranged}
 use Rattle.hv_order.specs.declared.trial.Run.{Run}
 use Rattle.hv_order.specs.declared.trial.Stretch.{Stretch}
-use Rattle.hv_order.specs.declared.runs.Row.{Row}
-use Rattle.hv_order.specs.declared.runs.Place.{Place}
-use Rattle.hv_order.proofs.RunLemmas.{run_here}
+use Rattle.hv_order.specs.declared.walk.Stand.{Stand}
 use Rattle.hv_order.proofs.BeginChildren.{can_be_over}
 
--- each run of a node has its winner
-winner_at : (q : Facts) (v : ℕ) (rs : List Run) (ws : List (Option Arranged)) (i : ℕ) (d : Run) (e : Option Arranged) → AreWinners q v rs ws → i < length rs → IsWinnerOf q v (get_or rs i d) (get_or ws i e)
-winner_at q v [] ws i d e are lt = absurd (omega arith)
-winner_at q v (x ∷ rs) [] i d e are lt = absurd are
-winner_at q v (x ∷ rs) (w ∷ ws) zero d e are lt = are.0
-winner_at q v (x ∷ rs) (w ∷ ws) (suc i) d e are lt = winner_at q v rs ws i d e are.1 (omega arith)
-
-as_many : (q : Facts) (v : ℕ) (rs : List Run) (ws : List (Option Arranged)) → AreWinners q v rs ws → length rs ≡ length ws
-as_many q v [] [] are = refl
-as_many q v [] (w ∷ ws) are = absurd are
-as_many q v (x ∷ rs) [] are = absurd are
-as_many q v (x ∷ rs) (w ∷ ws) are = let h = as_many q v rs ws are.1 in omega arith
-
--- the run at the place that was found, with its winner
-pub run_found : (q : Facts) (v s : ℕ) (row : Row) (p : Place) → IsRowOf q v row → s ≤ q.last → IsPlace row.runs.items s p → IsRunIn q v s row p.at
-run_found q v s row p is le place = record {
-  within = place.within;
-  winners = let a = place.within in let b = as_many q v row.runs.items row.winners.items is.winners in omega arith;
-  run = λ d. run_here (q.fits v) q.last 0 s row.runs.items p.at d is.runs (omega arith) place.within (λ j k. place.behind j d k) (place.here d);
-  winner = λ d w. winner_at q v row.runs.items row.winners.items p.at d w is.winners place.within;
-}
-
--- what is read of a row at the place of a run
-pub record IsRead (q : Facts) (rows : List Row) (v s place : ℕ) (row : Row) (r : Run) (w : Option Arranged) : Type 0 where
-  pub has_row : slice_get rows v ≡ Some row
-  pub run : IsNodeRun q v s r
-  pub winner : IsWinnerOf q v r w
-  pub has_winner : slice_get row.winners.items place ≡ Some w
-
-pub read : (q : Facts) (rows : List Row) (v s place : ℕ) (row : Row) (r : Run) (w : Option Arranged) → IsRunFrom q rows v s place → v < length rows → row ≡ get_or rows v row → r ≡ get_or row.runs.items place r → w ≡ get_or row.winners.items place w → IsRead q rows v s place row r w
-read q rows v s place row r w from lt e f g =
-    let has = slice_get_read rows (length rows) v row refl lt e in
-    let is = from row has in
-    let P : Run → Type 0 = λ u. IsNodeRun q v s u in
-    let Q : Run → Type 0 = λ u. IsWinnerOf q v u w in
-    let O : Option Arranged → Type 0 = λ u. IsWinnerOf q v (get_or row.runs.items place r) u in
-    record {
-      has_row = has;
-      run = subst P (sym f) (is.run r);
-      winner = subst Q (sym f) (subst O (sym g) (is.winner r w));
-      has_winner = slice_get_read row.winners.items (length row.winners.items) place w refl is.winners g;
-    }
+-- a start from which a node has a finish is no later than the last state
+pub start_within : (q : Facts) → AreNodes q → (v s : ℕ) → HasFinish q v s → s ≤ q.last
+start_within q are v s (f, least) = let a = are.fits.climbs v s f least.reached in let b = least.within in omega arith
 
 -- a run's finish is the least
 pub least_of : (q : Facts) (v s f : ℕ) (r : Run) → IsNodeRun q v s r → r.finish ≡ Some f → IsLeastAt (q.fits v s) q.last f
@@ -89,19 +46,30 @@ module _ (q : Facts) (v s f : ℕ) (r : Run) (is : IsNodeRun q v s r) (finish : 
   pub winner_over : (first : Stretch) → IsFirstStretch (q.holds c) s f first → CanBeOver q c first.first f
   winner_over first stretch = let least = least_of q v s f r is finish in can_be_over q c s r.last f first fits is.begun least.within stretch
 
--- the node stands, and its children are begun
-pub node_stands : (q : Facts) (rows : List Row) (v s f place : ℕ) (row : Row) (r : Run) (c : Arranged) (first : Stretch) (starts starts' : List (Option ℕ)) (ss fs : List ℕ) → slice_get rows v ≡ Some row → slice_get row.winners.items place ≡ Some (Some c) → IsNodeRun q v s r → r.finish ≡ Some f → GivesRun q v r (arrangement_of c) → IsFirstStretch (q.holds (arrangement_of c)) s f first → AreLaidOut q (arrangement_of c) first.first f ss fs → AreSet starts c.children.items ss starts' → IsVisited q rows v s starts starts' (record { start = s; finish = f; at = first.first; run = place })
-node_stands q rows v s f place row r c first starts starts' ss fs has_row has_winner is finish gives stretch laid set = record {
-  start = refl;
-  placed = record {
-    candidate = c;
-    winner = record { row = row; has_row = has_row; has_winner = has_winner };
-    is_candidate = gives.is_candidate;
-    least = least_of q v s f r is finish;
-    late = stretch.behind;
-    early = stretch.within;
-    holds = stretch.holds first.first (omega arith) stretch.begun;
-    begun = record { begins = ss; ends = fs; laid = laid; begun = set.begun };
-  };
+  -- so the node stands by it
+  pub stands_by : (w : Arranged) (first : Stretch) → c ≡ arrangement_of w → IsFirstStretch (q.holds c) s f first
+      → IsStandFrom q v s (record { start = s; finish = f; at = first.first; winner = w })
+  stands_by w first e stretch =
+      let P : Arrangement → Type 0 = λ a. q.is_candidate v a in
+      let Q : Arrangement → Type 0 = λ a. q.holds a first.first in
+      let R : Arrangement → Type 0 = λ a. CanBeOver q a first.first f in
+      record {
+        start = refl;
+        is = record {
+          is_candidate = subst P e gives.is_candidate;
+          least = least_of q v s f r is finish;
+          late = stretch.behind;
+          early = stretch.within;
+          holds = subst Q e (stretch.holds first.first (omega arith) stretch.begun);
+        };
+        over = subst R e (winner_over first stretch);
+      }
+
+-- the node is visited, and its children are begun
+pub node_visited : (q : Facts) (v s : ℕ) (t : Stand) (starts starts' : List (Option ℕ)) (ss fs : List ℕ) → IsStandFrom q v s t
+    → AreLaidOut q (winner_of t) t.at t.finish ss fs → AreSet starts t.winner.children.items ss starts' → IsVisited q v s starts starts' t
+node_visited q v s t starts starts' ss fs from laid set = record {
+  start = from.start;
+  placed = record { is = from.is; begun = record { begins = ss; ends = fs; laid = laid; begun = set.begun } };
   kept = set.kept;
 }

@@ -9,6 +9,8 @@ pub mod Frames
 pub mod Winners
 pub mod Nodes
 pub mod Runs
+pub mod Memos
+pub mod Tasks
 pub mod Walks
 pub mod Begun
 pub mod WalkedTrees

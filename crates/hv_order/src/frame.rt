@@ -141,6 +141,7 @@ pub fn advance<T: Table, C: Candidates>(
     ensures listed { IfOk result (StaysListed frame.old frame.new (C.left left.old) (C.left left.new)) }
     ensures unknown { IfOk result (WantsOnly (T.unknown table.now)) }
     ensures start { frame.new.start ≡ frame.old.start }
+    ensures earliest { frame.new.earliest ≡ frame.old.earliest }
 {
     loop {
         let candidate = &frame.candidate;

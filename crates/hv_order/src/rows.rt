@@ -8,20 +8,16 @@ ghost use Rattle.hv_plan.specs.PlanTrees.{IsTreeIn};
 ghost use Rattle.hv_order.specs.Certified.{Certifies, IsRowFault};
 ghost use Rattle.hv_order.specs.LeastFinishes.{NodeCanBePlaced, IsLeastFinishOf, IsNumberOfAnswers, IsCounted};
 ghost use Rattle.hv_order.specs.Settings.{setting, last, HasNoPrecondition, IsSolved, HaveCandidates};
-ghost use Rattle.hv_order.specs.inside.PlanFacts.{IsSetting, plan_facts};
+ghost use Rattle.hv_order.specs.inside.PlanFacts.{IsSetting};
 ghost use Rattle.hv_order.specs.inside.Runs.{ArePlanRows};
-ghost use Rattle.hv_order.specs.inside.Walks.{AreWalked};
-ghost use Rattle.hv_order.specs.inside.Writings.{IsSettingOver};
 
 use crate::certificate::Certificate;
-use crate::certify::write_certificate;
-use crate::chosen::choose;
 use crate::first::first_without;
 use crate::memory::Memory;
 use crate::plan_nodes::PlanNodes;
 use crate::runs::{Row, build, count_runs, least_finish, least_finish_counted};
 use crate::solution::RowFault;
-use crate::walk::{Stand, walk};
+use crate::solved::certificate_of;
 use hv_match::Matcher;
 use hv_plan::Tree;
 use hv_state::{BitState, Trace};
@@ -42,47 +38,6 @@ fn rows_of(
 {
     let rows = build(alloc, nodes, count)?;
     Ok(rows)
-}
-
-// The certificate that a walk of a plan's nodes gives.
-fn by_walk<'s>(
-    alloc: Global,
-    world: &World<'s>,
-    tree: &Tree<'_, '_>,
-    _nodes: &PlanNodes<'_, 's, '_, '_, '_, '_, '_>,
-    rows: &[Row],
-    stands: &[Option<Stand>],
-) -> Result<Certificate<'s>, Memory>
-    requires setting { IsSetting _nodes.now }
-    requires over { IsSettingOver (world_view world.now) (tree_view tree.now) _nodes.now }
-    requires count { length rows.now ≡ length _nodes.now.tree.nodes }
-    requires walked { AreWalked (plan_facts _nodes.now) rows.now stands.now }
-    ensures { IfOk result (Certifies _nodes.now) }
-{
-    let chosen = choose(alloc, rows, stands)?;
-    let certificate = write_certificate(alloc, world, tree, &chosen)?;
-    Ok(certificate)
-}
-
-// A certificate by the rows of a plan's nodes, if the root has a finish from the first state on.
-fn by_rows<'s>(
-    alloc: Global,
-    world: &World<'s>,
-    tree: &Tree<'_, '_>,
-    nodes: &PlanNodes<'_, 's, '_, '_, '_, '_, '_>,
-    rows: &[Row],
-) -> Result<Option<Certificate<'s>>, Memory>
-    requires over { IsSettingOver (world_view world.now) (tree_view tree.now) nodes.now }
-    requires rows { ArePlanRows nodes.now rows.now }
-    ensures { IfOk result (λ o. MatchOption o (IsSolved nodes.now → ⊥) (Certifies nodes.now)) }
-{
-    match walk(alloc, nodes, rows)? {
-        None => Ok(None),
-        Some(stands) => {
-            let certificate = by_walk(alloc, world, tree, nodes, rows, &stands)?;
-            Ok(Some(certificate))
-        }
-    }
 }
 
 /// The rows of a plan's nodes, of which each has a candidate. Its value is the plan: the tree, the
@@ -181,8 +136,6 @@ impl<'a, 's, 'm, 'p, 't, 'c, 'd> Rows<'a, 's, 'm, 'p, 't, 'c, 'd> {
     pub fn certificate(&self, alloc: Global) -> Result<Option<Certificate<'s>>, Memory>
         ensures { IfOk result (λ o. MatchOption o (IsSolved self.now → ⊥) (Certifies self.now)) }
     {
-        let world = self.nodes.world();
-        let tree = self.nodes.tree();
-        by_rows(alloc, world, tree, &self.nodes, &self.rows)
+        certificate_of(alloc, &self.nodes)
     }
 }

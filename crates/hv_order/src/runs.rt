@@ -9,15 +9,13 @@ ghost use Rattle.hv_order.specs.inside.Runs.{IsRowOf, AreRows, AreRising, Reache
 use crate::memory::Memory;
 use crate::nodes::Nodes;
 use crate::settle::settle;
-use crate::trial::{Arranged, Run};
+use crate::trial::Run;
 use std::alloc::Global;
 
-/// The row of one node: each run goes from behind the run before it, and has the candidate that gives
-/// its finish from its last start.
+/// The row of one node: each run goes from behind the run before it.
 #[derive(Drop)]
 pub struct Row {
     pub runs: Vec<Run>,
-    pub winners: Vec<Option<Arranged>>,
 }
 
 /// Whether two finishes are the same.
@@ -37,17 +35,15 @@ pub fn ends_with(runs: &[Run], finish: Option<u32>) -> bool
     }
 }
 
-/// Takes off the last run with its winner, if it has the finish of the next: the next stands for both,
-/// since its winner serves the earlier starts too.
-pub fn trim(runs: &mut Vec<Run>, winners: &mut Vec<Option<Arranged>>, finish: Option<u32>)
-    ensures { IsTrimmed runs.old.items winners.old.items finish runs.new.items winners.new.items }
+/// Takes off the last run, if it has the finish of the next: the next stands for both.
+pub fn trim(runs: &mut Vec<Run>, finish: Option<u32>)
+    ensures { IsTrimmed runs.old.items finish runs.new.items }
 {
     if !ends_with(runs, finish) {
         return;
     }
     let kept = runs.len() - 1;
     runs.truncate(kept);
-    winners.truncate(kept);
 }
 
 /// The row of the node behind these rows.
@@ -59,16 +55,14 @@ pub fn make_row<N: Nodes>(alloc: Global, nodes: &N, rows: &[Row]) -> Result<Row,
 {
     let last = nodes.last();
     let mut runs = Vec::new(alloc);
-    let mut winners = Vec::new(alloc);
     let mut start = 0;
     while start <= last {
         let settled = settle(alloc, nodes, rows, start)?;
         start = settled.run.last + 1;
-        trim(&mut runs, &mut winners, settled.run.finish);
+        trim(&mut runs, settled.run.finish);
         runs.push(settled.run)?;
-        winners.push(settled.winner)?;
     }
-    Ok(Row { runs, winners })
+    Ok(Row { runs })
 }
 
 /// The rows of the first `count` nodes, children first.

@@ -9,8 +9,10 @@ ghost use Rattle.hv_order.specs.Settings.{setting, HasNoPrecondition, IsSolved, 
 ghost use Rattle.hv_order.specs.Certified.{Certifies, IsRowFault};
 
 use crate::certificate::Certificate;
+use crate::first::first_without;
 use crate::memory::Memory;
-use crate::rows::Rows;
+use crate::plan_nodes::PlanNodes;
+use crate::solved::certificate_of;
 use hv_match::Matcher;
 use hv_plan::Tree;
 use hv_state::{BitState, Trace};
@@ -74,7 +76,13 @@ pub fn solution<'s>(
         (Certifies (setting (tree_view tree.now) trace.now is_with))) }
     ensures fault { IfErr result (IsRowFault (setting (tree_view tree.now) trace.now is_with)) }
 {
-    let rows = Rows::build(alloc, world, matcher, tree, trace, is_with)?;
-    let certificate = rows.certificate(alloc)?;
-    Ok(certificate)
+    match first_without(alloc, matcher, tree)? {
+        Some(line) => Err(RowFault::NoBinding(line)),
+        None => {
+            world.is_sound();
+            let nodes = PlanNodes::new(world, matcher, tree, trace, is_with);
+            let certificate = certificate_of(alloc, &nodes)?;
+            Ok(certificate)
+        }
+    }
 }

@@ -1,32 +1,31 @@
-//! Where each node of a plan begins and is over in a certificate, chosen from the rows with parents
-//! first.
+//! Where each node of a plan begins and is over in a certificate, found with parents first.
 ghost use Rattle.std.specs.Prelude.{◌≡◌, ◌<◌, ◌≤◌, ◌-◌, length, IfOk, Some, option_map};
 ghost use Rattle.hv_order.specs.Tables.{IsLeast};
 ghost use Rattle.hv_order.specs.inside.Children.{ChildFits, IsNodeBelow, AreNodesBelow};
 ghost use Rattle.hv_order.specs.inside.Arrangements.{arrangement_of};
 ghost use Rattle.hv_order.specs.inside.Frames.{IsArranged};
+ghost use Rattle.hv_order.specs.inside.Memos.{AreKnown};
 ghost use Rattle.hv_order.specs.inside.Nodes.{AreNodes};
-ghost use Rattle.hv_order.specs.inside.Runs.{AreRows};
 ghost use Rattle.hv_order.specs.inside.Walks.{said_of, root_of, AreApartNodes, HaveOneParent, AreWalked, IsWalk};
-ghost use Rattle.hv_order.specs.inside.Begun.{IsRunFrom, CanBeOver, IsLaidOut, HaveFinishes, AreSet, IsVisited, IsVisit};
+ghost use Rattle.hv_order.specs.inside.Begun.{CanBeOver, IsLaidOut, HasFinish, HaveFinishes, IsStandFrom, AreSet, IsVisited, IsVisit};
 
-use crate::children::run_of_child;
+use crate::children::run_of_action;
+use crate::memo::Memo;
 use crate::memory::Memory;
 use crate::nodes::Nodes;
-use crate::runs::{Row, least_finish, run_at};
-use crate::settle::Before;
+use crate::solve::{run_for, solve};
 use crate::trial::{Arranged, direct_before, start_of};
 use hv_plan::Child;
 use std::alloc::Global;
 
 /// Where a node begins, its least finish from there, the index at which its precondition is true, and
-/// the place of the run in its row by whose winner it stands.
-#[derive(Clone, Copy)]
+/// the candidate that gives this finish.
+#[derive(Drop)]
 pub struct Stand {
     pub start: u32,
     pub finish: u32,
     pub at: u32,
-    pub run: usize,
+    pub winner: Arranged,
 }
 
 /// Where each subtask of a candidate begins, and where it is over.
@@ -36,18 +35,28 @@ pub struct Layout {
     pub finishes: Vec<u32>,
 }
 
-/// The least finish of a child for a start, by the rows of the nodes.
-pub fn finish_of_child<N: Nodes>(nodes: &N, rows: &[Row], child: Child, start: u32) -> Option<u32>
-    requires rows { AreRows (N.facts nodes.now) rows.now }
-    requires child { IsNodeBelow (length rows.now) child }
+/// The least finish of a child for a start.
+pub fn finish_of_child<N: Nodes>(
+    alloc: Global,
+    nodes: &N,
+    memo: &mut Memo,
+    child: Child,
+    start: u32,
+) -> Result<Option<u32>, Memory>
+    requires nodes { AreNodes (N.facts nodes.now) }
+    requires memo { AreKnown (N.facts nodes.now) (N.size nodes.now) memo.old }
+    requires child { IsNodeBelow (N.size nodes.now) child }
     requires start { start ≤ (N.facts nodes.now).last }
-    ensures { IsLeast
-        (ChildFits (N.facts nodes.now).fits child start) (N.facts nodes.now).last result }
+    ensures finish { IfOk result
+        (IsLeast (ChildFits (N.facts nodes.now).fits child start) (N.facts nodes.now).last) }
+    ensures memo { AreKnown (N.facts nodes.now) (N.size nodes.now) memo.new }
 {
-    let table = Before { nodes, rows };
-    match run_of_child(&table, child, start, nodes.last()) {
-        Err(_) => unreachable!(),
-        Ok(run) => run.finish,
+    match child {
+        Child::Action(action) => Ok(run_of_action(action, start, nodes.last()).finish),
+        Child::Node(node) => {
+            let run = run_for(alloc, nodes, memo, node, start)?;
+            Ok(run.finish)
+        }
     }
 }
 
@@ -55,25 +64,26 @@ pub fn finish_of_child<N: Nodes>(nodes: &N, rows: &[Row], child: Child, start: u
 pub fn lay_out<N: Nodes>(
     alloc: Global,
     nodes: &N,
-    rows: &[Row],
+    memo: &mut Memo,
     candidate: &Arranged,
     at: u32,
     _finish: u32,
 ) -> Result<Layout, Memory>
     requires nodes { AreNodes (N.facts nodes.now) }
-    requires rows { AreRows (N.facts nodes.now) rows.now }
+    requires memo { AreKnown (N.facts nodes.now) (N.size nodes.now) memo.old }
     requires arranged { IsArranged (N.facts nodes.now) (arrangement_of candidate.now) }
-    requires below { AreNodesBelow (length rows.now) candidate.now.children.items }
+    requires below { AreNodesBelow (N.size nodes.now) candidate.now.children.items }
     requires over { CanBeOver (N.facts nodes.now) (arrangement_of candidate.now) at _finish }
-    ensures { IfOk result
+    ensures laid { IfOk result
         (IsLaidOut (N.facts nodes.now) (arrangement_of candidate.now) at _finish) }
+    ensures memo { AreKnown (N.facts nodes.now) (N.size nodes.now) memo.new }
 {
     let count = candidate.children.len();
     let mut starts = vec![in alloc; 0; count]?;
     let mut finishes = vec![in alloc; 0; count]?;
     for subtask in &candidate.order {
         let start = start_of(&finishes, direct_before(&candidate.direct, *subtask), at);
-        match finish_of_child(nodes, rows, candidate.children[*subtask], start) {
+        match finish_of_child(alloc, nodes, memo, candidate.children[*subtask], start)? {
             None => unreachable!(),
             Some(finish) => {
                 starts[*subtask] = start;
@@ -99,103 +109,124 @@ pub fn begin_children(starts: &mut [Option<u32>], children: &[Child], begins: &[
     }
 }
 
-/// The place of the run of a node in which a start lies.
-pub fn run_from<N: Nodes>(_nodes: &N, rows: &[Row], node: usize, start: u32) -> usize
-    requires rows { AreRows (N.facts _nodes.now) rows.now }
-    requires node { node < length rows.now }
-    requires start { start ≤ (N.facts _nodes.now).last }
-    ensures { IsRunFrom (N.facts _nodes.now) rows.now node start result }
-{
-    run_at(&rows[node].runs, start).at
-}
-
-/// Lets a node stand from its start on, by the winner of the run in which that lies, and begins its
-/// children.
-pub fn place_node<N: Nodes>(
+/// Where a node stands that begins at a start from which it has a finish.
+pub fn stand_from<N: Nodes>(
     alloc: Global,
     nodes: &N,
-    rows: &[Row],
-    starts: &mut [Option<u32>],
-    node: usize,
+    memo: &mut Memo,
+    node: u32,
     start: u32,
 ) -> Result<Stand, Memory>
     requires nodes { AreNodes (N.facts nodes.now) }
-    requires rows { AreRows (N.facts nodes.now) rows.now }
-    requires tree { HaveOneParent (N.facts nodes.now) }
-    requires node { node < length rows.now }
-    requires as_many { length starts.old ≡ length rows.now }
-    requires begun { said_of starts.old node ≡ Some start }
-    requires finishes { HaveFinishes (N.facts nodes.now) starts.old }
-    ensures { IfOk result
-        (IsVisited (N.facts nodes.now) rows.now node start starts.old starts.new) }
+    requires memo { AreKnown (N.facts nodes.now) (N.size nodes.now) memo.old }
+    requires node { node < N.size nodes.now }
+    requires finish { HasFinish (N.facts nodes.now) node start }
+    ensures stand { IfOk result (IsStandFrom (N.facts nodes.now) node start) }
+    ensures memo { AreKnown (N.facts nodes.now) (N.size nodes.now) memo.new }
 {
-    let run = run_from(nodes, rows, node, start);
-    let row = &rows[node];
-    let finish = match row.runs[run].finish {
+    let settled = solve(alloc, nodes, memo, node, start)?;
+    let finish = match settled.run.finish {
         None => unreachable!(),
         Some(finish) => finish,
     };
-    let winner = match &row.winners[run] {
+    let winner = match settled.winner {
         None => unreachable!(),
         Some(winner) => winner,
     };
-    let at = match nodes.first_true(winner, start, finish) {
+    let at = match nodes.first_true(&winner, start, finish) {
         None => unreachable!(),
         Some(truth) => truth.first,
     };
-    let layout = lay_out(alloc, nodes, rows, winner, at, finish)?;
-    begin_children(starts, &winner.children, &layout.starts);
     Ok(Stand {
         start,
         finish,
         at,
-        run,
+        winner,
     })
+}
+
+/// Lets a node stand from its start on, and begins its children.
+pub fn place_node<N: Nodes>(
+    alloc: Global,
+    nodes: &N,
+    memo: &mut Memo,
+    starts: &mut [Option<u32>],
+    node: u32,
+    start: u32,
+) -> Result<Stand, Memory>
+    requires nodes { AreNodes (N.facts nodes.now) }
+    requires memo { AreKnown (N.facts nodes.now) (N.size nodes.now) memo.old }
+    requires tree { HaveOneParent (N.facts nodes.now) }
+    requires node { node < N.size nodes.now }
+    requires as_many { length starts.old ≡ N.size nodes.now }
+    requires finish { HasFinish (N.facts nodes.now) node start }
+    ensures visited { IfOk result
+        (IsVisited (N.facts nodes.now) node start starts.old starts.new) }
+    ensures memo { AreKnown (N.facts nodes.now) (N.size nodes.now) memo.new }
+{
+    let stand = stand_from(alloc, nodes, memo, node, start)?;
+    let layout = lay_out(alloc, nodes, memo, &stand.winner, stand.at, stand.finish)?;
+    begin_children(starts, &stand.winner.children, &layout.starts);
+    Ok(stand)
 }
 
 /// Visits a node: if it is begun, it stands.
 pub fn visit<N: Nodes>(
     alloc: Global,
     nodes: &N,
-    rows: &[Row],
+    memo: &mut Memo,
     starts: &mut [Option<u32>],
-    node: usize,
+    node: u32,
 ) -> Result<Option<Stand>, Memory>
     requires nodes { AreNodes (N.facts nodes.now) }
-    requires rows { AreRows (N.facts nodes.now) rows.now }
+    requires memo { AreKnown (N.facts nodes.now) (N.size nodes.now) memo.old }
     requires tree { HaveOneParent (N.facts nodes.now) }
-    requires node { node < length rows.now }
-    requires as_many { length starts.old ≡ length rows.now }
+    requires node { node < N.size nodes.now }
+    requires as_many { length starts.old ≡ N.size nodes.now }
     requires finishes { HaveFinishes (N.facts nodes.now) starts.old }
-    ensures { IfOk result
-        (IsVisit (N.facts nodes.now) rows.now node
-        starts.old starts.new (said_of starts.old node)) }
+    ensures visit { IfOk result
+        (IsVisit (N.facts nodes.now) node starts.old starts.new (said_of starts.old node)) }
+    ensures memo { AreKnown (N.facts nodes.now) (N.size nodes.now) memo.new }
 {
-    match starts[node] {
+    match starts[node as usize] {
         None => Ok(None),
-        Some(start) => Ok(Some(place_node(alloc, nodes, rows, starts, node, start)?)),
+        Some(start) => Ok(Some(place_node(alloc, nodes, memo, starts, node, start)?)),
     }
+}
+
+/// As long a list as there are nodes, of which none stands yet.
+pub fn none_stands(alloc: Global, count: u32) -> Result<Vec<Option<Stand>>, Memory>
+    ensures { IfOk result (λ stands. length stands.items ≡ count) }
+{
+    let mut stands = Vec::new(alloc);
+    for _ in 0..count {
+        stands.push(None)?;
+    }
+    Ok(stands)
 }
 
 /// Visits all nodes, parents first, where the root is begun.
 pub fn visit_all<N: Nodes>(
     alloc: Global,
     nodes: &N,
-    rows: &[Row],
+    memo: &mut Memo,
     starts: &mut [Option<u32>],
+    count: u32,
 ) -> Result<Vec<Option<Stand>>, Memory>
     requires nodes { AreNodes (N.facts nodes.now) }
-    requires rows { AreRows (N.facts nodes.now) rows.now }
+    requires memo { AreKnown (N.facts nodes.now) (N.size nodes.now) memo.old }
     requires tree { HaveOneParent (N.facts nodes.now) }
-    requires some { 0 < length rows.now }
-    requires as_many { length starts.old ≡ length rows.now }
+    requires count { count ≡ N.size nodes.now }
+    requires some { 0 < count }
+    requires as_many { length starts.old ≡ count }
     requires finishes { HaveFinishes (N.facts nodes.now) starts.old }
-    requires root { said_of starts.old (root_of rows.now) ≡ Some 0 }
-    ensures { IfOk result (λ stands. AreWalked (N.facts nodes.now) rows.now stands.items) }
+    requires root { said_of starts.old (root_of count) ≡ Some 0 }
+    ensures walked { IfOk result (λ stands. AreWalked (N.facts nodes.now) count stands.items) }
+    ensures memo { AreKnown (N.facts nodes.now) (N.size nodes.now) memo.new }
 {
-    let mut stands = vec![in alloc; None; rows.len()]?;
-    for node in (0..rows.len()).rev() {
-        stands[node] = visit(alloc, nodes, rows, starts, node)?;
+    let mut stands = none_stands(alloc, count)?;
+    for node in (0..count).rev() {
+        stands[node as usize] = visit(alloc, nodes, memo, starts, node)?;
     }
     Ok(stands)
 }
@@ -205,22 +236,26 @@ pub fn visit_all<N: Nodes>(
 pub fn walk<N: Nodes>(
     alloc: Global,
     nodes: &N,
-    rows: &[Row],
+    memo: &mut Memo,
+    count: u32,
 ) -> Result<Option<Vec<Option<Stand>>>, Memory>
     requires nodes { AreNodes (N.facts nodes.now) }
-    requires rows { AreRows (N.facts nodes.now) rows.now }
+    requires memo { AreKnown (N.facts nodes.now) (N.size nodes.now) memo.old }
     requires tree { HaveOneParent (N.facts nodes.now) }
-    requires some { 0 < length rows.now }
-    ensures { IfOk result
-        (λ o. IsWalk (N.facts nodes.now) rows.now (option_map (λ stands. stands.items) o)) }
+    requires count { count ≡ N.size nodes.now }
+    requires some { 0 < count }
+    ensures walk { IfOk result
+        (λ o. IsWalk (N.facts nodes.now) count (option_map (λ stands. stands.items) o)) }
+    ensures memo { AreKnown (N.facts nodes.now) (N.size nodes.now) memo.new }
 {
-    let root = rows.len() - 1;
-    match least_finish(nodes, rows, root, 0) {
+    let root = count - 1;
+    let run = run_for(alloc, nodes, memo, root, 0)?;
+    match run.finish {
         None => Ok(None),
         Some(_finish) => {
-            let mut starts = vec![in alloc; None; rows.len()]?;
-            starts[root] = Some(0);
-            Ok(Some(visit_all(alloc, nodes, rows, &mut starts)?))
+            let mut starts = vec![in alloc; None; count as usize]?;
+            starts[root as usize] = Some(0);
+            Ok(Some(visit_all(alloc, nodes, memo, &mut starts, count)?))
         }
     }
 }

@@ -3,9 +3,7 @@ use Rattle.std.specs.Prelude.{◌≡◌, ℕ, ◌+◌, ◌-◌, ◌<◌, ◌≤�
 use Rattle.hv_order.specs.LeastFinishes.{NodeCanBePlaced, IsNumberOfAnswers, HasDigits}
 use Rattle.hv_order.specs.Settings.{Setting, last, HaveCandidates}
 use Rattle.hv_order.specs.inside.Facts.{Facts, IsRunOf}
-use Rattle.hv_order.specs.inside.Nodes.{IsWinnerOf}
 use Rattle.hv_order.specs.inside.PlanFacts.{IsSetting, plan_facts}
-use Rattle.hv_order.specs.declared.trial.Arranged.{Arranged}
 use Rattle.hv_order.specs.declared.trial.Run.{Run}
 use Rattle.hv_order.specs.declared.runs.Row.{Row}
 use Rattle.hv_order.specs.declared.runs.Place.{Place}
@@ -14,13 +12,6 @@ use Rattle.hv_order.specs.declared.runs.Place.{Place}
 abbrev pub IsRow : (ℕ → ℕ → Type 0) → ℕ → ℕ → List Run → Type 0
 IsRow Fit n s [] = s ≡ n + 1
 IsRow Fit n s (r ∷ rs) = IsRunOf Fit n s r × IsRow Fit n (r.last + 1) rs
-
--- each run of a node has its winner
-abbrev pub AreWinners : Facts → ℕ → List Run → List (Option Arranged) → Type 0
-AreWinners q v [] [] = Unit {0}
-AreWinners q v [] (w ∷ ws) = ⊥
-AreWinners q v (r ∷ rs) [] = ⊥
-AreWinners q v (r ∷ rs) (w ∷ ws) = IsWinnerOf q v r w × AreWinners q v rs ws
 
 -- the first of these runs has another finish than the run before it
 abbrev pub IsApartFrom : Run → List Run → Type 0
@@ -36,7 +27,6 @@ AreApart (r ∷ rs) = IsApartFrom r rs × AreApart rs
 pub record IsRowOf (q : Facts) (v : ℕ) (r : Row) : Type 0 where
   pub runs : IsRow (q.fits v) q.last 0 r.runs.items
   pub apart : AreApart r.runs.items
-  pub winners : AreWinners q v r.runs.items r.winners.items
 
 -- each row is that of the node of its number
 abbrev pub AreRows : Facts → List Row → Type 0
@@ -61,27 +51,19 @@ pub record EndsWith (runs : List Run) (finish : Option ℕ) : Type 0 where
   pub is_last : slice_get runs (length runs - 1) ≡ Some run
   pub finish_is : run.finish ≡ finish
 
--- both lists are as they were, and the last run had another finish
-pub record StaysWhole
-    (runs : List Run) (ws : List (Option Arranged)) (finish : Option ℕ) (runs' : List Run)
-    (ws' : List (Option Arranged)) : Type 0 where
+-- the runs are as they were, and the last had another finish
+pub record StaysWhole (runs : List Run) (finish : Option ℕ) (runs' : List Run) : Type 0 where
   pub other : EndsWith runs finish → ⊥
   pub runs_are : runs' ≡ runs
-  pub winners_are : ws' ≡ ws
 
--- the last run had this finish, and is gone with its winner
-pub record LosesLast
-    (runs : List Run) (ws : List (Option Arranged)) (finish : Option ℕ) (runs' : List Run)
-    (ws' : List (Option Arranged)) : Type 0 where
+-- the last run had this finish, and is gone
+pub record LosesLast (runs : List Run) (finish : Option ℕ) (runs' : List Run) : Type 0 where
   pub last : EndsWith runs finish
   pub runs_are : runs' ≡ take (length runs - 1) runs
-  pub winners_are : ws' ≡ take (length runs - 1) ws
 
 -- how the runs of a row go on where the next one has this finish
-abbrev pub IsTrimmed :
-    List Run → List (Option Arranged) → Option ℕ → List Run → List (Option Arranged) → Type 0
-IsTrimmed runs ws finish runs' ws' =
-    StaysWhole runs ws finish runs' ws' ⊎ LosesLast runs ws finish runs' ws'
+abbrev pub IsTrimmed : List Run → Option ℕ → List Run → Type 0
+IsTrimmed runs finish runs' = StaysWhole runs finish runs' ⊎ LosesLast runs finish runs'
 
 -- so many of these runs were looked at: one or more, and at most as many as their number has binary
 -- digits

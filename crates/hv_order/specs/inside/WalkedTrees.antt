@@ -5,11 +5,9 @@ use Rattle.hv_plan.specs.TreeViews.{child_view}
 use Rattle.hv_order.specs.Meanings.{Meaning, Choice}
 use Rattle.hv_order.specs.StandIns.{StandsFor}
 use Rattle.hv_order.specs.inside.Children.{child_at}
-use Rattle.hv_order.specs.inside.Arrangements.{Arrangement, arrangement_of}
+use Rattle.hv_order.specs.inside.Arrangements.{Arrangement}
 use Rattle.hv_order.specs.inside.Facts.{Facts}
-use Rattle.hv_order.specs.inside.Walks.{said_of, root_of, IsWinnerAt}
-use Rattle.hv_order.specs.declared.trial.Arranged.{Arranged}
-use Rattle.hv_order.specs.declared.runs.Row.{Row}
+use Rattle.hv_order.specs.inside.Walks.{said_of, root_of, winner_of}
 use Rattle.hv_order.specs.declared.walk.Stand.{Stand}
 
 -- the item that stands for a subtask
@@ -29,13 +27,11 @@ pub record AreOfTree (q : Facts) (t : Tree) (root : ℕ) : Type 0 where
 abbrev pub IsMeaningOf : Facts → Arrangement → Meaning → Type 0
 IsMeaningOf q c m = StandsFor (length c.children) (item_at c) (q.before c) (q.holds c) m
 
--- the winner by which a node stands has this meaning
-abbrev pub IsChosenAt : Facts → List Row → List (Option Stand) → ℕ → Meaning → Type 0
-IsChosenAt q rows stands v m =
-    (s : Stand) (c : Arranged) → said_of stands v ≡ Some s → IsWinnerAt rows v s.run c
-    → IsMeaningOf q (arrangement_of c) m
+-- the candidate by which a node stands has this meaning
+abbrev pub IsChosenAt : Facts → List (Option Stand) → ℕ → Meaning → Type 0
+IsChosenAt q stands v m = (s : Stand) → said_of stands v ≡ Some s → IsMeaningOf q (winner_of s) m
 
--- the choice is of the winners by which the nodes stand
-pub record IsChosen (q : Facts) (rows : List Row) (stands : List (Option Stand)) (o : Choice) : Type 0 where
-  pub root : IsChosenAt q rows stands (root_of rows) o.root
-  pub line : (v : ℕ) → IsChosenAt q rows stands v (o.line v)
+-- the choice is of the candidates by which so many nodes stand
+pub record IsChosen (q : Facts) (count : ℕ) (stands : List (Option Stand)) (o : Choice) : Type 0 where
+  pub root : IsChosenAt q stands (root_of count) o.root
+  pub line : (v : ℕ) → IsChosenAt q stands v (o.line v)

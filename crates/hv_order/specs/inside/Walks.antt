@@ -1,5 +1,5 @@
--- Where each node of a plan begins and is over, chosen from the rows with parents first.
-use Rattle.std.specs.Prelude.{◌≡◌, ℕ, ◌+◌, ◌-◌, ◌<◌, ◌≤◌, List, length, slice_get, Option, Some, None, MatchOption}
+-- Where each node of a plan begins and is over, found with parents first.
+use Rattle.std.specs.Prelude.{◌≡◌, ℕ, ◌+◌, ◌-◌, ◌<◌, ◌≤◌, List, length, Option, Some, None, MatchOption}
 use Rattle.std.specs.List.{slice_index_or}
 use Rattle.hv_plan.specs.declared.tree.Child.{Child}
 use Rattle.hv_plan.specs.declared.tree.Child.TheVariants as children
@@ -7,8 +7,6 @@ use Rattle.hv_order.specs.Tables.{IsLeastAt, IsLeast}
 use Rattle.hv_order.specs.inside.Children.{child_at}
 use Rattle.hv_order.specs.inside.Arrangements.{Arrangement, arrangement_of}
 use Rattle.hv_order.specs.inside.Facts.{Facts}
-use Rattle.hv_order.specs.declared.trial.Arranged.{Arranged}
-use Rattle.hv_order.specs.declared.runs.Row.{Row}
 use Rattle.hv_order.specs.declared.walk.Stand.{Stand}
 
 -- what is said of a node, if anything is
@@ -30,15 +28,13 @@ pub record HaveOneParent (q : Facts) : Type 0 where
       → IsChildAt c.children i u → IsChildAt d.children j u → v ≡ w
   pub place : (v : ℕ) (c : Arrangement) → q.is_candidate v c → AreApartNodes c.children
 
--- the number of the root line's node, which is the last
-abbrev pub root_of : List Row → ℕ
-root_of rows = length rows - 1
+-- the number of the root line's node among so many, which is the last
+abbrev pub root_of : ℕ → ℕ
+root_of count = count - 1
 
--- the winner of the run at a place of a node's row
-pub record IsWinnerAt (rows : List Row) (v place : ℕ) (c : Arranged) : Type 0 where
-  pub row : Row
-  pub has_row : slice_get rows v ≡ Some row
-  pub has_winner : slice_get row.winners.items place ≡ Some (Some c)
+-- the candidate by which a node stands
+abbrev pub winner_of : Stand → Arrangement
+winner_of t = arrangement_of t.winner
 
 -- where a node begins, where it is over, and the index of its precondition
 abbrev pub start_in : Option Stand → ℕ
@@ -78,26 +74,27 @@ pub record AreBranches
       (i j : ℕ) → i < length c.children → j < length c.children → q.before c i j
       → over stands (child_at c.children i) ≤ begins stands (child_at c.children j)
 
--- A node stands by the winner of a run: it is over at the least finish from its start, its
--- precondition is true at its index, and its children stand by the winner
-pub record IsStanding
-    (q : Facts) (rows : List Row) (stands : List (Option Stand)) (v : ℕ) (t : Stand)
-    : Type 0 where
-  pub candidate : Arranged
-  pub winner : IsWinnerAt rows v t.run candidate
-  pub is_candidate : q.is_candidate v (arrangement_of candidate)
+-- A node stands by one of its candidates: it is over at the least finish from its start, and the
+-- candidate's precondition is true at its index
+pub record IsStand (q : Facts) (v : ℕ) (t : Stand) : Type 0 where
+  pub is_candidate : q.is_candidate v (winner_of t)
   pub least : IsLeastAt (q.fits v t.start) q.last t.finish
   pub late : t.start ≤ t.at
   pub early : t.at ≤ t.finish
-  pub holds : q.holds (arrangement_of candidate) t.at
-  pub branches : AreBranches q stands t (arrangement_of candidate)
+  pub holds : q.holds (winner_of t) t.at
 
--- the root stands from the first state on, and so do all nodes that are reached from it by winners
-pub record AreWalked (q : Facts) (rows : List Row) (stands : List (Option Stand)) : Type 0 where
-  pub as_many : length stands ≡ length rows
-  pub root : (t : Stand) × (said_of stands (root_of rows) ≡ Some t) × (t.start ≡ 0)
-  pub each : (v : ℕ) (t : Stand) → said_of stands v ≡ Some t → IsStanding q rows stands v t
+-- a node stands, and its children stand by its candidate
+pub record IsStanding (q : Facts) (stands : List (Option Stand)) (v : ℕ) (t : Stand) : Type 0 where
+  pub is : IsStand q v t
+  pub branches : AreBranches q stands t (winner_of t)
+
+-- the root stands from the first state on, and so do all nodes that are reached from it by the
+-- candidates of those that stand
+pub record AreWalked (q : Facts) (count : ℕ) (stands : List (Option Stand)) : Type 0 where
+  pub as_many : length stands ≡ count
+  pub root : (t : Stand) × (said_of stands (root_of count) ≡ Some t) × (t.start ≡ 0)
+  pub each : (v : ℕ) (t : Stand) → said_of stands v ≡ Some t → IsStanding q stands v t
 
 -- the root has no finish from the first state on, or all nodes are walked from it
-abbrev pub IsWalk : Facts → List Row → Option (List (Option Stand)) → Type 0
-IsWalk q rows o = MatchOption o (IsLeast (q.fits (root_of rows) 0) q.last None) (AreWalked q rows)
+abbrev pub IsWalk : Facts → ℕ → Option (List (Option Stand)) → Type 0
+IsWalk q count o = MatchOption o (IsLeast (q.fits (root_of count) 0) q.last None) (AreWalked q count)

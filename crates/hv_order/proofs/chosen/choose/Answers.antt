@@ -1,21 +1,18 @@
-use Rattle.std.proofs.Common.{◌≡◌, Some, slice_get}
-use Rattle.hv_plan.proofs.ChildLemmas.{slice_get_here}
-use Rattle.hv_order.proofs.ChosenRows.{stand_there, winner_there, one_more_chosen}
+use Rattle.std.proofs.Common.{◌≡◌, ◌∙◌, sym, None}
+use Rattle.hv_order.specs.inside.Walks.{said_of}
+use Rattle.hv_order.proofs.ChosenStands.{not_none, one_more_chosen}
+use Rattle.hv_order.proofs.RunLemmas.{same_or}
 use Rattle.hv_order.proofs.chosen.choose.Goals as goal
 
-pub stand_of-stand-requires-clause-stands : goal.stand_of-stand-requires-clause-stands
-stand_of-stand-requires-clause-stands c =
-    stand_there c.args.rows.now c.args.stands.now c.loop-node.node (c.requires.each c.loop-node.node c.loop-node-test.true)
+pub unreachable-requires : goal.unreachable-requires
+unreachable-requires c =
+    let i = c.loop-stand.stand-index in
+    let here : said_of c.args.stands.now i ≡ c.stand-item.result = same_or c.args.stands.now i None c.stand-item.result c.loop-stand-test.true ∙ sym c.stand-item.is in
+    not_none c.args.stands.now i c.stand-item.result c.requires c.loop-stand-test.true here c.in-None.is
 
-pub winner_of-requires : goal.winner_of-requires
-winner_of-requires c =
-    let row : slice_get c.args.rows.now c.loop-node.node ≡ Some c.index-rows-node.result = slice_get_here c.args.rows.now c.loop-node.node c.index-rows-node.result c.loop-node-test.true c.index-rows-node.is in
-    winner_there c.args.rows.now c.args.stands.now c.loop-node.node c.index-rows-node.result c.stand_of-stand.result
-    (c.requires.each c.loop-node.node c.loop-node-test.true) row c.stand_of-stand.ensures
-
-pub loop-node-preserved : goal.loop-node-preserved
-loop-node-preserved c =
-    let row : slice_get c.args.rows.now c.loop-node.node ≡ Some c.index-rows-node.result = slice_get_here c.args.rows.now c.loop-node.node c.index-rows-node.result c.loop-node-test.true c.index-rows-node.is in
-    rw c.in_ok-push.ensures.items
-    (one_more_chosen c.args.rows.now c.args.stands.now c.loop-node.chosen.items c.loop-node.node c.index-rows-node.result c.stand_of-stand.result
-    c.winner_of.result.now c.chosen_by.result c.loop-node.invariant row c.stand_of-stand.ensures c.winner_of.ensures c.chosen_by.ensures)
+pub loop-stand-preserved : goal.loop-stand-preserved
+loop-stand-preserved c =
+    let i = c.loop-stand.stand-index in
+    let here : said_of c.args.stands.now i ≡ c.stand-item.result = same_or c.args.stands.now i None c.stand-item.result c.loop-stand-test.true ∙ sym c.stand-item.is in
+    rw c.in_ok-push-in-Some.ensures.items
+    (one_more_chosen c.args.stands.now c.loop-stand.chosen.items i c.in-Some.stand c.chosen_by.result c.loop-stand.invariant (here ∙ c.in-Some.is) c.chosen_by.ensures)

@@ -12,23 +12,40 @@ returns g c =
     let b = inv.within in
     let e : c.loop-start.start ≡ c.last-last.result + 1 = omega arith in
     let h = inv.rest [] e in
-    record { runs = rw (sym last, sym (nothing_behind c.loop-start.runs.items)) h; apart = inv.apart; winners = inv.winners }
+    record { runs = rw (sym last, sym (nothing_behind c.loop-start.runs.items)) h; apart = inv.apart }
 
+-- where the run has no winner to let go
 pub loop-start-preserved : goal.loop-start-preserved
 loop-start-preserved g c =
-    let q = g.N.Nodes.facts c.args.nodes.now in
-    let v = length c.args.rows.now in
+    let Fit = (g.N.Nodes.facts c.args.nodes.now).fits (length c.args.rows.now) in
     let inv = c.loop-start.invariant in
     let made = c.in_ok-settled.ensures in
     let settled = c.in_ok-settled.settled in
-    let P : ℕ → Type 0 = λ n. IsRunOf (q.fits v) n c.loop-start.start settled.run in
+    let P : ℕ → Type 0 = λ n. IsRunOf Fit n c.loop-start.start settled.run in
     let run : P c.last-last.result = subst P (sym c.last-last.ensures.last) made.run in
     let end : settled.run.last ≤ c.last-last.result = run.within in
-    let so_far : IsRowSoFar q v c.last-last.result c.loop-start.start c.loop-start.runs.items c.loop-start.winners.items = record { rest = inv.rest; apart = inv.apart; winners = inv.winners } in
-    let far = far_more q v c.last-last.result c.loop-start.start c.loop-start.runs.items c.loop-start.winners.items settled.run settled.winner so_far run made.winner c.trim.new.runs.items c.trim.new.winners.items c.trim.ensures in
+    let so_far : IsRowSoFar Fit c.last-last.result c.loop-start.start c.loop-start.runs.items = record { rest = inv.rest; apart = inv.apart } in
+    let far = far_more Fit c.last-last.result c.loop-start.start c.loop-start.runs.items settled.run so_far run c.trim.new.runs.items c.trim.ensures in
     record {
       within = omega arith;
       rest = λ rest h. rw c.in_ok-push.ensures.items (far.rest rest h);
       apart = rw c.in_ok-push.ensures.items far.apart;
-      winners = rw (c.in_ok-push.ensures.items, c.in_ok-push-2.ensures.items) far.winners;
+    }
+
+-- where it has one
+pub loop-start-preserved-in_ok-push : goal.loop-start-preserved-in_ok-push
+loop-start-preserved-in_ok-push g c =
+    let Fit = (g.N.Nodes.facts c.args.nodes.now).fits (length c.args.rows.now) in
+    let inv = c.loop-start.invariant in
+    let made = c.in_ok-settled.ensures in
+    let settled = c.in_ok-settled.settled in
+    let P : ℕ → Type 0 = λ n. IsRunOf Fit n c.loop-start.start settled.run in
+    let run : P c.last-last.result = subst P (sym c.last-last.ensures.last) made.run in
+    let end : settled.run.last ≤ c.last-last.result = run.within in
+    let so_far : IsRowSoFar Fit c.last-last.result c.loop-start.start c.loop-start.runs.items = record { rest = inv.rest; apart = inv.apart } in
+    let far = far_more Fit c.last-last.result c.loop-start.start c.loop-start.runs.items settled.run so_far run c.trim.new.runs.items c.trim.ensures in
+    record {
+      within = omega arith;
+      rest = λ rest h. rw c.in_ok-push.ensures.items (far.rest rest h);
+      apart = rw c.in_ok-push.ensures.items far.apart;
     }

@@ -1,5 +1,5 @@
 use Rattle.std.proofs.Common.{◌+◌, ◌-◌, ◌++◌, ◌≤◌, length, List}
-use Rattle.hv_order.specs.inside.Runs.{IsRow, AreApart, AreWinners}
+use Rattle.hv_order.specs.inside.Runs.{IsRow, AreApart}
 use Rattle.hv_order.specs.declared.trial.Run.{Run}
 use Rattle.hv_order.proofs.runs.make_row.Given as goal
 
@@ -9,7 +9,6 @@ invariant-loop-start g l = record {
   within : l.start ≤ l.last + 1;
   rest : (rest : List Run) → IsRow ((g.N.Nodes.facts l.nodes).fits (length l.rows)) l.last l.start rest → IsRow ((g.N.Nodes.facts l.nodes).fits (length l.rows)) l.last 0 (l.runs.items ++ rest);
   apart : AreApart l.runs.items;
-  winners : AreWinners (g.N.Nodes.facts l.nodes) (length l.rows) l.runs.items l.winners.items;
 }
 
 abbrev pub decreases-loop-start : goal.decreases-loop-start

@@ -1,0 +1,15 @@
+use Rattle.std.proofs.Common.{refl, sym, ap, ◌∙◌}
+use Rattle.hv_plan.specs.BuiltTrees.{tree_view}
+use Rattle.hv_order.specs.Settings.{setting}
+use Rattle.hv_order.proofs.PlanWalks.{first_told, none_told}
+use Rattle.hv_order.proofs.solution.solution.Goals as goal
+
+pub returns-in-Some-clause-fault : goal.returns-in-Some-clause-fault
+returns-in-Some-clause-fault c =
+    first_told c.args.matcher.now (tree_view c.args.tree.now) c.in_ok-line.field-0 c.in-Some.line c.in_ok-line.ensures c.in-Some.is
+    (setting (tree_view c.args.tree.now) c.args.trace.now c.args.is_with) (ap (λ p. p.world) c.requires.trace ∙ sym c.requires.world, refl)
+
+pub returns-in_ok-certificate-in-None-clause-candidates : goal.returns-in_ok-certificate-in-None-clause-candidates
+returns-in_ok-certificate-in-None-clause-candidates c =
+    none_told c.args.matcher.now (tree_view c.args.tree.now) c.in_ok-line.field-0 c.in_ok-line.ensures c.in-None.is
+    (setting (tree_view c.args.tree.now) c.args.trace.now c.args.is_with) (ap (λ p. p.world) c.requires.trace ∙ sym c.requires.world, refl)

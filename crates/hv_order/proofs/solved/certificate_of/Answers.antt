@@ -1,0 +1,15 @@
+use Rattle.std.proofs.Common.{rules, ◌≡◌, length}
+use Rattle.hv_order.proofs.NodeFits.{plan_nodes}
+use Rattle.hv_order.proofs.PlanWalks.{one_parent, none_walked}
+use Rattle.hv_order.proofs.solved.certificate_of.Goals as goal
+
+pub walk-requires-clause-nodes : goal.walk-requires-clause-nodes
+walk-requires-clause-nodes c = plan_nodes c.args.nodes.now c.requires.setting
+
+pub walk-requires-clause-tree : goal.walk-requires-clause-tree
+walk-requires-clause-tree c = one_parent c.args.nodes.now c.requires.setting
+
+pub returns-in-None : goal.returns-in-None
+returns-in-None c =
+    let count : c.node_count-count.result ≡ length c.args.nodes.now.tree.nodes = search rules in
+    none_walked c.args.nodes.now c.requires.setting c.node_count-count.result c.in_ok-walk.field-0 count c.in_ok-walk.ensures.walk c.in-None.is

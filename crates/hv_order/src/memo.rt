@@ -1,0 +1,109 @@
+//! What is known of the least finishes of a plan's nodes, while they are worked out on demand.
+ghost use Rattle.std.specs.Prelude.{◌≡◌, ◌<◌, ◌≤◌, length, IfOk, OnOk, is_some, true};
+ghost use Rattle.hv_order.specs.inside.Memos.{found, as_finish, finish_from, IsSmall, KnowsNothing, Keeps};
+
+use crate::memory::Memory;
+use crate::trial::{Finish, Run};
+use std::alloc::Global;
+use std::collections::BTreeMap;
+
+/// A node and a start.
+#[derive(Clone, Copy, PartialEq, Eq, PartialOrd, Ord, Drop)]
+pub struct Pair {
+    pub node: u32,
+    pub start: u32,
+}
+
+/// Starts from `first` to `last` with the same finish, where the greatest number stands for none. Where
+/// `last` is before `first` it has no start.
+#[derive(Clone, Copy)]
+pub struct Span {
+    pub first: u32,
+    pub last: u32,
+    pub finish: u32,
+}
+
+/// What is known of the least finishes of a plan's nodes: for each node one interval of starts, and
+/// further starts one by one. Nothing is ever forgotten. The table is one in order, so no plan can make
+/// it slow.
+#[derive(Drop)]
+pub struct Memo {
+    pub spans: Vec<Span>,
+    pub more: BTreeMap<Pair, Run>,
+}
+
+/// The finish that a number stands for.
+pub fn finish_of(number: u32) -> Option<u32>
+    ensures { result ≡ finish_from number }
+{
+    if number == u32::MAX {
+        None
+    } else {
+        Some(number)
+    }
+}
+
+/// The number that stands for a finish.
+pub fn number_of(finish: Option<u32>) -> u32
+    requires small { IsSmall finish }
+    ensures { finish_from result ≡ finish }
+{
+    finish.unwrap_or(u32::MAX)
+}
+
+impl Memo {
+    /// A memory with room for so many nodes, which knows nothing.
+    pub fn new(alloc: Global, count: usize) -> Result<Memo, Memory>
+        ensures { IfOk result (KnowsNothing count) }
+    {
+        let none = Span {
+            first: 1,
+            last: 0,
+            finish: 0,
+        };
+        let spans = vec![in alloc; none; count]?;
+        Ok(Memo {
+            spans,
+            more: BTreeMap::new(alloc),
+        })
+    }
+
+    /// What is known of a node and a start.
+    pub fn known(&self, node: u32, start: u32) -> Finish
+        requires node { node < length self.now.spans.items }
+        ensures { result ≡ as_finish (found self.now node start) }
+    {
+        let span = self.spans[node as usize];
+        if span.first <= start && start <= span.last {
+            return Finish::Known(Run {
+                last: span.last,
+                finish: finish_of(span.finish),
+            });
+        }
+        match self.more.get(&Pair { node, start }) {
+            None => Finish::Unknown,
+            Some(run) => Finish::Known(*run),
+        }
+    }
+
+    /// Takes in the run of a node in which a start lies. The first is kept for all its starts.
+    pub fn learn(&mut self, node: u32, start: u32, run: Run) -> Result<(), Memory>
+        requires node { node < length self.old.spans.items }
+        requires begun { start ≤ run.last }
+        requires small { IsSmall run.finish }
+        ensures keeps { Keeps self.old self.new node start run }
+        ensures known { OnOk result (is_some (found self.new node start) ≡ true) }
+    {
+        let span = self.spans[node as usize];
+        if span.last < span.first {
+            self.spans[node as usize] = Span {
+                first: start,
+                last: run.last,
+                finish: number_of(run.finish),
+            };
+            return Ok(());
+        }
+        self.more.insert(Pair { node, start }, run)?;
+        Ok(())
+    }
+}

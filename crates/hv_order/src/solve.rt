@@ -1,0 +1,227 @@
+//! What a node comes to from one start, where only what is asked for is worked out.
+ghost use Rattle.std.specs.Prelude.{◌≡◌, ◌<◌, ◌≤◌, IfOk, OnOk, is_some, true};
+ghost use Rattle.hv_order.specs.inside.Facts.{IsNodeRun};
+ghost use Rattle.hv_order.specs.inside.Memos.{found, AreKnown, IsSmall, Keeps, IsBelow, IsWanted};
+ghost use Rattle.hv_order.specs.inside.Tasks.{IsTask, IsOpened, Settles};
+ghost use Rattle.hv_order.specs.inside.Nodes.{AreNodes, IsSettled, settled_by};
+ghost use Rattle.hv_order.specs.inside.Trials.{IfWants, WantsOnly};
+ghost use Rattle.hv_order.specs.inside.Winners.{as_winner};
+
+use crate::frame::{Frame, advance, next_turn};
+use crate::memo::Memo;
+use crate::memory::Memory;
+use crate::nodes::Nodes;
+use crate::trial::{Arranged, Best, Finish, Progress, Run, Stretch, Table};
+use crate::settle::{Settled, run_of};
+use crate::winner::{no_candidate, with_candidate};
+use std::alloc::Global;
+use std::mem::replace;
+
+/// What is known of the nodes before one, as a table.
+#[derive_where(Clone, Copy)]
+pub struct Below<'a, N> {
+    pub nodes: &'a N,
+    pub memo: &'a Memo,
+    pub node: u32,
+}
+
+impl<N: Nodes> Table for Below<'_, N> {
+    ghost facts = { λ t. N.facts t.nodes.now };
+
+    ghost sound = { λ t. IsBelow (N.facts t.nodes.now) (N.size t.nodes.now) t.memo.now t.node };
+
+    ghost size = { λ t. t.node };
+
+    ghost unknown = { λ t v s. IsWanted (N.facts t.nodes.now) t.memo.now t.node v s };
+
+    fn look_up(&self, node: u32, start: u32) -> Finish {
+        self.memo.known(node, start)
+    }
+
+    fn first_true(&self, candidate: &Arranged, from: u32, upto: u32) -> Option<Stretch> {
+        self.nodes.first_true(candidate, from, upto)
+    }
+}
+
+/// A memory for the nodes of a plan, which knows nothing of them.
+pub fn new_memo<N: Nodes>(alloc: Global, nodes: &N, count: usize) -> Result<Memo, Memory>
+    requires room { N.size nodes.now ≤ count }
+    ensures { IfOk result (AreKnown (N.facts nodes.now) (N.size nodes.now)) }
+{
+    Memo::new(alloc, count)
+}
+
+/// A node that is worked out from a start on: its candidates that are still to come, and how far it is.
+#[derive(Drop)]
+pub struct Task<L> {
+    pub node: u32,
+    pub left: L,
+    pub frame: Frame,
+}
+
+/// Begins to work a node out. Where there is no task, no start from this one on has a finish.
+pub fn open<N: Nodes>(
+    alloc: Global,
+    nodes: &N,
+    memo: &Memo,
+    node: u32,
+    start: u32,
+) -> Result<Option<Task<N::Left>>, Memory>
+    requires nodes { AreNodes (N.facts nodes.now) }
+    requires node { node < N.size nodes.now }
+    requires start { start ≤ (N.facts nodes.now).last }
+    ensures { IfOk result (IsOpened N.Left.left (N.facts nodes.now) (N.size nodes.now) node start) }
+{
+    let mut left = nodes.candidates(alloc, node as usize)?;
+    let table = Below { nodes, memo, node };
+    match next_turn(
+        alloc,
+        &table,
+        &mut left,
+        None,
+        start,
+        start,
+        nodes.last(),
+    )? {
+        None => Ok(None),
+        Some(turn) => {
+            let frame = Frame {
+                start,
+                earliest: start,
+                best: None,
+                winner: no_candidate(alloc),
+                candidate: turn.candidate,
+                trial: turn.trial,
+            };
+            Ok(Some(Task { node, left, frame }))
+        }
+    }
+}
+
+/// Goes on with a task: a child's finish is wanted, or all candidates are over.
+pub fn step<N: Nodes>(
+    alloc: Global,
+    nodes: &N,
+    memo: &Memo,
+    task: &mut Task<N::Left>,
+) -> Result<Progress, Memory>
+    requires nodes { AreNodes (N.facts nodes.now) }
+    requires memo { AreKnown (N.facts nodes.now) (N.size nodes.now) memo.now }
+    requires task { IsTask N.Left.left (N.facts nodes.now) (N.size nodes.now) task.old }
+    ensures over { IfOk result
+        (Settles (N.facts nodes.now) task.old.node task.old.frame.start task.new.frame.winner) }
+    ensures wanted { IfOk result (WantsOnly (IsWanted (N.facts nodes.now) memo.now task.old.node)) }
+    ensures task { IfOk result
+        (λ p. IfWants p (IsTask N.Left.left (N.facts nodes.now) (N.size nodes.now) task.new)) }
+    ensures node { task.new.node ≡ task.old.node }
+    ensures start { task.new.frame.start ≡ task.old.frame.start }
+{
+    let table = Below {
+        nodes,
+        memo,
+        node: task.node,
+    };
+    advance(
+        alloc,
+        &table,
+        &mut task.left,
+        &mut task.frame,
+        nodes.last(),
+    )
+}
+
+/// What a task came to, all of whose candidates are over.
+pub fn close<L: Drop>(task: Task<L>, best: Option<Best>, last: u32) -> Settled
+    ensures { result ≡ settled_by (as_winner best task.frame.winner) last }
+{
+    let Task { frame, .. } = task;
+    run_of(with_candidate(best, frame.winner), last)
+}
+
+/// Takes in a run that a node has from a start on.
+pub fn keep<N: Nodes>(
+    nodes: &N,
+    memo: &mut Memo,
+    node: u32,
+    start: u32,
+    run: Run,
+) -> Result<(), Memory>
+    requires memo { AreKnown (N.facts nodes.now) (N.size nodes.now) memo.old }
+    requires node { node < N.size nodes.now }
+    requires run { IsNodeRun (N.facts nodes.now) node start run }
+    requires small { IsSmall run.finish }
+    ensures memo { AreKnown (N.facts nodes.now) (N.size nodes.now) memo.new }
+    ensures keeps { Keeps memo.old memo.new node start run }
+    ensures known { OnOk result (is_some (found memo.new node start) ≡ true) }
+{
+    memo.learn(node, start, run)
+}
+
+/// A run of a node from a start on, with its winner. What was found on the way is kept.
+pub fn solve<N: Nodes>(
+    alloc: Global,
+    nodes: &N,
+    memo: &mut Memo,
+    node: u32,
+    start: u32,
+) -> Result<Settled, Memory>
+    requires nodes { AreNodes (N.facts nodes.now) }
+    requires memo { AreKnown (N.facts nodes.now) (N.size nodes.now) memo.old }
+    requires node { node < N.size nodes.now }
+    requires start { start ≤ (N.facts nodes.now).last }
+    ensures settled { IfOk result (IsSettled (N.facts nodes.now) node start) }
+    ensures small { IfOk result (λ r. IsSmall r.run.finish) }
+    ensures memo { AreKnown (N.facts nodes.now) (N.size nodes.now) memo.new }
+{
+    let last = nodes.last();
+    let mut top = match open(alloc, nodes, memo, node, start)? {
+        None => return Ok(run_of(None, last)),
+        Some(task) => task,
+    };
+    let mut below: Vec<Task<N::Left>> = Vec::new(alloc);
+    loop {
+        match step(alloc, nodes, memo, &mut top)? {
+            Progress::Wants(child, from) => match open(alloc, nodes, memo, child, from)? {
+                None => keep(nodes, memo, child, from, Run { last, finish: None })?,
+                Some(task) => below.push(replace(&mut top, task))?,
+            },
+            Progress::Over(best) => {
+                let number = top.node;
+                let from = top.frame.start;
+                let settled = close(top, best, last);
+                match below.pop() {
+                    None => return Ok(settled),
+                    Some(task) => {
+                        keep(nodes, memo, number, from, settled.run)?;
+                        top = task;
+                    }
+                }
+            }
+        }
+    }
+}
+
+/// The run of a node in which a start lies.
+pub fn run_for<N: Nodes>(
+    alloc: Global,
+    nodes: &N,
+    memo: &mut Memo,
+    node: u32,
+    start: u32,
+) -> Result<Run, Memory>
+    requires nodes { AreNodes (N.facts nodes.now) }
+    requires memo { AreKnown (N.facts nodes.now) (N.size nodes.now) memo.old }
+    requires node { node < N.size nodes.now }
+    requires start { start ≤ (N.facts nodes.now).last }
+    ensures run { IfOk result (IsNodeRun (N.facts nodes.now) node start) }
+    ensures memo { AreKnown (N.facts nodes.now) (N.size nodes.now) memo.new }
+{
+    match memo.known(node, start) {
+        Finish::Known(run) => Ok(run),
+        Finish::Unknown => {
+            let settled = solve(alloc, nodes, memo, node, start)?;
+            keep(nodes, memo, node, start, settled.run)?;
+            Ok(settled.run)
+        }
+    }
+}

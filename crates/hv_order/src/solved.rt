@@ -1,0 +1,61 @@
+//! A certificate of a plan, by a walk of its nodes.
+
+ghost use Rattle.std.specs.Prelude.{length, IfOk, MatchOption};
+ghost use Rattle.hv_world.specs.WorldViews.{world_view};
+ghost use Rattle.hv_plan.specs.BuiltTrees.{tree_view};
+ghost use Rattle.hv_order.specs.Certified.{Certifies};
+ghost use Rattle.hv_order.specs.Settings.{IsSolved};
+ghost use Rattle.hv_order.specs.inside.PlanFacts.{IsSetting, plan_facts};
+ghost use Rattle.hv_order.specs.inside.Walks.{AreWalked};
+ghost use Rattle.hv_order.specs.inside.Writings.{IsSettingOver};
+
+use crate::certificate::Certificate;
+use crate::certify::write_certificate;
+use crate::chosen::choose;
+use crate::memory::Memory;
+use crate::plan_nodes::PlanNodes;
+use crate::solve::new_memo;
+use crate::walk::{Stand, walk};
+use hv_plan::Tree;
+use hv_world::World;
+use std::alloc::Global;
+
+// The certificate that a walk of a plan's nodes gives.
+fn by_walk<'s>(
+    alloc: Global,
+    world: &World<'s>,
+    tree: &Tree<'_, '_>,
+    _nodes: &PlanNodes<'_, 's, '_, '_, '_, '_, '_>,
+    stands: &[Option<Stand>],
+) -> Result<Certificate<'s>, Memory>
+    requires setting { IsSetting _nodes.now }
+    requires over { IsSettingOver (world_view world.now) (tree_view tree.now) _nodes.now }
+    requires walked { AreWalked (plan_facts _nodes.now) (length _nodes.now.tree.nodes) stands.now }
+    ensures { IfOk result (Certifies _nodes.now) }
+{
+    let chosen = choose(alloc, stands)?;
+    let certificate = write_certificate(alloc, world, tree, &chosen)?;
+    Ok(certificate)
+}
+
+/// A certificate of a plan, exactly where it has a solution, the goal aside. Only the finishes that it
+/// hangs on are worked out.
+pub fn certificate_of<'s>(
+    alloc: Global,
+    nodes: &PlanNodes<'_, 's, '_, '_, '_, '_, '_>,
+) -> Result<Option<Certificate<'s>>, Memory>
+    requires setting { IsSetting nodes.now }
+    ensures { IfOk result (λ o. MatchOption o (IsSolved nodes.now → ⊥) (Certifies nodes.now)) }
+{
+    let world = nodes.world();
+    let tree = nodes.tree();
+    let count = tree.node_count();
+    let mut memo = new_memo(alloc, nodes, count as usize)?;
+    match walk(alloc, nodes, &mut memo, count)? {
+        None => Ok(None),
+        Some(stands) => {
+            let certificate = by_walk(alloc, world, tree, nodes, &stands)?;
+            Ok(Some(certificate))
+        }
+    }
+}
