@@ -97,8 +97,8 @@ module _ (m : Memo) (more : BTreeMap Pair Run) (v s : ℕ) (r : Run) (le : s ≤
           let q : Pair = record { node = w; start = x } in
           let b = is_at (pair_cmp (record { node = v; start = s })) q in
           let here : b ≡ true → (v ≡ w) × (s ≡ x) = λ e.
-                let one = exact_pair (record { node = v; start = s }) q (is_equal (pair_cmp (record { node = v; start = s }) q) e) in
-                (ap (λ (k : Pair). k.node) one, ap (λ (k : Pair). k.start) one) in
+          let one = exact_pair (record { node = v; start = s }) q (is_equal (pair_cmp (record { node = v; start = s }) q) e) in
+          (ap (λ (k : Pair). k.node) one, ap (λ (k : Pair). k.start) one) in
           else_case (spanned (slice_get m.spans.items w) x) (get pair_cmp m.more q) (get pair_cmp more q) v s r w x
           (subst (λ o. IsOldOrNew (get pair_cmp m.more q) o v s r w x) (sym (updates q)) (put_case b (get pair_cmp m.more q) v s r w x le here))
 

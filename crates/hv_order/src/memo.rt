@@ -14,8 +14,8 @@ pub struct Pair {
     pub start: u32,
 }
 
-/// Starts from `first` to `last` with the same finish, where the greatest number stands for none. Where
-/// `last` is before `first` it has no start.
+/// Starts from `first` to `last` with the same finish, where the greatest number stands for none.
+/// Where `last` is before `first` it has no start.
 #[derive(Clone, Copy)]
 pub struct Span {
     pub first: u32,
@@ -24,8 +24,8 @@ pub struct Span {
 }
 
 /// What is known of the least finishes of a plan's nodes: for each node one interval of starts, and
-/// further starts one by one. Nothing is ever forgotten. The table is one in order, so no plan can make
-/// it slow.
+/// further starts one by one. Nothing is ever forgotten. The table is one in order, so no plan can
+/// make it slow.
 #[derive(Drop)]
 pub struct Memo {
     pub spans: Vec<Span>,

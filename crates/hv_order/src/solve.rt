@@ -11,8 +11,8 @@ use crate::frame::{Frame, advance, next_turn};
 use crate::memo::Memo;
 use crate::memory::Memory;
 use crate::nodes::Nodes;
-use crate::trial::{Arranged, Best, Finish, Progress, Run, Stretch, Table};
 use crate::settle::{Settled, run_of};
+use crate::trial::{Arranged, Best, Finish, Progress, Run, Stretch, Table};
 use crate::winner::{no_candidate, with_candidate};
 use std::alloc::Global;
 use std::mem::replace;
@@ -51,7 +51,8 @@ pub fn new_memo<N: Nodes>(alloc: Global, nodes: &N, count: usize) -> Result<Memo
     Memo::new(alloc, count)
 }
 
-/// A node that is worked out from a start on: its candidates that are still to come, and how far it is.
+/// A node that is worked out from a start on: its candidates that are still to come, and how far
+/// it is.
 #[derive(Drop)]
 pub struct Task<L> {
     pub node: u32,
@@ -74,15 +75,7 @@ pub fn open<N: Nodes>(
 {
     let mut left = nodes.candidates(alloc, node as usize)?;
     let table = Below { nodes, memo, node };
-    match next_turn(
-        alloc,
-        &table,
-        &mut left,
-        None,
-        start,
-        start,
-        nodes.last(),
-    )? {
+    match next_turn(alloc, &table, &mut left, None, start, start, nodes.last())? {
         None => Ok(None),
         Some(turn) => {
             let frame = Frame {
@@ -121,13 +114,7 @@ pub fn step<N: Nodes>(
         memo,
         node: task.node,
     };
-    advance(
-        alloc,
-        &table,
-        &mut task.left,
-        &mut task.frame,
-        nodes.last(),
-    )
+    advance(alloc, &table, &mut task.left, &mut task.frame, nodes.last())
 }
 
 /// What a task came to, all of whose candidates are over.

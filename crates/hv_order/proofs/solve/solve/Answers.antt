@@ -27,8 +27,7 @@ loop-below-preserved-in-Continue-branch-7 g c =
     let size = g.N.Nodes.size c.args.nodes.now in
     let left = g.N.Left.Candidates.left in
     let wanted = rw c.in-Wants.is at c.in_ok-child.ensures.wanted in
-    let task = rw c.in-Wants.is at c.in_ok-child.ensures.task in
-    (
+    let task = rw c.in-Wants.is at c.in_ok-child.ensures.task in (
       c.in_ok-keep-in-None-2.ensures.memo,
       wanted_stack left q size c.loop-below.memo c.keep.new.memo c.args.node c.args.start c.loop-below.below.items c.loop-below.top c.step.new.task c.in-Wants.child c.in-Wants.from _
           c.loop-below.invariant.1 c.step.ensures.node c.step.ensures.start task wanted c.in_ok-keep-in-None-2.ensures.keeps,
@@ -84,8 +83,7 @@ pub loop-below-preserved-in_ok-keep-in-Some-pop : goal.loop-below-preserved-in_o
 loop-below-preserved-in_ok-keep-in-Some-pop g c =
     let q = g.N.Nodes.facts c.args.nodes.now in
     let size = g.N.Nodes.size c.args.nodes.now in
-    let left = g.N.Left.Candidates.left in
-    (
+    let left = g.N.Left.Candidates.left in (
       c.in_ok-keep-in-Some-pop.ensures.memo,
       over_stack left q size c.loop-below.memo c.keep-in-Some-pop.new.memo c.args.node c.args.start c.loop-below.below.items c.pop.new.self.items c.loop-below.top c.step.new.task c.in-Some-pop.task
           c.close-settled.result.run c.loop-below.invariant.1 c.in-Some-pop.ensures.items c.step.ensures.node c.step.ensures.start c.in_ok-keep-in-Some-pop.ensures.keeps,
@@ -104,8 +102,7 @@ pub loop-below-preserved : goal.loop-below-preserved
 loop-below-preserved g c =
     let q = g.N.Nodes.facts c.args.nodes.now in
     let size = g.N.Nodes.size c.args.nodes.now in
-    let left = g.N.Left.Candidates.left in
-    (
+    let left = g.N.Left.Candidates.left in (
       c.in_ok-keep-in-Some-pop.ensures.memo,
       over_stack left q size c.loop-below.memo c.keep-in-Some-pop.new.memo c.args.node c.args.start c.loop-below.below.items c.pop.new.self.items c.loop-below.top c.step.new.task c.in-Some-pop.task
           c.close-settled.result.run c.loop-below.invariant.1 c.in-Some-pop.ensures.items c.step.ensures.node c.step.ensures.start c.in_ok-keep-in-Some-pop.ensures.keeps,
