@@ -7,8 +7,8 @@ ghost use Rattle.hv_order.specs.inside.Facts.{IsRunOf, IsChildRun};
 use crate::trial::{Finish, Run, Table};
 use hv_plan::Child;
 
-/// The run of an action in which a start lies. It begins in the state of its number, for each start up
-/// to that, and is over in the next.
+/// The run of an action in which a start lies. It begins in the state of its number, for each start
+/// up to that, and is over in the next.
 pub fn run_of_action(action: u32, start: u32, last: u32) -> Run
     requires start { start ≤ last }
     ensures { IsRunOf (ActionFits action) last start result }

@@ -23,8 +23,8 @@ pub trait Candidates {
         ensures { IfOk result (IsHead (left self.old) (left self.new)) };
 }
 
-/// The best of the candidates that are over, with the last start up to which it stays the best, and the
-/// candidate that is laid out now. None ends before `earliest`.
+/// The best of the candidates that are over, with the last start up to which it stays the best, and
+/// the candidate that is laid out now. None ends before `earliest`.
 #[derive(Drop)]
 pub struct Frame {
     pub start: u32,
@@ -100,8 +100,10 @@ pub fn next_turn<T: Table, C: Candidates>(
     requires within { (b : Best) → best ≡ Some b → b.finish ≤ last }
     requires earliest { IsEarliest (T.facts table.now) start earliest }
     requires arranged { AreArranged (T.facts table.now) (T.size table.now) (C.left left.old) }
-    ensures next { IfOk result (IsNext (T.facts table.now) start best (C.left left.old) (C.left left.new)) }
-    ensures turn { IfOk result (IfTurn (T.facts table.now) (T.size table.now) start best (C.left left.old) (C.left left.new)) }
+    ensures next { IfOk result
+        (IsNext (T.facts table.now) start best (C.left left.old) (C.left left.new)) }
+    ensures turn { IfOk result (IfTurn (T.facts table.now) (T.size table.now) start best
+        (C.left left.old) (C.left left.new)) }
 {
     let cap = match best {
         None => last,
@@ -133,12 +135,16 @@ pub fn advance<T: Table, C: Candidates>(
     requires fits { AreFits (T.facts table.now).fits }
     requires sound { T.sound table.now }
     requires earliest { IsEarliest (T.facts table.now) frame.old.start frame.old.earliest }
-    requires frame { IsFrame (T.facts table.now) (T.size table.now) frame.old.start frame.old (C.left left.old) }
+    requires frame { IsFrame (T.facts table.now) (T.size table.now) frame.old.start frame.old
+        (C.left left.old) }
     ensures over { IfOk result (EndsLeast (T.facts table.now) frame.old (C.left left.old)) }
     ensures won { IfOk result (EndsWon (T.facts table.now) frame.old frame.new) }
-    ensures frame { IfOk result (StaysFrame (T.facts table.now) (T.size table.now) frame.old frame.new (C.left left.new)) }
-    ensures tried { IfOk result (StaysTried (T.facts table.now) frame.old frame.new (C.left left.old) (C.left left.new)) }
-    ensures listed { IfOk result (StaysListed frame.old frame.new (C.left left.old) (C.left left.new)) }
+    ensures frame { IfOk result
+        (StaysFrame (T.facts table.now) (T.size table.now) frame.old frame.new (C.left left.new)) }
+    ensures tried { IfOk result
+        (StaysTried (T.facts table.now) frame.old frame.new (C.left left.old) (C.left left.new)) }
+    ensures listed { IfOk result
+        (StaysListed frame.old frame.new (C.left left.old) (C.left left.new)) }
     ensures unknown { IfOk result (WantsOnly (T.unknown table.now)) }
     ensures start { frame.new.start ≡ frame.old.start }
     ensures earliest { frame.new.earliest ≡ frame.old.earliest }

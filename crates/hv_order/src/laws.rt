@@ -55,8 +55,8 @@ pub fn judge_law()
     ensures { JudgeLaw }
 {}
 
-/// A certificate, which is one candidate a node and one index a precondition, is right exactly where
-/// each node keeps the rules.
+/// A certificate, which is one candidate a node and one index a precondition, is right exactly
+/// where each node keeps the rules.
 pub fn check_law()
     ensures { CheckLaw }
 {}

@@ -23,8 +23,8 @@ impl From<hv_text::Memory> for Memory {
     }
 }
 
-/// The candidates of a node that are still to come. What hangs on the node alone, as the order of its
-/// method's subtasks, is the same for each.
+/// The candidates of a node that are still to come. What hangs on the node alone, as the order of
+/// its method's subtasks, is the same for each.
 #[derive(Drop)]
 pub struct Lister<'a> {
     alloc: Global,

@@ -28,8 +28,9 @@ pub trait Nodes {
         requires node { node < size self.now }
         ensures { IfOk result (λ all. AreAllOf (facts self.now) node (Self.Left.left all)) };
 
-    /// The first index from `from` to `upto` at which a candidate's precondition is true, and one up to
-    /// which it stays true.
+    /// The first index from `from` to `upto` at which a candidate's precondition is true, and one
+    /// up to which it stays true.
     fn first_true(&self, candidate: &Arranged, from: u32, upto: u32) -> Option<Stretch>
-        ensures { IsFirstTrue ((facts self.now).holds (arrangement_of candidate.now)) from upto result };
+        ensures { IsFirstTrue ((facts self.now).holds (arrangement_of candidate.now)) from upto
+            result };
 }

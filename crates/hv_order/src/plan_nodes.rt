@@ -23,8 +23,8 @@ use hv_world::{Binding, World};
 use std::alloc::Global;
 use std::marker::Model;
 
-/// A plan's tree, with the states that the plan's actions pass. Where `is_with` is false, each method's
-/// precondition is taken as true.
+/// A plan's tree, with the states that the plan's actions pass. Where `is_with` is false, each
+/// method's precondition is taken as true.
 #[derive(Drop)]
 pub struct PlanNodes<'a, 's, 'm, 'p, 't, 'c, 'd> {
     world: &'a World<'s>,
@@ -47,7 +47,8 @@ impl<'a, 's, 'm, 'p, 't, 'c, 'd> Model for PlanNodes<'a, 's, 'm, 'p, 't, 'c, 'd>
 
     ghost view = { λ s. setting (tree_view s.tree.now) s.trace.now s.is_with };
 
-    ghost invariant = { λ s. ArePlanNodes s.world.now s.matcher.now (setting (tree_view s.tree.now) s.trace.now s.is_with) };
+    ghost invariant = { λ s. ArePlanNodes s.world.now s.matcher.now
+        (setting (tree_view s.tree.now) s.trace.now s.is_with) };
 }
 
 // All indices of a range.
@@ -111,19 +112,20 @@ impl<'a, 's, 'm, 'p, 't, 'c, 'd> PlanNodes<'a, 's, 'm, 'p, 't, 'c, 'd> {
         let _is_with = self.is_with;
     }
 
-    /// A law of the value: the plan is solved exactly where the root's node fits from the initial state
-    /// to the last, and not where that node has no finish.
+    /// A law of the value: the plan is solved exactly where the root's node fits from the initial
+    /// state to the last, and not where that node has no finish.
     pub fn root_decides(&self)
         ensures fits { IsSolved self.now
             ↔ FitsNode self.now (root_number self.now.tree) 0 (last self.now) }
-        ensures unsolved { IsLeast (FitsNode self.now (root_number self.now.tree) 0) (last self.now) None
+        ensures unsolved { IsLeast (FitsNode self.now (root_number self.now.tree) 0)
+            (last self.now) None
             → IsSolved self.now → ⊥ }
     {
         let _is_with = self.is_with;
     }
 
-    /// A law of the value: what a candidate amounts to is something, so a node that has a candidate has
-    /// a meaning, and only such a node.
+    /// A law of the value: what a candidate amounts to is something, so a node that has a candidate
+    /// has a meaning, and only such a node.
     pub fn candidates_have_meanings(&self)
         ensures { (v : ℕ) → HasCandidate self.now v ↔ ((c : Meaning) × IsMeaning self.now v c) }
     {

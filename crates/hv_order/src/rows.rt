@@ -1,4 +1,5 @@
-//! The rows of a plan: for each node and each start, the least finish, and what they say of the plan.
+//! The rows of a plan: for each node and each start, the least finish, and what they say of the
+//! plan.
 
 ghost use Rattle.std.specs.Prelude.{◌≡◌, ◌<◌, ◌≤◌, length, IfOk, IfErr, MatchOption};
 ghost use Rattle.hv_world.specs.WorldViews.{world_view};
@@ -64,8 +65,8 @@ impl<'a, 's, 'm, 'p, 't, 'c, 'd> Model for Rows<'a, 's, 'm, 'p, 't, 'c, 'd> {
 }
 
 impl<'a, 's, 'm, 'p, 't, 'c, 'd> Rows<'a, 's, 'm, 'p, 't, 'c, 'd> {
-    /// The rows of the nodes of a plan's tree. Where `is_with` is false, each method's precondition is
-    /// taken as true.
+    /// The rows of the nodes of a plan's tree. Where `is_with` is false, each method's precondition
+    /// is taken as true.
     ///
     /// # Errors
     ///
@@ -84,7 +85,8 @@ impl<'a, 's, 'm, 'p, 't, 'c, 'd> Rows<'a, 's, 'm, 'p, 't, 'c, 'd> {
         requires tree { IsTreeIn (world_view world.now) (tree_view tree.now) }
         requires trace { trace.now ≡ plan (world_view world.now) (tree_view tree.now).actions }
         requires small { length (tree_view tree.now).actions < 4294967295 }
-        ensures value { IfOk result (λ rows. rows ≡ setting (tree_view tree.now) trace.now is_with) }
+        ensures value { IfOk result
+            (λ rows. rows ≡ setting (tree_view tree.now) trace.now is_with) }
         ensures candidates { IfOk result
             (λ _. HaveCandidates (setting (tree_view tree.now) trace.now is_with)) }
         ensures fault { IfErr result (IsRowFault (setting (tree_view tree.now) trace.now is_with)) }
@@ -109,7 +111,8 @@ impl<'a, 's, 'm, 'p, 't, 'c, 'd> Rows<'a, 's, 'm, 'p, 't, 'c, 'd> {
         least_finish(&self.nodes, &self.rows, node as usize, start)
     }
 
-    /// How many different answers `least_finish` gives for the starts of a node, none counted as one.
+    /// How many different answers `least_finish` gives for the starts of a node, none counted as
+    /// one.
     pub fn runs(&self, node: u32) -> u64
         requires node { node < length self.now.tree.nodes }
         ensures { IsNumberOfAnswers (NodeCanBePlaced self.now node) (last self.now) result }
@@ -117,8 +120,8 @@ impl<'a, 's, 'm, 'p, 't, 'c, 'd> Rows<'a, 's, 'm, 'p, 't, 'c, 'd> {
         count_runs(&self.nodes, &self.rows, node as usize)
     }
 
-    /// The answer of `least_finish`, and how many runs were looked at for it: one or more, and at most
-    /// as many as `runs` has binary digits.
+    /// The answer of `least_finish`, and how many runs were looked at for it: one or more, and at
+    /// most as many as `runs` has binary digits.
     pub fn least_finish_counted(&self, node: u32, start: u32) -> (Option<u32>, u32)
         requires node { node < length self.now.tree.nodes }
         requires start { start ≤ last self.now }

@@ -155,7 +155,8 @@ pub fn least_finish_counted<N: Nodes>(
     requires rows { AreRows (N.facts nodes.now) rows.now }
     requires node { node < length rows.now }
     requires start { start ≤ (N.facts nodes.now).last }
-    ensures finish { IsLeast ((N.facts nodes.now).fits node start) (N.facts nodes.now).last result.0 }
+    ensures finish { IsLeast ((N.facts nodes.now).fits node start) (N.facts nodes.now).last
+        result.0 }
     ensures looked { IsCounted ((N.facts nodes.now).fits node) (N.facts nodes.now).last result.1 }
 {
     let found = find(nodes, rows, node, start);

@@ -38,8 +38,8 @@ fn by_walk<'s>(
     Ok(certificate)
 }
 
-/// A certificate of a plan, exactly where it has a solution, the goal aside. Only the finishes that it
-/// hangs on are worked out.
+/// A certificate of a plan, exactly where it has a solution, the goal aside. Only the finishes that
+/// it hangs on are worked out.
 pub fn certificate_of<'s>(
     alloc: Global,
     nodes: &PlanNodes<'_, 's, '_, '_, '_, '_, '_>,

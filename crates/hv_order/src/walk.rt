@@ -18,8 +18,8 @@ use crate::trial::{Arranged, direct_before, start_of};
 use hv_plan::Child;
 use std::alloc::Global;
 
-/// Where a node begins, its least finish from there, the index at which its precondition is true, and
-/// the candidate that gives this finish.
+/// Where a node begins, its least finish from there, the index at which its precondition is true,
+/// and the candidate that gives this finish.
 #[derive(Drop)]
 pub struct Stand {
     pub start: u32,
@@ -231,8 +231,8 @@ pub fn visit_all<N: Nodes>(
     Ok(stands)
 }
 
-/// Where each node stands that is reached from the root, if the root has a finish from the first state
-/// on. The root is the last of the nodes.
+/// Where each node stands that is reached from the root, if the root has a finish from the first
+/// state on. The root is the last of the nodes.
 pub fn walk<N: Nodes>(
     alloc: Global,
     nodes: &N,

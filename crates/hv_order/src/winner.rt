@@ -1,4 +1,5 @@
-//! The best of a node's candidates from one start, where the finishes of all its children are known.
+//! The best of a node's candidates from one start, where the finishes of all its children are
+//! known.
 ghost use Rattle.std.specs.Prelude.{◌≡◌, ℕ, [], IfOk};
 ghost use Rattle.hv_order.specs.inside.Facts.{AreFits};
 ghost use Rattle.hv_order.specs.inside.Frames.{AreArranged};
