@@ -15,7 +15,7 @@ use crate::not_solved::NotSolved;
 use hv_match::Matcher;
 use hv_order::certificate::Certificate;
 use hv_order::certified_plans::certified_plans_are_solved;
-use hv_order::solution::{RowFault, solution};
+use hv_order::solution::{RowFault, find_certificate, solution};
 use hv_plan::Tree;
 use hv_state::{BitState, Trace};
 use hv_world::World;
@@ -40,7 +40,7 @@ fn last_cause(
         (IsRowFault (judged_without (world_view world.now) (tree_view tree.now))) }
 {
     certified_plans_are_solved();
-    match solution(alloc, world, matcher, tree, trace, false)? {
+    match find_certificate(alloc, world, matcher, tree, trace, false)? {
         Some(_) => Ok(CauseKind::PreconditionUnplaced),
         None => Ok(CauseKind::OrderBroken),
     }

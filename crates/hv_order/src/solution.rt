@@ -50,7 +50,36 @@ impl From<NoMemory> for RowFault {
 }
 
 /// A certificate of a plan, exactly where it has a solution, the goal aside. Where `is_with` is
-/// false, each method's precondition is taken as true.
+/// false, each method's precondition is taken as true. That a node has no candidate is not told
+/// apart from other reasons, so this serves where it is known that each has one.
+///
+/// # Errors
+///
+/// `Memory` where a growth was refused.
+pub fn find_certificate<'s>(
+    alloc: Global,
+    world: &World<'s>,
+    matcher: &Matcher<'_, 's>,
+    tree: &Tree<'_, '_>,
+    trace: &Trace<'_, '_, BitState>,
+    is_with: bool,
+) -> Result<Option<Certificate<'s>>, Memory>
+    requires world { matcher.now ≡ world_view world.now }
+    requires top { HasNoPrecondition (world_view world.now) }
+    requires tree { IsTreeIn (world_view world.now) (tree_view tree.now) }
+    requires trace { trace.now ≡ plan (world_view world.now) (tree_view tree.now).actions }
+    requires small { length (tree_view tree.now).actions < 4294967295 }
+    ensures { IfOk result (λ o. MatchOption o
+        (IsSolved (setting (tree_view tree.now) trace.now is_with) → ⊥)
+        (Certifies (setting (tree_view tree.now) trace.now is_with))) }
+{
+    world.is_sound();
+    let nodes = PlanNodes::new(world, matcher, tree, trace, is_with);
+    certificate_of(alloc, &nodes)
+}
+
+/// A certificate of a plan, exactly where it has a solution, the goal aside, and each node has a
+/// candidate. Where `is_with` is false, each method's precondition is taken as true.
 ///
 /// # Errors
 ///
@@ -79,9 +108,7 @@ pub fn solution<'s>(
     match first_without(alloc, matcher, tree)? {
         Some(line) => Err(RowFault::NoBinding(line)),
         None => {
-            world.is_sound();
-            let nodes = PlanNodes::new(world, matcher, tree, trace, is_with);
-            let certificate = certificate_of(alloc, &nodes)?;
+            let certificate = find_certificate(alloc, world, matcher, tree, trace, is_with)?;
             Ok(certificate)
         }
     }

@@ -11,9 +11,9 @@ pub returns-clause-ok : goal.returns-clause-ok
 returns-clause-ok c =
     let w = world_view c.args.world.now in
     let t = tree_view c.args.tree.now in
-    let found = subst (λ r. MatchOption c.in_ok-solution.field-0
+    let found = subst (λ r. MatchOption c.in_ok-find_certificate.field-0
     (IsSolved (setting t r false) → ⊥) (Certifies (setting t r false)))
-    c.requires.trace c.in_ok-solution.ensures.certificate in
+    c.requires.trace c.in_ok-find_certificate.ensures in
     elim c.match-branch-2.branch [
       | in-Some b ↦
           rw b.result-is
