@@ -1,7 +1,6 @@
 -- What is learned is right, and less is left to be learned.
-use Rattle.std.proofs.Common.{◌≡◌, ℕ, zero, suc, ◌+◌, ◌<◌, ◌≤◌, ◌⊎◌, inl, inr, ◌∙◌, Bool, true, false, length, refl, sym, ap, subst, arith, Option, Some, None, is_some, if◌then◌else◌}
+use Rattle.std.proofs.Common.{◌≡◌, ℕ, zero, suc, ◌+◌, ◌<◌, ◌≤◌, ◌⊎◌, inl, inr, true, false, refl, sym, subst, arith, Option, Some, None, is_some, if◌then◌else◌}
 use Rattle.hv_order.proofs.Members.{SameNumber, equal_numbers, other_numbers, number_cases}
-use Rattle.hv_order.specs.Tables.{IsLeast}
 use Rattle.hv_order.specs.inside.Facts.{Facts, IsNodeRun}
 use Rattle.hv_order.specs.inside.Memos.{found, as_finish, AreKnown, Keeps, LiesIn, total, to_learn}
 use Rattle.hv_order.specs.declared.trial.Finish.TheVariants as finishes

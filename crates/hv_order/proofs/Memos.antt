@@ -1,5 +1,5 @@
 -- What is learned is kept, and nothing is forgotten.
-use Rattle.std.proofs.Common.{◌≡◌, ℕ, zero, suc, ◌+◌, ◌<◌, ◌≤◌, ◌⊎◌, inl, inr, ◌∙◌, List, [], ◌∷◌, Bool, true, false, cond, length, length-set, refl, sym, ap, subst, arith, Option, Some, None, is_some, slice_get, slice_set, leb, if◌then◌else◌}
+use Rattle.std.proofs.Common.{◌≡◌, ℕ, zero, suc, ◌<◌, ◌≤◌, ◌⊎◌, inl, inr, ◌∙◌, List, [], ◌∷◌, Bool, true, false, cond, length, length-set, refl, sym, ap, subst, arith, Option, Some, None, is_some, slice_get, slice_set, leb, if◌then◌else◌}
 use Rattle.std.proofs.lemmas.Bool.Decides.{leb_tells}
 use Rattle.std.proofs.lemmas.Map.Lookups.{CmpEqualImpliesEq, exact_pairs, exact_unsigned}
 use Rattle.std.specs.declared.cmp.Ordering.{Ordering}

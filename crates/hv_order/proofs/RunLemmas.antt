@@ -1,10 +1,9 @@
 -- Rows as runs.
-use Rattle.std.proofs.Common.{◌≡◌, ℕ, zero, suc, ◌+◌, ◌≤◌, ◌<◌, ◌++◌, List, [], ◌∷◌, refl, ap, subst, inl, inr, arith, ◌⊎◌, Option, Some, None, length, get_or}
+use Rattle.std.proofs.Common.{◌≡◌, ℕ, zero, suc, ◌+◌, ◌≤◌, ◌<◌, ◌++◌, List, [], ◌∷◌, refl, ap, subst, inl, inr, arith, ◌⊎◌, Some, None, length, get_or}
 use Rattle.std.proofs.lemmas.Bool.{cases_lt}
 use Rattle.std.specs.Prelude.{slice_get}
-use Rattle.hv_order.specs.inside.Facts.{Facts, IsRunOf}
+use Rattle.hv_order.specs.inside.Facts.{IsRunOf}
 use Rattle.hv_order.specs.inside.Runs.{IsRow, AreRising, AreBefore}
-use Rattle.hv_order.specs.declared.trial.Arranged.{Arranged}
 use Rattle.hv_order.specs.declared.trial.Run.{Run}
 use Rattle.hv_order.specs.declared.runs.Row.{Row}
 

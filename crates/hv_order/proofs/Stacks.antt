@@ -4,7 +4,6 @@ use Rattle.std.proofs.Common.{◌≡◌, ℕ, ◌+◌, ◌<◌, ◌≤◌, ◌�
 use Rattle.hv_order.specs.inside.Arrangements.{Arrangement}
 use Rattle.hv_order.specs.inside.Facts.{Facts, IsNodeRun}
 use Rattle.hv_order.specs.inside.Memos.{found, IsSmall, Keeps, LiesIn, IsWanted, to_learn}
-use Rattle.hv_order.specs.inside.Nodes.{IsSettled}
 use Rattle.hv_order.specs.inside.Tasks.{IsTask, IsTaskFrom}
 use Rattle.hv_order.specs.declared.memo.Memo.{Memo}
 use Rattle.hv_order.specs.declared.solve.Task.{Task}

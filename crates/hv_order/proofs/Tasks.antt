@@ -1,12 +1,12 @@
 -- A node that is worked out, from its beginning to its end.
-use Rattle.std.proofs.Common.{◌≡◌, ℕ, ◌<◌, ◌≤◌, ◌∙◌, List, ◌∷◌, refl, sym, ap, subst, Option, Some, None, Result, Ok, Err, IfOk}
+use Rattle.std.proofs.Common.{◌≡◌, ℕ, ◌<◌, ◌≤◌, ◌∙◌, List, ◌∷◌, refl, sym, subst, Some, None, Result, Ok, Err, IfOk}
 use Rattle.hv_order.specs.inside.Arrangements.{Arrangement, arrangement_of}
 use Rattle.hv_order.specs.inside.Facts.{Facts}
 use Rattle.hv_order.specs.inside.Trials.{IfWants}
 use Rattle.hv_order.specs.inside.Frames.{IsFrame, IsBest, IsNext, IsTurn, EndsLeast, EndsWon, StaysFrame, StaysTried}
 use Rattle.hv_order.specs.inside.Winners.{StaysListed, as_winner}
 use Rattle.hv_order.specs.inside.Nodes.{AreNodes, AreAllOf, IsSettled, settled_by}
-use Rattle.hv_order.specs.inside.Tasks.{IsWorking, IsTask, IsTaskFrom, Settles}
+use Rattle.hv_order.specs.inside.Tasks.{IsWorking, IsTaskFrom, Settles}
 use Rattle.hv_order.specs.declared.trial.Arranged.{Arranged}
 use Rattle.hv_order.specs.declared.trial.Best.{Best}
 use Rattle.hv_order.specs.declared.trial.Progress.{Progress}

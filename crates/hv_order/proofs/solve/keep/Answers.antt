@@ -1,4 +1,4 @@
-use Rattle.hv_order.proofs.Learning.{learned, less_left, no_more}
+use Rattle.hv_order.proofs.Learning.{learned}
 use Rattle.hv_order.proofs.solve.keep.Goals as goal
 
 pub returns-clause-memo : goal.returns-clause-memo

@@ -1,4 +1,4 @@
-use Rattle.std.proofs.Common.{◌<◌, rules}
+use Rattle.std.proofs.Common.{◌<◌}
 use Rattle.hv_order.specs.inside.Nodes.{IsSettled}
 use Rattle.hv_order.proofs.Stacks.{small_run, top_task, wanted_stack, wanted_less, begun_stack, over_stack, over_less}
 use Rattle.hv_order.proofs.solve.solve.Goals as goal

@@ -1,4 +1,4 @@
-use Rattle.std.proofs.Common.{ℕ, ◌+◌}
+use Rattle.std.proofs.Common.{◌+◌}
 use Rattle.hv_order.specs.inside.Memos.{AreKnown, to_learn}
 use Rattle.hv_order.proofs.Stacks.{IsStack}
 use Rattle.hv_order.proofs.solve.solve.Given as goal
