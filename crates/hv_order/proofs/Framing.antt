@@ -1,10 +1,13 @@
 -- A candidate's layout gives its least finish.
-use Rattle.std.proofs.Common.{◌≡◌, ℕ, zero, suc, ◌≤◌, ◌<◌, refl, inl, inr, arith, ◌⊎◌, Option, Some, None, length}
+use Rattle.std.proofs.Common.{◌≡◌, ℕ, zero, suc, ◌≤◌, ◌<◌, refl, inl, inr, arith, ◌⊎◌, Option, Some, None, length, subst}
 use Rattle.std.proofs.lemmas.Bool.{cases_lt}
 use Rattle.std.specs.Prelude.{slice_index, replicate}
 use Rattle.hv_order.specs.Tables.{IsLeast}
 use Rattle.hv_order.specs.inside.Layouts.{PlacedTogether}
-use Rattle.hv_order.specs.inside.Children.{child_at, ChildFits}
+use Rattle.hv_plan.specs.declared.tree.Child.{Child}
+use Rattle.hv_plan.specs.declared.tree.Child.TheVariants as children
+use Rattle.hv_order.specs.Finishes.{ActionFits}
+use Rattle.hv_order.specs.inside.Children.{child_at, ChildFits, IsLatestStart}
 use Rattle.hv_order.specs.inside.Arrangements.{Arrangement, arrangement_of}
 use Rattle.hv_order.specs.inside.Facts.{Facts, AreFits, IsFirstTrue, IsFirstStretch, FitsWith}
 use Rattle.hv_order.specs.inside.Trials.{direct_of, HasFinish, IsTrialOf, IsTrialAs, IsUnderCap}
@@ -25,9 +28,29 @@ module _ (q : Facts) (fits : AreFits q.fits) (s : ℕ) (c : Arranged) (arranged 
   abbrev FitOf : ℕ → ℕ → ℕ → Type 0
   FitOf j = ChildFits q.fits (child_at c.children.items j)
 
-  -- true nowhere
-  pub none_true : IsFirstTrue (q.holds arrangement) s cap None → IsLeast (FitsWith q s arrangement) cap None
-  none_true none = λ g a w. let e = w.early in none w.at w.late (omega arith) w.holds
+  -- true nowhere where all children can still begin
+  pub none_true : (latest : ℕ) → IsLatestStart c.children.items cap latest → IsFirstTrue (q.holds arrangement) s latest None → IsLeast (FitsWith q s arrangement) cap None
+  none_true latest is none = λ g a w.
+      let e = w.early in
+      none w.at w.late (is.bound w.at (omega (arith, e, a)) (λ j k lt child. begins w j k lt child)) w.holds
+    where
+      begins : {g : ℕ} (w : FitsWith q s arrangement g) (j k : ℕ) → j < length c.children.items → child_at c.children.items j ≡ children.Action k → w.at ≤ k
+      begins w j k lt child =
+          let P : Child → Type 0 = λ x. ChildFits q.fits x (w.together.start j) (w.together.finish j) in
+          let there : ActionFits k (w.together.start j) (w.together.finish j) = subst P child (w.together.fits j lt) in
+          let from = w.together.from j lt in
+          let begin = there.0 in
+          omega (arith, from, begin)
+
+  -- what is true first up to there is so up to the cap
+  pub up_to_cap : (latest : ℕ) (r : Stretch) → IsLatestStart c.children.items cap latest → IsFirstStretch (q.holds arrangement) s latest r → IsFirstStretch (q.holds arrangement) s cap r
+  up_to_cap latest r is first_is = record {
+    behind = first_is.behind;
+    within = (let a = first_is.within in let b = is.within in omega (arith, a, b));
+    begun = first_is.begun;
+    none_before = first_is.none_before;
+    holds = first_is.holds;
+  }
 
   -- behind the first true index no placing is lost
   earlier : (at at' f : ℕ) → at ≤ at' → PlacedTogether Is (q.before arrangement) FitOf at' f → PlacedTogether Is (q.before arrangement) FitOf at f

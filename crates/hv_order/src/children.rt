@@ -1,7 +1,7 @@
 //! What stands for a candidate's subtasks: actions of the plan, and nodes.
 ghost use Rattle.std.specs.Prelude.{◌≡◌, ◌<◌, ◌≤◌, IfOk, IfErr};
 ghost use Rattle.hv_order.specs.Finishes.{ActionFits};
-ghost use Rattle.hv_order.specs.inside.Children.{IsNodeBelow};
+ghost use Rattle.hv_order.specs.inside.Children.{IsNodeBelow, IsLatestStart};
 ghost use Rattle.hv_order.specs.inside.Facts.{IsRunOf, IsChildRun};
 
 use crate::trial::{Finish, Run, Table};
@@ -24,6 +24,21 @@ pub fn run_of_action(action: u32, start: u32, last: u32) -> Run
         last: action,
         finish: Some(action + 1),
     }
+}
+
+/// The last state up to `cap` in which all of these children can still begin, as far as the actions
+/// among them say: none begins behind the state of its number.
+pub fn latest_start(children: &[Child], cap: u32) -> u32
+    ensures { IsLatestStart children.now cap result }
+{
+    let mut latest = cap;
+    for child in children {
+        match *child {
+            Child::Action(action) => latest = latest.min(action),
+            Child::Node(_) => {}
+        }
+    }
+    latest
 }
 
 /// The run of a child in which a start lies, or the node whose finish for this start is not known.

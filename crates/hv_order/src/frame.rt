@@ -9,6 +9,7 @@ ghost use Rattle.hv_order.specs.inside.Winners.{StaysListed};
 ghost use Rattle.hv_order.specs.inside.Frames.{IsArranged, AreArranged, IsHead, IsEarliest, IsBegun, IsNext, IfTurn, TakesWinner, IsFrame, EndsLeast, EndsWon, StaysFrame, StaysTried};
 ghost use Rattle.hv_order.specs.declared.trial.Best.{Best};
 
+use crate::children::latest_start;
 use crate::memory::Memory;
 use crate::trial::{Arranged, Best, Progress, Table, Trial, go_on};
 use std::alloc::Global;
@@ -43,7 +44,8 @@ pub struct Turn {
 }
 
 /// Begins a candidate, of which nothing is laid out yet, if its precondition is true somewhere from
-/// `start` to `cap`.
+/// `start` to `cap`. It is not looked for behind the first action among the children, since that could
+/// not come behind it.
 pub fn begin<T: Table>(
     alloc: Global,
     table: &T,
@@ -56,7 +58,8 @@ pub fn begin<T: Table>(
     requires arranged { IsArranged (T.facts table.now) (arrangement_of candidate.now) }
     ensures { IfOk result (IsBegun (T.facts table.now) start candidate.now cap) }
 {
-    match table.first_true(candidate, start, cap) {
+    let latest = latest_start(&candidate.children, cap);
+    match table.first_true(candidate, start, latest) {
         None => Ok(None),
         Some(truth) => {
             let finishes = vec![in alloc; 0; candidate.children.len()]?;

@@ -1,5 +1,5 @@
 -- What stands for a candidate's subtasks: actions of the plan, and nodes.
-use Rattle.std.specs.Prelude.{ℕ, ◌<◌, List}
+use Rattle.std.specs.Prelude.{◌≡◌, ℕ, ◌<◌, ◌≤◌, List, length}
 use Rattle.std.specs.List.{All, slice_index_or}
 use Rattle.hv_plan.specs.declared.tree.Child.{Child}
 use Rattle.hv_plan.specs.declared.tree.Child.TheVariants as children
@@ -22,3 +22,12 @@ IsNodeBelow n (children.Node v) = v < n
 -- the nodes among these children have numbers below n
 abbrev pub AreNodesBelow : ℕ → List Child → Type 0
 AreNodesBelow n cs = All (IsNodeBelow n) cs
+
+-- all of these children can still begin in state s: no action among them stands before it
+abbrev pub CanBeginAt : List Child → ℕ → Type 0
+CanBeginAt cs s = (j k : ℕ) → j < length cs → child_at cs j ≡ children.Action k → s ≤ k
+
+-- up to the cap, no state behind this one is such a state
+pub record IsLatestStart (cs : List Child) (cap latest : ℕ) : Type 0 where
+  pub within : latest ≤ cap
+  pub bound : (s : ℕ) → s ≤ cap → CanBeginAt cs s → s ≤ latest
