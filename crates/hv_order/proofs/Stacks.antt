@@ -1,12 +1,14 @@
--- Tasks that wait for one another: each is of a node before that of the one below it, and of none but the
--- first is it known what it comes to.
+-- Nodes that wait for one another: each is before the one below it, and of none but the first is it known
+-- what it comes to.
 use Rattle.std.proofs.Common.{◌≡◌, ℕ, ◌+◌, ◌<◌, ◌≤◌, ◌⊎◌, inl, inr, ◌∙◌, List, [], ◌∷◌, ◌++◌, refl, sym, ap, subst, arith, Option, Some, None, is_some, true}
 use Rattle.hv_order.specs.inside.Arrangements.{Arrangement}
 use Rattle.hv_order.specs.inside.Facts.{Facts, IsNodeRun}
 use Rattle.hv_order.specs.inside.Memos.{found, IsSmall, Keeps, LiesIn, IsWanted, to_learn}
-use Rattle.hv_order.specs.inside.Tasks.{IsTask, IsTaskFrom}
+use Rattle.hv_order.specs.inside.Tasks.{pair_of, IsPair, IsPending, Waits}
 use Rattle.hv_order.specs.declared.memo.Memo.{Memo}
-use Rattle.hv_order.specs.declared.solve.Task.{Task}
+use Rattle.hv_order.specs.declared.memo.Pair.{Pair}
+use Rattle.hv_order.specs.declared.solve.Pending.{Pending}
+use Rattle.hv_order.specs.declared.solve.Pending.TheVariants as pending
 use Rattle.hv_order.specs.declared.trial.Run.{Run}
 use Rattle.hv_order.proofs.Learning.{less_left}
 use Rattle.hv_order.proofs.Standing.{least_of}
@@ -28,127 +30,127 @@ still_unknown m m' v s r w x keeps lt was = tell (found m' w x) refl
     tell (Some u) e = absurd (none u (keeps.only w x u e))
 
 module _ {L : Type 0} (left : L → List Arrangement) (q : Facts) (size : ℕ) where
-  -- a task of a node before another, from a start on of which nothing is known
-  pub record IsAbove (m : Memo) (u : ℕ) (t : Task L) : Type 0 where
-    pub below : t.node < u
-    pub unknown : found m t.node t.frame.start ≡ None
-    pub task : IsTask left q size t
+  -- one that waits is of a node of the plan, from one of its states on
+  pub pair_is : (p : Pending L) → IsPending left q size p → IsPair q size (pair_of p)
+  pair_is (pending.Asked p) is = is
+  pair_is (pending.Begun t) is = record { node = is.within; start = is.start }
 
-  -- tasks that wait for one another above node u, the last of them for the one on top
-  abbrev pub AreAbove : Memo → ℕ → List (Task L) → Task L → Type 0
+  -- one of a node before another, from a start on of which nothing is known
+  pub record IsAbove (m : Memo) (u : ℕ) (p : Pending L) : Type 0 where
+    pub below : (pair_of p).node < u
+    pub unknown : found m (pair_of p).node (pair_of p).start ≡ None
+    pub pending : IsPending left q size p
+
+  -- the one that is asked for
+  pub record IsFirst (a : Pair) (p : Pending L) : Type 0 where
+    pub same : pair_of p ≡ a
+    pub pending : IsPending left q size p
+
+  -- those that wait for one another above node u, the last of them for the one on top
+  abbrev pub AreAbove : Memo → ℕ → List (Pending L) → Pending L → Type 0
   AreAbove m u [] t = IsAbove m u t
-  AreAbove m u (b ∷ bs) t = IsAbove m u b × AreAbove m b.node bs t
+  AreAbove m u (b ∷ bs) t = IsAbove m u b × AreAbove m (pair_of b).node bs t
 
   -- so they do from the one that is asked for on
-  abbrev pub IsStack : Memo → ℕ → ℕ → List (Task L) → Task L → Type 0
-  IsStack m v s [] t = IsTaskFrom left q size v s t
-  IsStack m v s (b ∷ bs) t = IsTaskFrom left q size v s b × AreAbove m b.node bs t
+  abbrev pub IsStack : Memo → Pair → List (Pending L) → Pending L → Type 0
+  IsStack m a [] t = IsFirst a t
+  IsStack m a (b ∷ bs) t = IsFirst a b × AreAbove m (pair_of b).node bs t
 
-  above_task : (m : Memo) (u : ℕ) (bs : List (Task L)) (t : Task L) → AreAbove m u bs t → IsTask left q size t
-  above_task m u [] t is = is.task
-  above_task m u (b ∷ bs) t is = above_task m b.node bs t is.1
+  above_pending : (m : Memo) (u : ℕ) (bs : List (Pending L)) (t : Pending L) → AreAbove m u bs t → IsPending left q size t
+  above_pending m u [] t is = is.pending
+  above_pending m u (b ∷ bs) t is = above_pending m (pair_of b).node bs t is.1
 
-  pub top_task : (m : Memo) (v s : ℕ) (bs : List (Task L)) (t : Task L) → IsStack m v s bs t → IsTask left q size t
-  top_task m v s [] t is = is.task
-  top_task m v s (b ∷ bs) t is = above_task m b.node bs t is.1
+  pub top_pending : (m : Memo) (a : Pair) (bs : List (Pending L)) (t : Pending L) → IsStack m a bs t → IsPending left q size t
+  top_pending m a [] t is = is.pending
+  top_pending m a (b ∷ bs) t is = above_pending m (pair_of b).node bs t is.1
 
-  -- the one on top goes on
-  above_stepped : (m : Memo) (u : ℕ) (bs : List (Task L)) (t t' : Task L) → AreAbove m u bs t → t'.node ≡ t.node → t'.frame.start ≡ t.frame.start → IsTask left q size t' → AreAbove m u bs t'
-  above_stepped m u [] t t' is node start task = record {
-    below = subst (λ k. k < u) (sym node) is.below;
-    unknown = ap (λ k. found m k t'.frame.start) node ∙ ap (found m t.node) start ∙ is.unknown;
-    task = task;
+  -- another one stands for the one on top, of the same node and start
+  above_waits : (m : Memo) (u : ℕ) (bs : List (Pending L)) (t t' : Pending L) → AreAbove m u bs t → Waits left q size (pair_of t) t' → AreAbove m u bs t'
+  above_waits m u [] t t' is w = record {
+    below = subst (λ (p : Pair). p.node < u) (sym w.same) is.below;
+    unknown = subst (λ (p : Pair). found m p.node p.start ≡ None) (sym w.same) is.unknown;
+    pending = w.pending;
   }
-  above_stepped m u (b ∷ bs) t t' is node start task = (is.0, above_stepped m b.node bs t t' is.1 node start task)
+  above_waits m u (b ∷ bs) t t' is w = (is.0, above_waits m (pair_of b).node bs t t' is.1 w)
 
-  pub stepped : (m : Memo) (v s : ℕ) (bs : List (Task L)) (t t' : Task L) → IsStack m v s bs t → t'.node ≡ t.node → t'.frame.start ≡ t.frame.start → IsTask left q size t' → IsStack m v s bs t'
-  stepped m v s [] t t' is node start task = record { node = node ∙ is.node; start = start ∙ is.start; task = task }
-  stepped m v s (b ∷ bs) t t' is node start task = (is.0, above_stepped m b.node bs t t' is.1 node start task)
+  waits : (m : Memo) (a : Pair) (bs : List (Pending L)) (t t' : Pending L) → IsStack m a bs t → Waits left q size (pair_of t) t' → IsStack m a bs t'
+  waits m a [] t t' is w = record { same = w.same ∙ is.same; pending = w.pending }
+  waits m a (b ∷ bs) t t' is w = (is.0, above_waits m (pair_of b).node bs t t' is.1 w)
 
   -- a run of a node before that of the one on top was learned
-  above_learned : (m m' : Memo) (w x : ℕ) (r : Run) → Keeps m m' w x r → (u : ℕ) (bs : List (Task L)) (t : Task L) → AreAbove m u bs t → w < t.node → AreAbove m' u bs t × (w < u)
+  above_learned : (m m' : Memo) (w x : ℕ) (r : Run) → Keeps m m' w x r → (u : ℕ) (bs : List (Pending L)) (t : Pending L) → AreAbove m u bs t → w < (pair_of t).node → AreAbove m' u bs t × (w < u)
   above_learned m m' w x r keeps u [] t is lt = (
     record {
       below = is.below;
-      unknown = still_unknown m m' w x r t.node t.frame.start keeps lt is.unknown;
-      task = is.task;
+      unknown = still_unknown m m' w x r (pair_of t).node (pair_of t).start keeps lt is.unknown;
+      pending = is.pending;
     },
     (let below = is.below in omega (arith, lt, below)),
   )
   above_learned m m' w x r keeps u (b ∷ bs) t is lt =
-      let (rest, before) = above_learned m m' w x r keeps b.node bs t is.1 lt in (
+      let (rest, before) = above_learned m m' w x r keeps (pair_of b).node bs t is.1 lt in (
         (
           record {
             below = is.0.below;
-            unknown = still_unknown m m' w x r b.node b.frame.start keeps before is.0.unknown;
-            task = is.0.task;
+            unknown = still_unknown m m' w x r (pair_of b).node (pair_of b).start keeps before is.0.unknown;
+            pending = is.0.pending;
           },
           rest,
         ),
         (let below = is.0.below in omega (arith, before, below)),
       )
 
-  pub learned_under : (m m' : Memo) (w x : ℕ) (r : Run) → Keeps m m' w x r → (v s : ℕ) (bs : List (Task L)) (t : Task L) → IsStack m v s bs t → w < t.node → IsStack m' v s bs t
-  learned_under m m' w x r keeps v s [] t is lt = is
-  learned_under m m' w x r keeps v s (b ∷ bs) t is lt = (is.0, (above_learned m m' w x r keeps b.node bs t is.1 lt).0)
+  learned_under : (m m' : Memo) (w x : ℕ) (r : Run) → Keeps m m' w x r → (a : Pair) (bs : List (Pending L)) (t : Pending L) → IsStack m a bs t → w < (pair_of t).node → IsStack m' a bs t
+  learned_under m m' w x r keeps a [] t is lt = is
+  learned_under m m' w x r keeps a (b ∷ bs) t is lt = (is.0, (above_learned m m' w x r keeps (pair_of b).node bs t is.1 lt).0)
 
-  -- one more is begun
-  above_pushed : (m : Memo) (u : ℕ) (bs : List (Task L)) (t t' : Task L) → AreAbove m u bs t → IsAbove m t.node t' → AreAbove m u (bs ++ t ∷ []) t'
+  -- one more is asked for
+  above_pushed : (m : Memo) (u : ℕ) (bs : List (Pending L)) (t t' : Pending L) → AreAbove m u bs t → IsAbove m (pair_of t).node t' → AreAbove m u (bs ++ t ∷ []) t'
   above_pushed m u [] t t' is more = (is, more)
-  above_pushed m u (b ∷ bs) t t' is more = (is.0, above_pushed m b.node bs t t' is.1 more)
+  above_pushed m u (b ∷ bs) t t' is more = (is.0, above_pushed m (pair_of b).node bs t t' is.1 more)
 
-  pub pushed : (m : Memo) (v s : ℕ) (bs : List (Task L)) (t t' : Task L) → IsStack m v s bs t → IsAbove m t.node t' → IsStack m v s (bs ++ t ∷ []) t'
-  pushed m v s [] t t' is more = (is, more)
-  pushed m v s (b ∷ bs) t t' is more = (is.0, above_pushed m b.node bs t t' is.1 more)
-
-  pub is_above : (m : Memo) (u w x : ℕ) (t : Task L) → IsWanted q m u w x → IsTaskFrom left q size w x t → IsAbove m u t
-  is_above m u w x t wanted is = record {
-    below = subst (λ k. k < u) (sym is.node) wanted.below;
-    unknown = ap (λ k. found m k t.frame.start) is.node ∙ ap (found m w) is.start ∙ wanted.unknown;
-    task = is.task;
-  }
+  pushed : (m : Memo) (a : Pair) (bs : List (Pending L)) (t t' : Pending L) → IsStack m a bs t → IsAbove m (pair_of t).node t' → IsStack m a (bs ++ t ∷ []) t'
+  pushed m a [] t t' is more = (is, more)
+  pushed m a (b ∷ bs) t t' is more = (is.0, above_pushed m (pair_of b).node bs t t' is.1 more)
 
   -- the one on top is over
-  above_popped : (m : Memo) (u : ℕ) (bs : List (Task L)) (b t : Task L) → AreAbove m u (bs ++ b ∷ []) t → AreAbove m u bs b × IsAbove m b.node t
+  above_popped : (m : Memo) (u : ℕ) (bs : List (Pending L)) (b t : Pending L) → AreAbove m u (bs ++ b ∷ []) t → AreAbove m u bs b × IsAbove m (pair_of b).node t
   above_popped m u [] b t is = is
-  above_popped m u (c ∷ bs) b t is = let (rest, top) = above_popped m c.node bs b t is.1 in ((is.0, rest), top)
+  above_popped m u (c ∷ bs) b t is = let (rest, top) = above_popped m (pair_of c).node bs b t is.1 in ((is.0, rest), top)
 
-  pub popped : (m : Memo) (v s : ℕ) (bs : List (Task L)) (b t : Task L) → IsStack m v s (bs ++ b ∷ []) t → IsStack m v s bs b × IsAbove m b.node t
-  popped m v s [] b t is = is
-  popped m v s (c ∷ bs) b t is = let (rest, top) = above_popped m c.node bs b t is.1 in ((is.0, rest), top)
+  popped : (m : Memo) (a : Pair) (bs : List (Pending L)) (b t : Pending L) → IsStack m a (bs ++ b ∷ []) t → IsStack m a bs b × IsAbove m (pair_of b).node t
+  popped m a [] b t is = is
+  popped m a (c ∷ bs) b t is = let (rest, top) = above_popped m (pair_of c).node bs b t is.1 in ((is.0, rest), top)
 
-  -- a child's finish is wanted, and it has none: this is learned
-  module _ (m m' : Memo) (v s : ℕ) (bs : List (Task L)) (t t' : Task L) (w x : ℕ) (r : Run) (is : IsStack m v s bs t) (node : t'.node ≡ t.node) (start : t'.frame.start ≡ t.frame.start)
-      (task : IsTask left q size t') (wanted : IsWanted q m t.node w x) (keeps : Keeps m m' w x r) where
-    pub wanted_stack : IsStack m' v s bs t'
-    wanted_stack = learned_under m m' w x r keeps v s bs t' (stepped m v s bs t t' is node start task) (subst (λ k. w < k) (sym node) wanted.below)
+  -- a child's finish is wanted: the one on top waits, and the child is asked for
+  module _ (m : Memo) (a : Pair) (bs : List (Pending L)) (t t' : Pending L) (child : Pair) (is : IsStack m a bs t) (w : Waits left q size (pair_of t) t') (wanted : IsWanted q m (pair_of t).node child.node child.start) where
+    child_above : IsAbove m (pair_of t').node (pending.Asked child)
+    child_above = record {
+      below = subst (λ (p : Pair). child.node < p.node) (sym w.same) wanted.below;
+      unknown = wanted.unknown;
+      pending = record {
+        node = (let below = wanted.below in let within = (pair_is t (top_pending m a bs t is)).node in omega (arith, below, within));
+        start = wanted.within;
+      };
+    }
 
-    pub wanted_less : is_some (found m' w x) ≡ true → to_learn q.last size m' + t'.node < to_learn q.last size m + t.node
-    wanted_less known =
-        let below = wanted.below in
-        let within = (top_task m v s bs t is).within in
-        let less = less_left q.last size m m' w x keeps.kept (omega (arith, below, within)) wanted.within wanted.unknown known in
-        omega (arith, less, node, within)
+    pub asked_stack : IsStack m a (bs ++ t' ∷ []) (pending.Asked child)
+    asked_stack = pushed m a bs t' (pending.Asked child) (waits m a bs t t' is w) child_above
 
-  -- a child's finish is wanted, and its task goes on top
-  pub begun_stack : (m : Memo) (v s : ℕ) (bs : List (Task L)) (t t' u : Task L) (w x : ℕ) → IsStack m v s bs t → t'.node ≡ t.node → t'.frame.start ≡ t.frame.start → IsTask left q size t' → IsWanted q m t.node w x → IsTaskFrom left q size w x u
-      → IsStack m v s (bs ++ t' ∷ []) u
-  begun_stack m v s bs t t' u w x is node start task wanted from =
-      pushed m v s bs t' u (stepped m v s bs t t' is node start task) (is_above m t'.node w x u (subst (λ k. IsWanted q m k w x) (sym node) wanted) from)
+    pub asked_less : to_learn q.last size m + child.node < to_learn q.last size m + (pair_of t).node
+    asked_less = let below = wanted.below in omega (arith, below)
 
-  -- the task on top is over: what it came to is learned, and the one below it goes on
-  module _ (m m' : Memo) (v s : ℕ) (bs bs' : List (Task L)) (t t' b : Task L) (r : Run) (is : IsStack m v s bs t) (rest : bs ≡ bs' ++ b ∷ []) (node : t'.node ≡ t.node) (start : t'.frame.start ≡ t.frame.start)
-      (keeps : Keeps m m' t'.node t'.frame.start r) where
-    both : IsStack m v s bs' b × IsAbove m b.node t
-    both = popped m v s bs' b t (subst (λ k. IsStack m v s k t) rest is)
+  -- the one on top is over: what it came to is learned, and the one below it goes on
+  module _ (m m' : Memo) (a : Pair) (bs bs' : List (Pending L)) (t b : Pending L) (r : Run) (is : IsStack m a bs t) (rest : bs ≡ bs' ++ b ∷ []) (keeps : Keeps m m' (pair_of t).node (pair_of t).start r) where
+    both : IsStack m a bs' b × IsAbove m (pair_of b).node t
+    both = popped m a bs' b t (subst (λ k. IsStack m a k t) rest is)
 
-    pub over_stack : IsStack m' v s bs' b
-    over_stack = learned_under m m' t'.node t'.frame.start r keeps v s bs' b both.0 (subst (λ k. k < b.node) (sym node) both.1.below)
+    pub over_stack : IsStack m' a bs' b
+    over_stack = learned_under m m' (pair_of t).node (pair_of t).start r keeps a bs' b both.0 both.1.below
 
-    pub over_less : is_some (found m' t'.node t'.frame.start) ≡ true → to_learn q.last size m' + b.node < to_learn q.last size m + t.node
+    pub over_less : is_some (found m' (pair_of t).node (pair_of t).start) ≡ true → to_learn q.last size m' + (pair_of b).node < to_learn q.last size m + (pair_of t).node
     over_less known =
-        let task = top_task m v s bs t is in
-        let within = (top_task m v s bs' b both.0).within in
-        let unknown : found m t'.node t'.frame.start ≡ None = ap (λ k. found m k t'.frame.start) node ∙ ap (found m t.node) start ∙ both.1.unknown in
-        let less = less_left q.last size m m' t'.node t'.frame.start keeps.kept (subst (λ k. k < size) (sym node) task.within) (subst (λ k. k ≤ q.last) (sym start) task.start) unknown known in
+        let top = pair_is t (top_pending m a bs t is) in
+        let within = (pair_is b (top_pending m a bs' b both.0)).node in
+        let less = less_left q.last size m m' (pair_of t).node (pair_of t).start keeps.kept top.node top.start both.1.unknown known in
         omega (arith, less, within)

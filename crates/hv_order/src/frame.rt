@@ -22,6 +22,10 @@ pub trait Candidates {
     /// The next candidate.
     fn next(&mut self) -> Result<Option<Arranged>, Memory>
         ensures { IfOk result (IsHead (left self.old) (left self.new)) };
+
+    /// Whether no more than the first was given. It is asked for to save memory, and no answer
+    /// hangs on it.
+    fn is_at_first(&self) -> bool;
 }
 
 /// The best of the candidates that are over, with the last start up to which it stays the best, and

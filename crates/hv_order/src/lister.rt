@@ -33,6 +33,7 @@ pub struct Lister<'a> {
     pub(crate) order: &'a [usize],
     pub(crate) direct: Vec<Vec<usize>>,
     pub(crate) coming: Matchings<'a>,
+    given: u32,
 }
 
 // The child at a place.
@@ -124,6 +125,7 @@ pub(crate) fn candidates_of<'a>(
         order: arrangement,
         direct: directs(alloc, order, arrangement.len())?,
         coming: Matchings::new(alloc, matcher, tree, number)?,
+        given: 0,
     })
 }
 
@@ -136,6 +138,7 @@ impl Candidates for Lister<'_> {
         if !self.coming.advance()? {
             return Ok(None);
         }
+        self.given = self.given.saturating_add(1);
         let candidate = arranged(
             self.alloc,
             self.node,
@@ -146,5 +149,9 @@ impl Candidates for Lister<'_> {
             self.coming.objects(),
         )?;
         Ok(Some(candidate))
+    }
+
+    fn is_at_first(&self) -> bool {
+        self.given <= 1
     }
 }

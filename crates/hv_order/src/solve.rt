@@ -2,20 +2,25 @@
 ghost use Rattle.std.specs.Prelude.{◌≡◌, ◌<◌, ◌≤◌, IfOk, OnOk, is_some, true};
 ghost use Rattle.hv_order.specs.inside.Facts.{IsNodeRun};
 ghost use Rattle.hv_order.specs.inside.Memos.{found, AreKnown, IsSmall, Keeps, IsBelow, IsWanted};
-ghost use Rattle.hv_order.specs.inside.Tasks.{IsTask, IsOpened, Settles};
+ghost use Rattle.hv_order.specs.inside.Tasks.{pair_of, task_pair, IsTask, IsPending, IsOutcome, IsOpened, Settles, Waits};
 ghost use Rattle.hv_order.specs.inside.Nodes.{AreNodes, IsSettled, settled_by};
 ghost use Rattle.hv_order.specs.inside.Trials.{IfWants, WantsOnly};
 ghost use Rattle.hv_order.specs.inside.Winners.{as_winner};
 
-use crate::frame::{Frame, advance, next_turn};
-use crate::memo::Memo;
+use crate::frame::{Candidates, Frame, advance, next_turn};
+use crate::memo::{Memo, Pair};
 use crate::memory::Memory;
 use crate::nodes::Nodes;
 use crate::settle::{Settled, run_of};
 use crate::trial::{Arranged, Best, Finish, Progress, Run, Stretch, Table};
 use crate::winner::{no_candidate, with_candidate};
 use std::alloc::Global;
-use std::mem::replace;
+
+// So many children at most has a task that is let go: it is begun anew for each.
+const FEW: usize = 4;
+
+// So many tasks that wait are kept whatever they take.
+const NEAR: usize = 1024;
 
 /// What is known of the nodes before one, as a table.
 #[derive_where(Clone, Copy)]
@@ -58,6 +63,35 @@ pub struct Task<L> {
     pub node: u32,
     pub left: L,
     pub frame: Frame,
+}
+
+/// A node that waits for the one above it: begun, or to be begun anew from its start.
+#[derive(Drop)]
+pub enum Pending<L> {
+    Asked(Pair),
+    Begun(Box<Task<L>>),
+}
+
+/// What a node came to: a child's finish is wanted, or all candidates are over.
+#[derive(Drop)]
+pub enum Outcome<L> {
+    Wants(Task<L>, Pair),
+    Over(Settled),
+}
+
+impl<L> Pending<L> {
+    /// Which node waits, and from which start.
+    pub fn pair(&self) -> Pair
+        ensures { result ≡ pair_of self.now }
+    {
+        match self {
+            Pending::Asked(pair) => *pair,
+            Pending::Begun(task) => Pair {
+                node: task.node,
+                start: task.frame.start,
+            },
+        }
+    }
 }
 
 /// Begins to work a node out. Where there is no task, no start from this one on has a finish.
@@ -144,6 +178,69 @@ pub fn keep<N: Nodes>(
     memo.learn(node, start, run)
 }
 
+/// Works on a task up to the next finish that it wants, or to its end.
+pub fn work<N: Nodes>(
+    alloc: Global,
+    nodes: &N,
+    memo: &Memo,
+    task: Task<N::Left>,
+) -> Result<Outcome<N::Left>, Memory>
+    requires nodes { AreNodes (N.facts nodes.now) }
+    requires memo { AreKnown (N.facts nodes.now) (N.size nodes.now) memo.now }
+    requires task { IsTask N.Left.left (N.facts nodes.now) (N.size nodes.now) task }
+    ensures { IfOk result (IsOutcome N.Left.left (N.facts nodes.now) (N.size nodes.now) memo.now
+        (task_pair task)) }
+{
+    let mut task = task;
+    match step(alloc, nodes, memo, &mut task)? {
+        Progress::Wants(node, start) => Ok(Outcome::Wants(task, Pair { node, start })),
+        Progress::Over(best) => Ok(Outcome::Over(close(task, best, nodes.last()))),
+    }
+}
+
+/// Goes on with a node that waited, which is begun where it is not yet.
+pub fn resume<N: Nodes>(
+    alloc: Global,
+    nodes: &N,
+    memo: &Memo,
+    pending: Pending<N::Left>,
+) -> Result<Outcome<N::Left>, Memory>
+    requires nodes { AreNodes (N.facts nodes.now) }
+    requires memo { AreKnown (N.facts nodes.now) (N.size nodes.now) memo.now }
+    requires pending { IsPending N.Left.left (N.facts nodes.now) (N.size nodes.now) pending }
+    ensures { IfOk result (IsOutcome N.Left.left (N.facts nodes.now) (N.size nodes.now) memo.now
+        (pair_of pending)) }
+{
+    match pending {
+        Pending::Begun(task) => work(alloc, nodes, memo, Box::into_inner(task)),
+        Pending::Asked(pair) => match open(alloc, nodes, memo, pair.node, pair.start)? {
+            None => Ok(Outcome::Over(run_of(None, nodes.last()))),
+            Some(task) => work(alloc, nodes, memo, task),
+        },
+    }
+}
+
+/// Lets a task wait. One of those that are `far` down is let go where it is soon begun anew, so that
+/// a deep plan's tasks take little memory.
+pub fn wait<N: Nodes>(
+    alloc: Global,
+    _nodes: &N,
+    task: Task<N::Left>,
+    far: bool,
+) -> Result<Pending<N::Left>, Memory>
+    requires task { IsTask N.Left.left (N.facts _nodes.now) (N.size _nodes.now) task }
+    ensures { IfOk result (Waits N.Left.left (N.facts _nodes.now) (N.size _nodes.now)
+        (task_pair task)) }
+{
+    if far && task.left.is_at_first() && task.frame.candidate.children.len() <= FEW {
+        return Ok(Pending::Asked(Pair {
+            node: task.node,
+            start: task.frame.start,
+        }));
+    }
+    Ok(Pending::Begun(Box::new(alloc, task)?))
+}
+
 /// A run of a node from a start on, with its winner. What was found on the way is kept.
 pub fn solve<N: Nodes>(
     alloc: Global,
@@ -160,30 +257,23 @@ pub fn solve<N: Nodes>(
     ensures small { IfOk result (λ r. IsSmall r.run.finish) }
     ensures memo { AreKnown (N.facts nodes.now) (N.size nodes.now) memo.new }
 {
-    let last = nodes.last();
-    let mut top = match open(alloc, nodes, memo, node, start)? {
-        None => return Ok(run_of(None, last)),
-        Some(task) => task,
-    };
-    let mut below: Vec<Task<N::Left>> = Vec::new(alloc);
+    let mut below: Vec<Pending<N::Left>> = Vec::new(alloc);
+    let mut top: Pending<N::Left> = Pending::Asked(Pair { node, start });
     loop {
-        match step(alloc, nodes, memo, &mut top)? {
-            Progress::Wants(child, from) => match open(alloc, nodes, memo, child, from)? {
-                None => keep(nodes, memo, child, from, Run { last, finish: None })?,
-                Some(task) => below.push(replace(&mut top, task))?,
-            },
-            Progress::Over(best) => {
-                let number = top.node;
-                let from = top.frame.start;
-                let settled = close(top, best, last);
-                match below.pop() {
-                    None => return Ok(settled),
-                    Some(task) => {
-                        keep(nodes, memo, number, from, settled.run)?;
-                        top = task;
-                    }
-                }
+        let pair = top.pair();
+        match resume(alloc, nodes, memo, top)? {
+            Outcome::Wants(task, child) => {
+                let far = NEAR <= below.len();
+                below.push(wait(alloc, nodes, task, far)?)?;
+                top = Pending::Asked(child);
             }
+            Outcome::Over(settled) => match below.pop() {
+                None => return Ok(settled),
+                Some(waiting) => {
+                    keep(nodes, memo, pair.node, pair.start, settled.run)?;
+                    top = waiting;
+                }
+            },
         }
     }
 }

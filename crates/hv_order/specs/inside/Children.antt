@@ -27,7 +27,8 @@ AreNodesBelow n cs = All (IsNodeBelow n) cs
 abbrev pub CanBeginAt : List Child → ℕ → Type 0
 CanBeginAt cs s = (j k : ℕ) → j < length cs → child_at cs j ≡ children.Action k → s ≤ k
 
--- up to the cap, no state behind this one is such a state
+-- it is such a state up to the cap, and none behind it is
 pub record IsLatestStart (cs : List Child) (cap latest : ℕ) : Type 0 where
   pub within : latest ≤ cap
+  pub serves : CanBeginAt cs latest
   pub bound : (s : ℕ) → s ≤ cap → CanBeginAt cs s → s ≤ latest

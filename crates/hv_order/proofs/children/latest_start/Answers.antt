@@ -1,5 +1,5 @@
 use Rattle.std.proofs.Common.{min}
-use Rattle.hv_order.proofs.LatestStarts.{none_looked, action_looked, node_looked, all_looked, min_first, under_both}
+use Rattle.hv_order.proofs.LatestStarts.{none_looked, action_looked, node_looked, all_looked, min_first, min_second, under_both}
 use Rattle.hv_order.proofs.children.latest_start.Goals as goal
 use Rattle.hv_order.proofs.children.latest_start.Goals.{in-Action, in-Node}
 
@@ -15,10 +15,10 @@ loop-child-preserved c =
       | in-Action w ↦ (
           let k = w.in-Action.action in
           rw (w.latest-is, w.min-latest.ensures)
-          (action_looked cs c.args.cap i latest (min latest k) k c.loop-child.invariant w.in-Action.is (min_first latest k) (under_both latest k))
+          (action_looked cs c.args.cap i latest (min latest k) k c.loop-child.invariant w.in-Action.is (min_first latest k) (min_second latest k) (under_both latest k))
           )
-      | in-Node w ↦ rw w.latest-is (node_looked cs c.args.cap i latest c.loop-child.invariant)
+      | in-Node w ↦ rw w.latest-is (node_looked cs c.args.cap i latest w.in-Node.field-0 c.loop-child.invariant w.in-Node.is)
     ]
 
 pub returns : goal.returns
-returns c = all_looked c.args.children.now c.args.cap c.loop-child.child-index c.loop-child.latest c.loop-child.invariant c.loop-child.auto.child-index-end
+returns c = all_looked c.args.children.now c.args.cap c.loop-child.child-index c.loop-child.latest c.loop-child.invariant c.loop-child.auto.child-index-end c.loop-child-test.false

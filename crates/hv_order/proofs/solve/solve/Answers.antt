@@ -1,92 +1,94 @@
-use Rattle.std.proofs.Common.{◌<◌}
-use Rattle.hv_order.specs.inside.Nodes.{IsSettled}
-use Rattle.hv_order.proofs.Stacks.{small_run, top_task, wanted_stack, wanted_less, begun_stack, over_stack, over_less}
+use Rattle.std.proofs.Common.{◌≡◌, refl}
+use Rattle.hv_order.specs.declared.memo.Pair.{Pair}
+use Rattle.hv_order.specs.declared.solve.Pending.TheVariants as pending
+use Rattle.hv_order.specs.inside.Tasks.{pair_of, IsWaitingFor, Waits}
+use Rattle.hv_order.specs.inside.Memos.{Keeps}
+use Rattle.hv_order.proofs.Stacks.{IsFirst, pair_is, top_pending, asked_stack, asked_less, over_stack, over_less}
 use Rattle.hv_order.proofs.solve.solve.Goals as goal
 
-pub step-requires-clause-task : goal.step-requires-clause-task
-step-requires-clause-task g c =
+pub loop-below-init : goal.loop-below-init
+loop-below-init g c =
     let q = g.N.Nodes.facts c.args.nodes.now in
     let size = g.N.Nodes.size c.args.nodes.now in
     let left = g.N.Left.Candidates.left in
-    top_task left q size c.loop-below.memo c.args.node c.args.start c.loop-below.below.items c.loop-below.top c.loop-below.invariant.1
-
--- where the wanted finish is none
-pub loop-below-smaller-in-Continue-branch-7 : goal.loop-below-smaller-in-Continue-branch-7
-loop-below-smaller-in-Continue-branch-7 g c =
-    let q = g.N.Nodes.facts c.args.nodes.now in
-    let size = g.N.Nodes.size c.args.nodes.now in
-    let left = g.N.Left.Candidates.left in
-    let wanted = rw c.in-Wants.is at c.in_ok-child.ensures.wanted in
-    let task = rw c.in-Wants.is at c.in_ok-child.ensures.task in
-    wanted_less left q size c.loop-below.memo c.keep.new.memo c.args.node c.args.start c.loop-below.below.items c.loop-below.top c.step.new.task c.in-Wants.child c.in-Wants.from _
-    c.loop-below.invariant.1 c.step.ensures.node c.step.ensures.start task wanted c.in_ok-keep-in-None-2.ensures.keeps c.in_ok-keep-in-None-2.ensures.known
-
-pub loop-below-preserved-in-Continue-branch-7 : goal.loop-below-preserved-in-Continue-branch-7
-loop-below-preserved-in-Continue-branch-7 g c =
-    let q = g.N.Nodes.facts c.args.nodes.now in
-    let size = g.N.Nodes.size c.args.nodes.now in
-    let left = g.N.Left.Candidates.left in
-    let wanted = rw c.in-Wants.is at c.in_ok-child.ensures.wanted in
-    let task = rw c.in-Wants.is at c.in_ok-child.ensures.task in (
-      c.in_ok-keep-in-None-2.ensures.memo,
-      wanted_stack left q size c.loop-below.memo c.keep.new.memo c.args.node c.args.start c.loop-below.below.items c.loop-below.top c.step.new.task c.in-Wants.child c.in-Wants.from _
-          c.loop-below.invariant.1 c.step.ensures.node c.step.ensures.start task wanted c.in_ok-keep-in-None-2.ensures.keeps,
+    let a : Pair = record { node = c.args.node; start = c.args.start } in
+    let first : IsFirst left q size a (pending.Asked a) = record { same = refl; pending = record { node = c.requires.node; start = c.requires.start } } in (
+      c.requires.memo,
+      rw c.new-below.ensures.items first,
     )
 
--- where it is not known
-pub loop-below-preserved-in-Continue-branch-8 : goal.loop-below-preserved-in-Continue-branch-8
-loop-below-preserved-in-Continue-branch-8 g c =
+pub resume-requires-clause-pending : goal.resume-requires-clause-pending
+resume-requires-clause-pending g c =
     let q = g.N.Nodes.facts c.args.nodes.now in
     let size = g.N.Nodes.size c.args.nodes.now in
     let left = g.N.Left.Candidates.left in
-    let wanted = rw c.in-Wants.is at c.in_ok-child.ensures.wanted in
-    let task = rw c.in-Wants.is at c.in_ok-child.ensures.task in
-    let from = rw c.in-Some-2.is at c.in_ok-open-in-Wants.ensures in (
+    let a : Pair = record { node = c.args.node; start = c.args.start } in
+    top_pending left q size c.loop-below.memo a c.loop-below.below.items c.loop-below.top c.loop-below.invariant.1
+
+-- where a child's finish is wanted
+pub loop-below-smaller-in-Wants : goal.loop-below-smaller-in-Wants
+loop-below-smaller-in-Wants g c =
+    let q = g.N.Nodes.facts c.args.nodes.now in
+    let size = g.N.Nodes.size c.args.nodes.now in
+    let left = g.N.Left.Candidates.left in
+    let a : Pair = record { node = c.args.node; start = c.args.start } in
+    let m = c.loop-below.memo in
+    let t = c.loop-below.top in
+    let is : IsWaitingFor left q size m (pair_of t) c.in-Wants.task c.in-Wants.child = rw c.in-Wants.is at c.in_ok-task.ensures in
+    let waits : Waits left q size (pair_of t) c.in_ok-wait-in-Wants.field-0 = rw is.same at c.in_ok-wait-in-Wants.ensures in
+    asked_less left q size m a c.loop-below.below.items t c.in_ok-wait-in-Wants.field-0 c.in-Wants.child c.loop-below.invariant.1 waits is.wanted
+
+pub loop-below-preserved-in-Wants : goal.loop-below-preserved-in-Wants
+loop-below-preserved-in-Wants g c =
+    let q = g.N.Nodes.facts c.args.nodes.now in
+    let size = g.N.Nodes.size c.args.nodes.now in
+    let left = g.N.Left.Candidates.left in
+    let a : Pair = record { node = c.args.node; start = c.args.start } in
+    let m = c.loop-below.memo in
+    let t = c.loop-below.top in
+    let is : IsWaitingFor left q size m (pair_of t) c.in-Wants.task c.in-Wants.child = rw c.in-Wants.is at c.in_ok-task.ensures in
+    let waits : Waits left q size (pair_of t) c.in_ok-wait-in-Wants.field-0 = rw is.same at c.in_ok-wait-in-Wants.ensures in (
       c.loop-below.invariant.0,
-      rw (c.in_ok-push-in-Some-2.ensures.items, c.replace.ensures.value, c.replace.ensures.after)
-          (begun_stack left q size c.loop-below.memo c.args.node c.args.start c.loop-below.below.items c.loop-below.top c.step.new.task c.in-Some-2.task c.in-Wants.child c.in-Wants.from
-          c.loop-below.invariant.1 c.step.ensures.node c.step.ensures.start task wanted from),
+      rw c.in_ok-push-in-Wants.ensures.items (asked_stack left q size m a c.loop-below.below.items t c.in_ok-wait-in-Wants.field-0 c.in-Wants.child c.loop-below.invariant.1 waits is.wanted),
     )
-
-pub returns-in-None-pop-clause-small : goal.returns-in-None-pop-clause-small
-returns-in-None-pop-clause-small g c =
-    let q = g.N.Nodes.facts c.args.nodes.now in
-    let is : IsSettled q c.loop-below.top.node c.loop-below.top.frame.start c.close-settled.result = rw (c.close-settled.ensures, c.last-last.ensures.last) (rw c.in-Over.is at c.in_ok-child.ensures.over) in
-    let small : q.last < 4294967295 = rw c.last-last.ensures.last at c.last-last.ensures.small in
-    small_run q c.loop-below.top.node c.loop-below.top.frame.start c.close-settled.result.run small is.run
-
-pub keep-requires-in-Some-pop-clause-node : goal.keep-requires-in-Some-pop-clause-node
-keep-requires-in-Some-pop-clause-node g c =
-    let q = g.N.Nodes.facts c.args.nodes.now in
-    let size = g.N.Nodes.size c.args.nodes.now in
-    let left = g.N.Left.Candidates.left in
-    let task = top_task left q size c.loop-below.memo c.args.node c.args.start c.loop-below.below.items c.loop-below.top c.loop-below.invariant.1 in
-    rw c.step.ensures.node task.within
-
-pub keep-requires-in-Some-pop-clause-small : goal.keep-requires-in-Some-pop-clause-small
-keep-requires-in-Some-pop-clause-small g c =
-    let q = g.N.Nodes.facts c.args.nodes.now in
-    let is : IsSettled q c.loop-below.top.node c.loop-below.top.frame.start c.close-settled.result = rw (c.close-settled.ensures, c.last-last.ensures.last) (rw c.in-Over.is at c.in_ok-child.ensures.over) in
-    let small : q.last < 4294967295 = rw c.last-last.ensures.last at c.last-last.ensures.small in
-    small_run q c.loop-below.top.node c.loop-below.top.frame.start c.close-settled.result.run small is.run
 
 -- where the one on top is over
-pub loop-below-smaller-in_ok-keep-in-Some-pop : goal.loop-below-smaller-in_ok-keep-in-Some-pop
-loop-below-smaller-in_ok-keep-in-Some-pop g c =
+pub keep-requires-clause-node : goal.keep-requires-clause-node
+keep-requires-clause-node g c =
     let q = g.N.Nodes.facts c.args.nodes.now in
     let size = g.N.Nodes.size c.args.nodes.now in
     let left = g.N.Left.Candidates.left in
-    over_less left q size c.loop-below.memo c.keep-in-Some-pop.new.memo c.args.node c.args.start c.loop-below.below.items c.pop.new.self.items c.loop-below.top c.step.new.task c.in-Some-pop.task
-    c.close-settled.result.run c.loop-below.invariant.1 c.in-Some-pop.ensures.items c.step.ensures.node c.step.ensures.start c.in_ok-keep-in-Some-pop.ensures.keeps c.in_ok-keep-in-Some-pop.ensures.known
+    let a : Pair = record { node = c.args.node; start = c.args.start } in
+    let t = c.loop-below.top in
+    rw c.pair-pair.ensures (pair_is left q size t (top_pending left q size c.loop-below.memo a c.loop-below.below.items t c.loop-below.invariant.1)).node
 
-pub loop-below-preserved-in_ok-keep-in-Some-pop : goal.loop-below-preserved-in_ok-keep-in-Some-pop
-loop-below-preserved-in_ok-keep-in-Some-pop g c =
+pub loop-below-smaller-in_ok-keep-in-Some : goal.loop-below-smaller-in_ok-keep-in-Some
+loop-below-smaller-in_ok-keep-in-Some g c =
     let q = g.N.Nodes.facts c.args.nodes.now in
     let size = g.N.Nodes.size c.args.nodes.now in
-    let left = g.N.Left.Candidates.left in (
-      c.in_ok-keep-in-Some-pop.ensures.memo,
-      over_stack left q size c.loop-below.memo c.keep-in-Some-pop.new.memo c.args.node c.args.start c.loop-below.below.items c.pop.new.self.items c.loop-below.top c.step.new.task c.in-Some-pop.task
-          c.close-settled.result.run c.loop-below.invariant.1 c.in-Some-pop.ensures.items c.step.ensures.node c.step.ensures.start c.in_ok-keep-in-Some-pop.ensures.keeps,
+    let left = g.N.Left.Candidates.left in
+    let a : Pair = record { node = c.args.node; start = c.args.start } in
+    let m = c.loop-below.memo in
+    let t = c.loop-below.top in
+    let m' = c.keep.new.memo in
+    let r = c.in-Over.settled.run in
+    let keeps : Keeps m m' (pair_of t).node (pair_of t).start r = rw c.pair-pair.ensures at c.in_ok-keep-in-Some.ensures.keeps in
+    over_less left q size m m' a c.loop-below.below.items c.pop.new.self.items t c.in-Some.waiting r c.loop-below.invariant.1 c.in-Some.ensures.items keeps
+    (rw c.pair-pair.ensures at c.in_ok-keep-in-Some.ensures.known)
+
+pub loop-below-preserved-in_ok-keep-in-Some : goal.loop-below-preserved-in_ok-keep-in-Some
+loop-below-preserved-in_ok-keep-in-Some g c =
+    let q = g.N.Nodes.facts c.args.nodes.now in
+    let size = g.N.Nodes.size c.args.nodes.now in
+    let left = g.N.Left.Candidates.left in
+    let a : Pair = record { node = c.args.node; start = c.args.start } in
+    let m = c.loop-below.memo in
+    let t = c.loop-below.top in
+    let m' = c.keep.new.memo in
+    let r = c.in-Over.settled.run in
+    let keeps : Keeps m m' (pair_of t).node (pair_of t).start r = rw c.pair-pair.ensures at c.in_ok-keep-in-Some.ensures.keeps in (
+      c.in_ok-keep-in-Some.ensures.memo,
+      over_stack left q size m m' a c.loop-below.below.items c.pop.new.self.items t c.in-Some.waiting r c.loop-below.invariant.1 c.in-Some.ensures.items keeps,
     )
 
 -- where nothing of what it came to is left to be let go
@@ -95,15 +97,26 @@ loop-below-smaller g c =
     let q = g.N.Nodes.facts c.args.nodes.now in
     let size = g.N.Nodes.size c.args.nodes.now in
     let left = g.N.Left.Candidates.left in
-    over_less left q size c.loop-below.memo c.keep-in-Some-pop.new.memo c.args.node c.args.start c.loop-below.below.items c.pop.new.self.items c.loop-below.top c.step.new.task c.in-Some-pop.task
-    c.close-settled.result.run c.loop-below.invariant.1 c.in-Some-pop.ensures.items c.step.ensures.node c.step.ensures.start c.in_ok-keep-in-Some-pop.ensures.keeps c.in_ok-keep-in-Some-pop.ensures.known
+    let a : Pair = record { node = c.args.node; start = c.args.start } in
+    let m = c.loop-below.memo in
+    let t = c.loop-below.top in
+    let m' = c.keep.new.memo in
+    let r = c.in-Over.settled.run in
+    let keeps : Keeps m m' (pair_of t).node (pair_of t).start r = rw c.pair-pair.ensures at c.in_ok-keep-in-Some.ensures.keeps in
+    over_less left q size m m' a c.loop-below.below.items c.pop.new.self.items t c.in-Some.waiting r c.loop-below.invariant.1 c.in-Some.ensures.items keeps
+    (rw c.pair-pair.ensures at c.in_ok-keep-in-Some.ensures.known)
 
 pub loop-below-preserved : goal.loop-below-preserved
 loop-below-preserved g c =
     let q = g.N.Nodes.facts c.args.nodes.now in
     let size = g.N.Nodes.size c.args.nodes.now in
-    let left = g.N.Left.Candidates.left in (
-      c.in_ok-keep-in-Some-pop.ensures.memo,
-      over_stack left q size c.loop-below.memo c.keep-in-Some-pop.new.memo c.args.node c.args.start c.loop-below.below.items c.pop.new.self.items c.loop-below.top c.step.new.task c.in-Some-pop.task
-          c.close-settled.result.run c.loop-below.invariant.1 c.in-Some-pop.ensures.items c.step.ensures.node c.step.ensures.start c.in_ok-keep-in-Some-pop.ensures.keeps,
+    let left = g.N.Left.Candidates.left in
+    let a : Pair = record { node = c.args.node; start = c.args.start } in
+    let m = c.loop-below.memo in
+    let t = c.loop-below.top in
+    let m' = c.keep.new.memo in
+    let r = c.in-Over.settled.run in
+    let keeps : Keeps m m' (pair_of t).node (pair_of t).start r = rw c.pair-pair.ensures at c.in_ok-keep-in-Some.ensures.keeps in (
+      c.in_ok-keep-in-Some.ensures.memo,
+      over_stack left q size m m' a c.loop-below.below.items c.pop.new.self.items t c.in-Some.waiting r c.loop-below.invariant.1 c.in-Some.ensures.items keeps,
     )
