@@ -5,6 +5,7 @@ ghost use Rattle.clap.specs.Words.{app_of, subcommand_of, rule_of, rows_of, foun
 ghost use Rattle.clap.specs.declared.builder.command.Command.TheViews.{out-Command};
 ghost use Rattle.hddlv.specs.Line.{line, judge_line, print_line, limit_rule, explain_rule, file_rule, command_of, file_arguments, HasFiles, HasLimit, HasOptions, IsJobOf};
 
+use crate::help;
 use crate::task::{Job, JobFault, Mode};
 use clap::{Arg, ArgAction, ArgMatches, Command};
 use std::alloc::{AllocError, Global};
@@ -15,7 +16,7 @@ fn limit_arg<'a>(alloc: Global) -> Arg<'a>
 {
     Arg::new(alloc, "limit")
         .long("limit")
-        .help("Leave a plan undecided where a node has more choices than this")
+        .help(help::LIMIT)
         .default_value("1000000")
         .value_parser(clap::value_parser!(u64))
 }
@@ -26,7 +27,7 @@ fn explain_arg<'a>(alloc: Global) -> Arg<'a>
 {
     Arg::new(alloc, "explain")
         .long("explain")
-        .help("Write the certificate of a plan that solves its problem")
+        .help(help::EXPLAIN)
         .action(ArgAction::SetTrue)
 }
 
@@ -57,7 +58,9 @@ fn judge_command<'a>(alloc: Global) -> Result<Command<'a>, AllocError>
     ensures app { IfOk result (λ c. app_of c ≡ judge_line) }
     ensures local { IfOk result (λ c. (out-Command c).has_globals ≡ false) }
 {
-    let command = Command::new(alloc, "judge").about("Judge whether a plan solves a problem");
+    let command = Command::new(alloc, "judge")
+        .about(help::JUDGE)
+        .after_help(help::JUDGE_END);
     let command = with_arg(command, limit_arg(alloc))?;
     let command = with_arg(command, explain_arg(alloc))?;
     let command = with_arg(command, file_arg(alloc, "domain", "The domain, in HDDL"))?;
@@ -73,15 +76,13 @@ fn print_command<'a>(
     alloc: Global,
     name: &'a str,
     about: &'a str,
+    end: &'a str,
 ) -> Result<Command<'a>, AllocError>
     ensures app { IfOk result (λ c. app_of c ≡ print_line name.entry.now) }
     ensures local { IfOk result (λ c. (out-Command c).has_globals ≡ false) }
 {
-    let command = Command::new(alloc, name).about(about);
-    let command = with_arg(
-        command,
-        file_arg(alloc, "file", "The text whose canonical form is written"),
-    )?;
+    let command = Command::new(alloc, name).about(about).after_help(end);
+    let command = with_arg(command, file_arg(alloc, "file", help::FILE))?;
     Ok(command)
 }
 
@@ -89,9 +90,8 @@ fn command<'a>(alloc: Global) -> Result<Command<'a>, AllocError>
     ensures { IfOk result (λ c. app_of c ≡ line) }
 {
     let command = Command::new(alloc, "hddlv")
-        .about(
-            "Judges plans of hierarchical planning problems, with proof that its answers are right",
-        )
+        .about(help::PROGRAM)
+        .after_help(help::PROGRAM_END)
         .version("0.1.0")
         .subcommand_required(true);
     let command = with_command(command, judge_command(alloc)?)?;
@@ -100,7 +100,8 @@ fn command<'a>(alloc: Global) -> Result<Command<'a>, AllocError>
         print_command(
             alloc,
             "print-domain",
-            "Print a domain in its canonical form",
+            help::PRINT_DOMAIN,
+            help::PRINT_DOMAIN_END,
         )?,
     )?;
     let command = with_command(
@@ -108,12 +109,13 @@ fn command<'a>(alloc: Global) -> Result<Command<'a>, AllocError>
         print_command(
             alloc,
             "print-problem",
-            "Print a problem in its canonical form",
+            help::PRINT_PROBLEM,
+            help::PRINT_PROBLEM_END,
         )?,
     )?;
     let command = with_command(
         command,
-        print_command(alloc, "print-plan", "Print a plan in its canonical form")?,
+        print_command(alloc, "print-plan", help::PRINT_PLAN, help::PRINT_PLAN_END)?,
     )?;
     Ok(command)
 }

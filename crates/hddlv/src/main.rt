@@ -2,6 +2,7 @@
 #![tactic(auto)]
 
 mod end;
+mod help;
 mod line;
 mod task;
 #[cfg(test)]
