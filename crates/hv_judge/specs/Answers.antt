@@ -3,7 +3,7 @@
 use Rattle.std.specs.Prelude.{◌≡◌, ◌⊎◌, ℕ, List}
 use Rattle.hv_syntax.specs.Values.{Domain, Problem}
 use Rattle.hv_plan.specs.Values.{Plan}
-use Rattle.hv_order.specs.declared.certificate.Certificate.{Certificate}
+use Rattle.hv_certificate.specs.declared.certificate.Certificate.{Certificate}
 use Rattle.hv_judge.specs.declared.answer.Answer.{Answer}
 use Rattle.hv_judge.specs.declared.answer.Answer.TheVariants.{Solves, Fails, Undecided, Rejected}
 use Rattle.hv_judge.specs.declared.answer.Cause.{Cause}

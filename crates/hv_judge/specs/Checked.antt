@@ -1,7 +1,7 @@
 -- The check of a certificate: what may be answered of one that is given.
 use Rattle.std.specs.Prelude.{ℕ, Bool, List}
 use Rattle.hv_match.specs.Candidates.{Tells}
-use Rattle.hv_order.specs.declared.certificate.Certificate.{Certificate}
+use Rattle.hv_certificate.specs.declared.certificate.Certificate.{Certificate}
 use Rattle.hv_judge.specs.declared.checking.CheckFault.{CheckFault}
 use Rattle.hv_judge.specs.declared.checking.CheckFault.TheVariants as faults
 use Rattle.hv_judge.specs.Rejections.{IsRejected}

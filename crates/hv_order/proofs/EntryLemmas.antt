@@ -10,8 +10,8 @@ use Rattle.hv_plan.specs.PlanTrees.{PlanTree, IsTreeIn, StandsFor}
 use Rattle.hv_match.specs.Candidates.{Tells}
 use Rattle.hv_order.specs.Certified.{line_numbers}
 use Rattle.hv_order.specs.inside.Checks.{HasIdOf, HasLines, ArePlaces, IsPart}
-use Rattle.hv_order.specs.declared.certificate.Choice.{Choice}
-use Rattle.hv_order.specs.declared.certificate.Certificate.{Certificate}
+use Rattle.hv_certificate.specs.declared.certificate.Choice.{Choice}
+use Rattle.hv_certificate.specs.declared.certificate.Certificate.{Certificate}
 use Rattle.hv_order.proofs.Checked.{tells_no, tells_yes}
 use Rattle.hv_order.proofs.Checking.{behind_root}
 use Rattle.hv_order.proofs.NodeParts.{zip_length}

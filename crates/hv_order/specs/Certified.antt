@@ -8,8 +8,8 @@ use Rattle.hv_plan.specs.PlanTrees.{Node, PlanTree, NodeIs, StandsFor, IsTreeIn,
 use Rattle.hv_order.specs.Meanings as meanings
 use Rattle.hv_order.specs.Sequences.{HasSequenceAt}
 use Rattle.hv_order.specs.Settings.{Setting, last, AmountsTo, IsSolved, IsFirstWithout}
-use Rattle.hv_order.specs.declared.certificate.Choice.{Choice}
-use Rattle.hv_order.specs.declared.certificate.Certificate.{Certificate}
+use Rattle.hv_certificate.specs.declared.certificate.Choice.{Choice}
+use Rattle.hv_certificate.specs.declared.certificate.Certificate.{Certificate}
 use Rattle.hv_order.specs.declared.solution.RowFault.{RowFault}
 use Rattle.hv_order.specs.declared.solution.RowFault.TheVariants as faults
 

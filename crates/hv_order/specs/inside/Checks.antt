@@ -16,8 +16,8 @@ use Rattle.hv_order.specs.Certificates.{subtask_start}
 use Rattle.hv_order.specs.Certified.{Says, line_numbers}
 use Rattle.hv_order.specs.inside.PlanFacts.{OfMethod, child_in}
 use Rattle.hv_order.specs.inside.Writings.{IsIdOf, IsNameIn}
-use Rattle.hv_order.specs.declared.certificate.Choice.{Choice}
-use Rattle.hv_order.specs.declared.certificate.Certificate.{Certificate}
+use Rattle.hv_certificate.specs.declared.certificate.Choice.{Choice}
+use Rattle.hv_certificate.specs.declared.certificate.Certificate.{Certificate}
 use Rattle.hv_order.specs.declared.entries.Entry.{Entry}
 use Rattle.hv_order.specs.declared.entries.Part.{Part}
 

@@ -1,0 +1,4 @@
+pub mod WordLemmas
+pub mod FormLemmas
+pub mod LineLemmas
+pub mod LawLemmas

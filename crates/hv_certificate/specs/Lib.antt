@@ -1,0 +1,4 @@
+pub mod Texts
+pub mod Views
+pub mod Forms
+pub mod inside
