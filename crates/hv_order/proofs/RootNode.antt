@@ -54,7 +54,9 @@ module _ (q : Setting) (is : IsSetting q) where
 
   -- so where its method is asked, it is
   pub root_holds : (v : ℕ) (B : List ℕ) (k : ℕ) → v + 1 ≡ length q.tree.nodes → OfMethod q v (λ m. HoldsAt q m B k)
-  root_holds v B k e = subst (λ u. OfMethod q u (λ m. HoldsAt q m B k)) (omega (arith, e) : root_number q.tree ≡ v) (at_root (member_at q.tree.nodes (root_number q.tree) (omega (arith, is.tree.is_tree.last))))
+  root_holds v B k e =
+      let here : root_number q.tree ≡ v = omega (arith, e) in
+      subst (λ u. OfMethod q u (λ m. HoldsAt q m B k)) here (at_root (member_at q.tree.nodes (root_number q.tree) (omega (arith, is.tree.is_tree.last))))
     where
       at_root : ((n : Node) × (slice_get q.tree.nodes (root_number q.tree) ≡ Some n)) → OfMethod q (root_number q.tree) (λ m. HoldsAt q m B k)
       at_root (n, has) =
