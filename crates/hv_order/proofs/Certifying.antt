@@ -12,8 +12,8 @@ use Rattle.hv_order.specs.Sequences.{HasSequenceAt}
 use Rattle.hv_order.specs.Settings.{Setting, AmountsTo, last}
 use Rattle.hv_order.specs.Certified.{IsChildId, IsNameOf, Says, SaysLine, Certifies, line_numbers}
 use Rattle.hv_order.specs.inside.Writings.{IsIdOf, HasId, IsObjectOf, IsAtPlace, IsChosenFor, AreChosen, IsWritable, AreWritable, SaysChosen, SaysChosenLine, SaysAll}
-use Rattle.hv_order.specs.declared.certificate.Choice.{Choice}
-use Rattle.hv_order.specs.declared.certificate.Certificate.{Certificate}
+use Rattle.hv_certificate.specs.declared.certificate.Choice.{Choice}
+use Rattle.hv_certificate.specs.declared.certificate.Certificate.{Certificate}
 use Rattle.hv_order.specs.declared.certify.Chosen.{Chosen}
 use Rattle.hv_order.proofs.Writing.{zip_through, zip_weaker, seconds, firsts}
 use Rattle.hv_order.proofs.TreeLines.{child_has_id}

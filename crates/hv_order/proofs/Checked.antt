@@ -10,7 +10,7 @@ use Rattle.hv_order.specs.Settings.{Setting, setting, last}
 use Rattle.hv_order.specs.Certified.{Certifies}
 use Rattle.hv_order.specs.inside.PlanFacts.{IsSetting}
 use Rattle.hv_order.specs.inside.Checks.{HasLines, ArePlaces, AreEntries, HasEntries, KeepAll, index_in, finish_in}
-use Rattle.hv_order.specs.declared.certificate.Certificate.{Certificate}
+use Rattle.hv_certificate.specs.declared.certificate.Certificate.{Certificate}
 use Rattle.hv_order.specs.declared.entries.Entry.{Entry}
 use Rattle.hv_order.proofs.Checking.{certified, keep_all, lines_of, all_right}
 use Rattle.hv_order.proofs.Members.{not_true}

@@ -21,8 +21,8 @@ use Rattle.hv_order.specs.Certified.{IsChildId, IsNameOf, Says, SaysLine, Certif
 use Rattle.hv_order.specs.inside.PlanFacts.{IsSetting, OfMethod}
 use Rattle.hv_order.specs.inside.Checks as checks
 use Rattle.hv_order.specs.inside.Checks.{IsPart, HasIdOf, HasLines, ArePlaces, IsRight, binding_of, IsEntryOf, AreEntries, AreRight, finish_in, child_at, KeepsDirect, KeepsNode, KeepNodes, KeepAll}
-use Rattle.hv_order.specs.declared.certificate.Choice.{Choice}
-use Rattle.hv_order.specs.declared.certificate.Certificate.{Certificate}
+use Rattle.hv_certificate.specs.declared.certificate.Choice.{Choice}
+use Rattle.hv_certificate.specs.declared.certificate.Certificate.{Certificate}
 use Rattle.hv_order.specs.declared.entries.Entry.{Entry}
 use Rattle.hv_order.proofs.Certificates.{check_law, same_schedule}
 use Rattle.hv_order.proofs.Indices.{index_law}

@@ -10,8 +10,8 @@ use Rattle.hv_plan.specs.PlanTrees.{PlanTree, IsTreeIn, StandsFor}
 use Rattle.hv_match.specs.Candidates.{Tells}
 use Rattle.hv_order.specs.Certified.{line_numbers}
 use Rattle.hv_order.specs.inside.Checks.{HasIdOf, HasLines, ArePlaces, IsPart}
-use Rattle.hv_order.specs.declared.certificate.Choice.{Choice}
-use Rattle.hv_order.specs.declared.certificate.Certificate.{Certificate}
+use Rattle.hv_certificate.specs.declared.certificate.Choice.{Choice}
+use Rattle.hv_certificate.specs.declared.certificate.Certificate.{Certificate}
 use Rattle.hv_order.proofs.Checked.{tells_no, tells_yes}
 use Rattle.hv_order.proofs.Checking.{behind_root}
 use Rattle.hv_order.proofs.NodeParts.{zip_length}
@@ -37,7 +37,8 @@ count_lines t = by t.order
     by (x ∷ xs) = omega arith
 
 module _ (w : World) (t : PlanTree) (is : IsTreeIn w t) where
-  many : length t.nodes ≡ length (line_numbers t) + 1
+  -- each node but the root line's is that of a decomposition line
+  pub many : length t.nodes ≡ length (line_numbers t) + 1
   many = let n = as_many_in_order w t is in let m = count_lines t in let some = is.is_tree.last in omega (arith, n, m, some)
 
   pub other_count : (c : Certificate) (n : ℕ) → n ≡ length t.nodes → length c.lines.items + 1 ≢ n → Tells (HasLines t c) false

@@ -20,8 +20,8 @@ use Rattle.hv_order.specs.Certified.{IsChildId, IsNameOf, line_numbers}
 use Rattle.hv_order.specs.inside.PlanFacts.{OfMethod}
 use Rattle.hv_order.specs.inside.Writings.{HasId}
 use Rattle.hv_order.specs.inside.Checks.{AreObjectsOf, IsPlaceOf, ArePlacesOf, AreNamed, IsPart, HasIdOf, HasLines, ArePlaces, IsRight, IsEntryFor, IsEntryOf, AreEntries, HasEntries, binding_of}
-use Rattle.hv_order.specs.declared.certificate.Choice.{Choice}
-use Rattle.hv_order.specs.declared.certificate.Certificate.{Certificate}
+use Rattle.hv_certificate.specs.declared.certificate.Choice.{Choice}
+use Rattle.hv_certificate.specs.declared.certificate.Certificate.{Certificate}
 use Rattle.hv_order.specs.declared.entries.Entry.{Entry}
 use Rattle.hv_order.proofs.Checked.{told_no}
 use Rattle.hv_order.proofs.EntryLemmas.{count_lines}

@@ -30,7 +30,7 @@ use Rattle.hv_order.specs.inside.Chosen.{DoAllStand, AreChosenBy}
 use Rattle.hv_order.specs.inside.Writings.{IsAtPlace, IsChosenFor, AreChosen, AreWritable, SaysAll, IsSettingOver, TellsFirst}
 use Rattle.hv_order.specs.declared.walk.Stand.{Stand}
 use Rattle.hv_order.specs.declared.certify.Chosen.{Chosen}
-use Rattle.hv_order.specs.declared.certificate.Certificate.{Certificate}
+use Rattle.hv_certificate.specs.declared.certificate.Certificate.{Certificate}
 use Rattle.hv_order.proofs.Deciding.{meaning_of}
 use Rattle.hv_order.proofs.NodeParts.{of_method, from_method, order_decided, truth_decided, places_within, matching, meanings_are_orders}
 use Rattle.hv_order.proofs.NodeFits.{as_many, item_is, method_before, before_method}

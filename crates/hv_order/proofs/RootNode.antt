@@ -1,7 +1,7 @@
 -- The plan is solved exactly where the root's node fits from the initial state to the last: the root is
 -- a node whose precondition is always true.
-use Rattle.std.proofs.Common.{◌≡◌, ℕ, List, length, sym, ap, ◌∙◌, ◌↔◌, subst, arith, Option, Some, None, MatchOption}
-use Rattle.std.specs.Prelude.{slice_get, true}
+use Rattle.std.proofs.Common.{◌≡◌, ℕ, ◌+◌, List, length, sym, ap, ◌∙◌, ◌↔◌, subst, arith, Option, Some, None, MatchOption}
+use Rattle.std.specs.Prelude.{slice_get, option_and_then, true}
 use Rattle.hv_world.specs.Values.{Formula}
 use Rattle.hv_world.specs.Worlds.{Method}
 use Rattle.hv_state.specs.Plans.{StateAt}
@@ -9,12 +9,13 @@ use Rattle.hv_state.specs.Truth.{True}
 use Rattle.hv_plan.specs.Trees.{IsWithin, HasActions}
 use Rattle.hv_plan.specs.PlanTrees.{Node, IsRootOf, IsActionOf, IsNumberedTree, root_number, tree_of}
 use Rattle.hv_match.specs.Candidates.{node_method}
+use Rattle.hv_plan.proofs.FitLemmas.{member_at}
 use Rattle.hv_order.specs.Finishes.{FitsAll}
 use Rattle.hv_order.specs.Meanings.{Meaning, AreMeanings}
 use Rattle.hv_order.specs.LeastFinishes.{PlanCanBePlaced}
 use Rattle.hv_order.specs.Settings.{Setting, last, HoldsAt, IsMeaning, IsSolved}
 use Rattle.hv_order.specs.Tables.{IsLeast}
-use Rattle.hv_order.specs.inside.PlanFacts.{IsSetting, FitsNode}
+use Rattle.hv_order.specs.inside.PlanFacts.{IsSetting, OfMethod, FitsNode}
 use Rattle.hv_order.proofs.Solutions.{placed_both, sequence_both}
 use Rattle.hv_order.proofs.NodeParts.{zip_length, meanings_are_orders}
 
@@ -50,6 +51,18 @@ module _ (q : Setting) (is : IsSetting q) where
       let a = w.amounts in
       let top = its_method a.node a.method (no_method a.node a.has_node) a.has_method in
       (a.stands.true_at k).1 (subst (λ (m : Method). HoldsAt q m w.binding k) top (λ h. none_true w.binding k))
+
+  -- so where its method is asked, it is
+  pub root_holds : (v : ℕ) (B : List ℕ) (k : ℕ) → v + 1 ≡ length q.tree.nodes → OfMethod q v (λ m. HoldsAt q m B k)
+  root_holds v B k e =
+      let here : root_number q.tree ≡ v = omega (arith, e) in
+      subst (λ u. OfMethod q u (λ m. HoldsAt q m B k)) here (at_root (member_at q.tree.nodes (root_number q.tree) (omega (arith, is.tree.is_tree.last))))
+    where
+      at_root : ((n : Node) × (slice_get q.tree.nodes (root_number q.tree) ≡ Some n)) → OfMethod q (root_number q.tree) (λ m. HoldsAt q m B k)
+      at_root (n, has) =
+          let P : Option Node → Type 0 = λ o. MatchOption (option_and_then (node_method q.plan.world) o) ⊥ (λ m. HoldsAt q m B k) in
+          let Q : Option ℕ → Type 0 = λ o. MatchOption (elim o as (λ x. Option Method) [ None ↦ Some q.plan.world.top | Some k ↦ slice_get q.plan.world.methods k ]) ⊥ (λ m. HoldsAt q m B k) in
+          subst P (sym has) (subst Q (sym (no_method n has)) (λ h. none_true B k))
 
   from_all : (s f : ℕ) → FitsAll (tree_of q.tree) (IsMeaning q (root_number q.tree)) (IsMeaning q) (root_number q.tree) s f → FitsNode q (root_number q.tree) s f
   from_all s f w = record {

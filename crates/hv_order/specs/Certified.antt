@@ -1,5 +1,5 @@
 -- Certificates: one candidate for each node, and an index for each precondition, that solve a plan.
-use Rattle.std.specs.Prelude.{◌≡◌, ℕ, ◌<◌, List, drop, slice_get, Some}
+use Rattle.std.specs.Prelude.{◌≡◌, ℕ, ◌<◌, ◌≤◌, Bool, true, List, drop, slice_get, Some}
 use Rattle.std.specs.List.{AllZip}
 use Rattle.hv_text.specs.Names.{text_of}
 use Rattle.hv_text.specs.declared.name.Name.{Name}
@@ -8,8 +8,8 @@ use Rattle.hv_plan.specs.PlanTrees.{Node, PlanTree, NodeIs, StandsFor, IsTreeIn,
 use Rattle.hv_order.specs.Meanings as meanings
 use Rattle.hv_order.specs.Sequences.{HasSequenceAt}
 use Rattle.hv_order.specs.Settings.{Setting, last, AmountsTo, IsSolved, IsFirstWithout}
-use Rattle.hv_order.specs.declared.certificate.Choice.{Choice}
-use Rattle.hv_order.specs.declared.certificate.Certificate.{Certificate}
+use Rattle.hv_certificate.specs.declared.certificate.Choice.{Choice}
+use Rattle.hv_certificate.specs.declared.certificate.Certificate.{Certificate}
 use Rattle.hv_order.specs.declared.solution.RowFault.{RowFault}
 use Rattle.hv_order.specs.declared.solution.RowFault.TheVariants as faults
 
@@ -60,6 +60,11 @@ pub record Certifies (q : Setting) (c : Certificate) : Type 0 where
       Says q (root_number q.tree) (matching (root_number q.tree)) (binding (root_number q.tree)) c.root
   pub says_lines : AllZip (SaysLine q matching binding at) (line_numbers q.tree) c.lines.items
   pub sequence : HasSequenceAt (tree_of q.tree) choice at (last q)
+
+-- k of n formulas were evaluated, all of them where the answer is yes
+pub record CountsTo (n : ℕ) (yes : Bool) (k : ℕ) : Type 0 where
+  pub within : k ≤ n
+  pub whole : yes ≡ true → k ≡ n
 
 -- a plan of a tree of its world for which there is a certificate is solved
 abbrev pub CertifiedPlans : Type 0

@@ -10,9 +10,9 @@ ghost use Rattle.hv_plan.specs.TreeViews.{child_view};
 ghost use Rattle.hv_plan.specs.declared.tree.Child.TheVariants as children;
 ghost use Rattle.hv_order.specs.inside.Writings.{HasId, IsObjectOf, AreIdsOf, AreNamesOf, AreLinesOf, IsWritable, AreWritable, SaysChosen, SaysChosenLine, SaysAll};
 
-use crate::certificate::{Certificate, Choice};
 use crate::lines::{child_id, number_at};
 use crate::memory::Memory;
+use hv_certificate::{Certificate, Choice};
 use hv_plan::{Child, Tree};
 use hv_text::Name;
 use hv_world::{ObjectId, World};

@@ -9,13 +9,13 @@ ghost use Rattle.hv_plan.specs.TreeViews.{child_view};
 ghost use Rattle.hv_match.specs.Candidates.{Tells};
 ghost use Rattle.hv_order.specs.Settings.{setting, HasNoPrecondition};
 ghost use Rattle.hv_order.specs.Certificates.{AreFinishes, subtask_start};
-ghost use Rattle.hv_order.specs.Certified.{Certifies};
-ghost use Rattle.hv_order.specs.inside.Checks.{index_in, finish_in, child_at, IsLatest, AreOver, KeepsDirect, StartBehind, KeepsNode, KeepNodes, KeepAll};
+ghost use Rattle.hv_order.specs.Certified.{Certifies, line_numbers, CountsTo};
+ghost use Rattle.hv_order.specs.inside.Checks.{HasLines, index_in, finish_in, child_at, IsLatest, AreOver, KeepsDirect, StartBehind, KeepsNode, KeepNodes, KeepAll};
 
-use crate::certificate::Certificate;
 use crate::entries::{Entry, entries, has_lines, places};
 use crate::memory::Memory;
 use crate::node_methods::{method_of, node_of};
+use hv_certificate::Certificate;
 use hv_plan::{Child, Tree};
 use hv_state::{BitState, Trace};
 use hv_world::{Order, World};
@@ -198,7 +198,48 @@ fn keep_all(world: &World<'_>, tree: &Tree<'_, '_>, entries: &[Entry], finishes:
         && keep_nodes(world, tree, entries, finishes)
 }
 
-/// Whether a certificate certifies a plan. Nothing is searched: each node is looked at once.
+// Whether what a certificate says of each node is right, and all nodes keep the rules.
+fn keep_rules<'s>(
+    alloc: Global,
+    world: &World<'s>,
+    tree: &Tree<'_, '_>,
+    trace: &Trace<'_, '_, BitState>,
+    certificate: &Certificate<'s>,
+    evaluated: &mut u64,
+) -> Result<bool, Memory>
+    requires top { HasNoPrecondition (world_view world.now) }
+    requires tree { IsTreeIn (world_view world.now) (tree_view tree.now) }
+    requires trace { trace.now ≡ plan (world_view world.now) (tree_view tree.now).actions }
+    requires small { length (tree_view tree.now).actions < 4294967295 }
+    requires lines { HasLines (tree_view tree.now) certificate.now }
+    requires counted { evaluated.old ≡ 0 }
+    ensures certified { IfOk result
+        (Tells (Certifies (setting (tree_view tree.now) trace.now true) certificate.now)) }
+    ensures counted { IfOk result (λ is_right.
+        CountsTo (length (line_numbers (tree_view tree.now))) is_right evaluated.new) }
+{
+    world.is_sound();
+    let places = places(alloc, world, tree)?;
+    match entries(alloc, world, tree, trace, certificate, &places, evaluated)? {
+        None => Ok(false),
+        Some(entries) => {
+            let finishes = finishes(alloc, world, tree, &entries)?;
+            Ok(keep_all(world, tree, &entries, &finishes))
+        }
+    }
+}
+
+/// What the check of a certificate found.
+#[derive(Clone, Copy, Debug, PartialEq, Eq)]
+pub struct Checked {
+    /// Whether the certificate certifies the plan.
+    pub certified: bool,
+    /// How many preconditions of decomposition lines were evaluated.
+    pub evaluated: u64,
+}
+
+/// Whether a certificate certifies a plan. Nothing is searched: each node is looked at once, and
+/// the precondition of each decomposition line is evaluated once at most, and once on a yes.
 ///
 /// # Errors
 ///
@@ -209,24 +250,23 @@ pub fn certifies<'s>(
     tree: &Tree<'_, '_>,
     trace: &Trace<'_, '_, BitState>,
     certificate: &Certificate<'s>,
-) -> Result<bool, Memory>
+) -> Result<Checked, Memory>
     requires top { HasNoPrecondition (world_view world.now) }
     requires tree { IsTreeIn (world_view world.now) (tree_view tree.now) }
     requires trace { trace.now ≡ plan (world_view world.now) (tree_view tree.now).actions }
     requires small { length (tree_view tree.now).actions < 4294967295 }
-    ensures { IfOk result
-        (Tells (Certifies (setting (tree_view tree.now) trace.now true) certificate.now)) }
+    ensures certified { IfOk result (λ found.
+        Tells (Certifies (setting (tree_view tree.now) trace.now true) certificate.now)
+        found.certified) }
+    ensures evaluated { IfOk result (λ found. CountsTo
+        (length (line_numbers (tree_view tree.now))) found.certified found.evaluated) }
 {
     world.is_sound();
-    if !has_lines(world, tree, certificate) {
-        return Ok(false);
-    }
-    let places = places(alloc, world, tree)?;
-    match entries(alloc, world, tree, trace, certificate, &places)? {
-        None => Ok(false),
-        Some(entries) => {
-            let finishes = finishes(alloc, world, tree, &entries)?;
-            Ok(keep_all(world, tree, &entries, &finishes))
-        }
-    }
+    let mut evaluated = 0;
+    let certified = has_lines(world, tree, certificate)
+        && keep_rules(alloc, world, tree, trace, certificate, &mut evaluated)?;
+    Ok(Checked {
+        certified,
+        evaluated,
+    })
 }

@@ -1,21 +1,22 @@
 //! What a certificate says of each node, with numbers for ids and names, where it is right.
 
-ghost use Rattle.std.specs.Prelude.{◌≡◌, ◌+◌, ◌<◌, ◌≤◌, true, length, map, option_map, IfOk};
+ghost use Rattle.std.specs.Prelude.{◌≡◌, ◌+◌, ◌<◌, ◌≤◌, true, length, map, option_map, IfOk, is_some};
 ghost use Rattle.hv_world.specs.Bindings.{object_number};
 ghost use Rattle.hv_world.specs.WorldViews.{world_view};
 ghost use Rattle.hv_state.specs.Plans.{plan};
 ghost use Rattle.hv_plan.specs.BuiltTrees.{tree_view};
 ghost use Rattle.hv_plan.specs.PlanTrees.{IsTreeIn};
 ghost use Rattle.hv_match.specs.Candidates.{Tells};
-ghost use Rattle.hv_order.specs.Settings.{setting, HoldsAt};
+ghost use Rattle.hv_order.specs.Settings.{setting, HoldsAt, HasNoPrecondition};
+ghost use Rattle.hv_order.specs.Certified.{line_numbers, CountsTo};
 ghost use Rattle.hv_order.specs.inside.PlanFacts.{OfMethod};
-ghost use Rattle.hv_order.specs.inside.Checks.{HasLines, ArePlaces, IsPartAt, IsEntryFor, HasEntries, AreNamed};
+ghost use Rattle.hv_order.specs.inside.Checks.{HasLines, ArePlaces, IsPartAt, IsEntryFor, HasEntries, AreNamed, lines_among};
 
-use crate::certificate::{Certificate, Choice};
 use crate::lines::{child_id, number_at};
 use crate::memory::Memory;
 use crate::named::{objects_of, places_of};
 use crate::node_methods::{method_of, node_of};
+use hv_certificate::{Certificate, Choice};
 use hv_match::is_candidate;
 use hv_plan::{Child, Tree};
 use hv_state::{BitState, Trace};
@@ -103,7 +104,8 @@ pub(crate) fn said_at<'a, 's>(certificate: &'a Certificate<'s>, place: usize) ->
     line_part(&certificate.lines[place - 1])
 }
 
-// Whether the precondition of a node's method is true at an index.
+// Whether the precondition of a node's method is true at an index. It is evaluated, and that is
+// counted, of each decomposition line; the root line's is always true.
 fn holds(
     world: &World<'_>,
     tree: &Tree<'_, '_>,
@@ -111,14 +113,24 @@ fn holds(
     node: u32,
     objects: &[ObjectId],
     at: u32,
+    evaluated: &mut u64,
 ) -> bool
+    requires top { HasNoPrecondition (world_view world.now) }
     requires tree { IsTreeIn (world_view world.now) (tree_view tree.now) }
     requires trace { trace.now ≡ plan (world_view world.now) (tree_view tree.now).actions }
+    requires small { length (tree_view tree.now).actions < 4294967295 }
     requires node { node < length (tree_view tree.now).nodes }
-    ensures { Tells (OfMethod (setting (tree_view tree.now) trace.now true) node
+    requires counted { evaluated.old ≡ node }
+    ensures holds { Tells (OfMethod (setting (tree_view tree.now) trace.now true) node
         (λ m. HoldsAt (setting (tree_view tree.now) trace.now true) m
         (map object_number objects.now) at)) result }
+    ensures counted { evaluated.new ≡ lines_among (tree_view tree.now) (node + 1) }
 {
+    world.is_sound();
+    if node + 1 == tree.node_count() {
+        return true;
+    }
+    *evaluated += 1;
     // What is true behind the last state is what is true there.
     let index = (at as usize).min(tree.actions().len());
     let method = method_of(world, tree, node);
@@ -134,14 +146,20 @@ fn entry_with<'s>(
     node: u32,
     said: Part<'_, 's>,
     objects: Vec<ObjectId>,
+    evaluated: &mut u64,
 ) -> Result<Option<Entry>, Memory>
+    requires top { HasNoPrecondition (world_view world.now) }
     requires tree { IsTreeIn (world_view world.now) (tree_view tree.now) }
     requires trace { trace.now ≡ plan (world_view world.now) (tree_view tree.now).actions }
+    requires small { length (tree_view tree.now).actions < 4294967295 }
     requires node { node < length (tree_view tree.now).nodes }
+    requires counted { evaluated.old ≡ node }
     requires objects { AreNamed (world_view world.now) said.choice.now objects.items }
-    ensures { IfOk result
+    ensures entry { IfOk result
         (IsEntryFor (setting (tree_view tree.now) trace.now true) node
         said.entry.at said.entry.choice.now) }
+    ensures counted { IfOk result
+        (λ o. CountsTo (lines_among (tree_view tree.now) (node + 1)) (is_some o) evaluated.new) }
 {
     world.is_sound();
     let children = node_of(tree, node).children();
@@ -149,7 +167,7 @@ fn entry_with<'s>(
     if !is_candidate(alloc, world, tree, node, &places, &objects)? {
         return Ok(None);
     }
-    if !holds(world, tree, trace, node, &objects, said.at) {
+    if !holds(world, tree, trace, node, &objects, said.at, evaluated) {
         return Ok(None);
     }
     Ok(Some(Entry {
@@ -168,21 +186,28 @@ pub(crate) fn entry_for<'s>(
     trace: &Trace<'_, '_, BitState>,
     node: u32,
     said: Part<'_, 's>,
+    evaluated: &mut u64,
 ) -> Result<Option<Entry>, Memory>
+    requires top { HasNoPrecondition (world_view world.now) }
     requires tree { IsTreeIn (world_view world.now) (tree_view tree.now) }
     requires trace { trace.now ≡ plan (world_view world.now) (tree_view tree.now).actions }
+    requires small { length (tree_view tree.now).actions < 4294967295 }
     requires node { node < length (tree_view tree.now).nodes }
-    ensures { IfOk result
+    requires counted { evaluated.old ≡ node }
+    ensures entry { IfOk result
         (IsEntryFor (setting (tree_view tree.now) trace.now true) node
         said.entry.at said.entry.choice.now) }
+    ensures counted { IfOk result
+        (λ o. CountsTo (lines_among (tree_view tree.now) (node + 1)) (is_some o) evaluated.new) }
 {
     match objects_of(alloc, world, &said.choice.objects)? {
         None => Ok(None),
-        Some(objects) => entry_with(alloc, world, tree, trace, node, said, objects),
+        Some(objects) => entry_with(alloc, world, tree, trace, node, said, objects, evaluated),
     }
 }
 
-/// The entries of all nodes; None where what is said of one of them is not right.
+/// The entries of all nodes; None where what is said of one of them is not right. Counts the
+/// preconditions that are evaluated.
 pub(crate) fn entries<'s>(
     alloc: Global,
     world: &World<'s>,
@@ -190,18 +215,24 @@ pub(crate) fn entries<'s>(
     trace: &Trace<'_, '_, BitState>,
     certificate: &Certificate<'s>,
     places: &[usize],
+    evaluated: &mut u64,
 ) -> Result<Option<Vec<Entry>>, Memory>
+    requires top { HasNoPrecondition (world_view world.now) }
     requires tree { IsTreeIn (world_view world.now) (tree_view tree.now) }
     requires trace { trace.now ≡ plan (world_view world.now) (tree_view tree.now).actions }
+    requires small { length (tree_view tree.now).actions < 4294967295 }
     requires lines { HasLines (tree_view tree.now) certificate.now }
     requires places { ArePlaces (tree_view tree.now) places.now }
-    ensures { IfOk result (HasEntries
+    requires counted { evaluated.old ≡ 0 }
+    ensures entries { IfOk result (HasEntries
         (setting (tree_view tree.now) trace.now true) certificate.now places.now) }
+    ensures counted { IfOk result
+        (λ o. CountsTo (length (line_numbers (tree_view tree.now))) (is_some o) evaluated.new) }
 {
     let mut entries = Vec::new(alloc);
     for node in 0..tree.node_count() {
         let said = said_at(certificate, places[node as usize]);
-        match entry_for(alloc, world, tree, trace, node, said)? {
+        match entry_for(alloc, world, tree, trace, node, said, evaluated)? {
             Some(entry) => entries.push(entry)?,
             None => return Ok(None),
         }

@@ -12,13 +12,13 @@ ghost use Rattle.hv_order.specs.Settings.{setting, last, HasNoPrecondition, IsSo
 ghost use Rattle.hv_order.specs.inside.PlanFacts.{IsSetting};
 ghost use Rattle.hv_order.specs.inside.Runs.{ArePlanRows};
 
-use crate::certificate::Certificate;
 use crate::first::first_without;
 use crate::memory::Memory;
 use crate::plan_nodes::PlanNodes;
 use crate::runs::{Row, build, count_runs, least_finish, least_finish_counted};
 use crate::solution::RowFault;
 use crate::solved::certificate_of;
+use hv_certificate::Certificate;
 use hv_match::Matcher;
 use hv_plan::Tree;
 use hv_state::{BitState, Trace};

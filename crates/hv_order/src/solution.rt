@@ -8,11 +8,11 @@ ghost use Rattle.hv_plan.specs.PlanTrees.{IsTreeIn};
 ghost use Rattle.hv_order.specs.Settings.{setting, HasNoPrecondition, IsSolved, HaveCandidates};
 ghost use Rattle.hv_order.specs.Certified.{Certifies, IsRowFault};
 
-use crate::certificate::Certificate;
 use crate::first::first_without;
 use crate::memory::Memory;
 use crate::plan_nodes::PlanNodes;
 use crate::solved::certificate_of;
+use hv_certificate::Certificate;
 use hv_match::Matcher;
 use hv_plan::Tree;
 use hv_state::{BitState, Trace};

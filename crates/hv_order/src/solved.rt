@@ -9,13 +9,13 @@ ghost use Rattle.hv_order.specs.inside.PlanFacts.{IsSetting, plan_facts};
 ghost use Rattle.hv_order.specs.inside.Walks.{AreWalked};
 ghost use Rattle.hv_order.specs.inside.Writings.{IsSettingOver};
 
-use crate::certificate::Certificate;
 use crate::certify::write_certificate;
 use crate::chosen::choose;
 use crate::memory::Memory;
 use crate::plan_nodes::PlanNodes;
 use crate::solve::new_memo;
 use crate::walk::{Stand, walk};
+use hv_certificate::Certificate;
 use hv_plan::Tree;
 use hv_world::World;
 use std::alloc::Global;

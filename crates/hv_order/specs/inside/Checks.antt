@@ -1,5 +1,5 @@
 -- What the check of a certificate works out, node by node.
-use Rattle.std.specs.Prelude.{◌≡◌, ℕ, suc, zero, ◌+◌, ◌-◌, ◌<◌, ◌≤◌, List, map, length, slice_get, slice_index, Option, Some, None, Contains}
+use Rattle.std.specs.Prelude.{◌≡◌, ℕ, suc, zero, ◌+◌, ◌-◌, ◌<◌, ◌≤◌, min, List, map, length, slice_get, slice_index, Option, Some, None, Contains}
 use Rattle.std.specs.List.{AllZip}
 use Rattle.std.specs.Global.{Vec}
 use Rattle.hv_text.specs.Lists.{Once}
@@ -16,8 +16,8 @@ use Rattle.hv_order.specs.Certificates.{subtask_start}
 use Rattle.hv_order.specs.Certified.{Says, line_numbers}
 use Rattle.hv_order.specs.inside.PlanFacts.{OfMethod, child_in}
 use Rattle.hv_order.specs.inside.Writings.{IsIdOf, IsNameIn}
-use Rattle.hv_order.specs.declared.certificate.Choice.{Choice}
-use Rattle.hv_order.specs.declared.certificate.Certificate.{Certificate}
+use Rattle.hv_certificate.specs.declared.certificate.Choice.{Choice}
+use Rattle.hv_certificate.specs.declared.certificate.Certificate.{Certificate}
 use Rattle.hv_order.specs.declared.entries.Entry.{Entry}
 use Rattle.hv_order.specs.declared.entries.Part.{Part}
 
@@ -106,6 +106,10 @@ pub record AreRight (q : Setting) (c : Certificate) (place : ℕ) (v : ℕ) : Ty
   pub matching : List ℕ
   pub binding : List ℕ
   pub right : IsRight q v index choice matching binding
+
+-- how many of the nodes with numbers below n are those of decomposition lines
+abbrev pub lines_among : PlanTree → ℕ → ℕ
+lines_among t n = min n (length t.nodes - 1)
 
 -- the entries of all nodes, or what is said of some node is not right
 abbrev pub HasEntries : Setting → Certificate → List ℕ → Option (Vec Entry) → Type 0

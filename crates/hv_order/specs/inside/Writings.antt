@@ -14,8 +14,8 @@ use Rattle.hv_match.specs.Candidates.{IsCandidateAt}
 use Rattle.hv_order.specs.Meanings as meanings
 use Rattle.hv_order.specs.Settings.{Setting, AmountsTo, HaveCandidates, IsFirstWithout}
 use Rattle.hv_order.specs.Certified.{line_numbers}
-use Rattle.hv_order.specs.declared.certificate.Choice.{Choice}
-use Rattle.hv_order.specs.declared.certificate.Certificate.{Certificate}
+use Rattle.hv_certificate.specs.declared.certificate.Choice.{Choice}
+use Rattle.hv_certificate.specs.declared.certificate.Certificate.{Certificate}
 use Rattle.hv_order.specs.declared.certify.Chosen.{Chosen}
 
 -- the id is that of the line of an item

@@ -1,4 +1,4 @@
-use Rattle.std.proofs.Common.{ℕ, true, List, map, refl, subst}
+use Rattle.std.proofs.Common.{ℕ, true, false, List, map, refl, subst}
 use Rattle.hv_world.specs.Bindings.{object_number}
 use Rattle.hv_world.specs.WorldViews.{world_view}
 use Rattle.hv_world.specs.declared.id.ObjectId.{ObjectId}
@@ -9,6 +9,7 @@ use Rattle.hv_order.specs.Settings.{setting, HoldsAt}
 use Rattle.hv_order.specs.inside.Checks.{ArePlacesOf}
 use Rattle.hv_order.specs.inside.PlanFacts.{OfMethod}
 use Rattle.hv_order.proofs.EntryRights.{all_have_ids, no_candidate, not_there, is_right}
+use Rattle.hv_order.proofs.Counting.{in_full, none_more}
 use Rattle.hv_order.proofs.ToldApart.{told_apart}
 use Rattle.hv_order.proofs.entries.entry_with.Goals as goal
 
@@ -22,8 +23,8 @@ places_of-requires-clause-apart c =
     told_apart (world_view c.args.world.now) (tree_view c.args.tree.now) c.requires.tree c.args.node (node_view c.node_of.result) (map child_view c.children-children.result.now)
     c.node_of.ensures c.children-children.ensures
 
-pub returns-then-not-branch : goal.returns-then-not-branch
-returns-then-not-branch c =
+pub returns-then-not-branch-clause-entry : goal.returns-then-not-branch-clause-entry
+returns-then-not-branch-clause-entry c =
     let w = world_view c.args.world.now in
     let t = tree_view c.args.tree.now in
     let xs = map child_view c.children-children.result.now in
@@ -35,8 +36,8 @@ returns-then-not-branch c =
     c.args.objects.items c.requires.objects c.in_ok-places.places.items (subst P c.deref.ensures.value c.in_ok-places.ensures) c.args.trace.now c.requires.trace
     c.in_ok-is_candidate.field-0 (subst R c.deref-3.ensures.value (subst Q c.deref-2.ensures.value c.in_ok-is_candidate.ensures)) c.if-not-branch.true
 
-pub returns-then-not-holds : goal.returns-then-not-holds
-returns-then-not-holds c =
+pub returns-then-not-holds-clause-entry : goal.returns-then-not-holds-clause-entry
+returns-then-not-holds-clause-entry c =
     let w = world_view c.args.world.now in
     let t = tree_view c.args.tree.now in
     let xs = map child_view c.children-children.result.now in
@@ -46,10 +47,10 @@ returns-then-not-holds c =
     let S : List ObjectId → Type 0 = λ os. Tells (OfMethod q c.args.node (λ m. HoldsAt q m (map object_number os) c.args.said.at)) c.holds.result in
     not_there w t c.args.node c.args.said.at s c.is_sound.ensures (node_view c.node_of.result) c.node_of.ensures xs c.children-children.ensures
     c.args.objects.items c.requires.objects c.in_ok-places.places.items (subst P c.deref.ensures.value c.in_ok-places.ensures) c.args.trace.now c.requires.trace
-    c.holds.result (subst S c.deref-4.ensures.value c.holds.ensures) c.if-not-holds.true
+    c.holds.result (subst S c.deref-4.ensures.value c.holds.ensures.holds) c.if-not-holds.true
 
-pub returns : goal.returns
-returns c =
+pub returns-clause-entry : goal.returns-clause-entry
+returns-clause-entry c =
     let w = world_view c.args.world.now in
     let t = tree_view c.args.tree.now in
     let xs = map child_view c.children-children.result.now in
@@ -62,6 +63,16 @@ returns c =
       is_right w t c.args.node c.args.said.at s c.is_sound.ensures (node_view c.node_of.result) c.node_of.ensures xs c.children-children.ensures
           c.args.objects.items c.requires.objects c.in_ok-places.places.items (subst P c.deref.ensures.value c.in_ok-places.ensures) c.args.trace.now c.requires.trace
           c.in_ok-is_candidate.field-0 c.holds.result (subst R c.deref-3.ensures.value (subst Q c.deref-2.ensures.value c.in_ok-is_candidate.ensures)) c.if-not-branch.false
-          (subst S c.deref-4.ensures.value c.holds.ensures) c.if-not-holds.false,
+          (subst S c.deref-4.ensures.value c.holds.ensures.holds) c.if-not-holds.false,
       refl,
     )
+
+pub returns-then-not-branch-clause-counted : goal.returns-then-not-branch-clause-counted
+returns-then-not-branch-clause-counted c =
+    none_more (tree_view c.args.tree.now) c.args.node _ c.requires.node c.requires.counted
+
+pub returns-then-not-holds-clause-counted : goal.returns-then-not-holds-clause-counted
+returns-then-not-holds-clause-counted c = in_full _ _ false c.holds.ensures.counted
+
+pub returns-clause-counted : goal.returns-clause-counted
+returns-clause-counted c = in_full _ _ true c.holds.ensures.counted

@@ -1,6 +1,6 @@
 use Rattle.std.proofs.Common.{◌≡◌, ℕ, ◌+◌, ◌<◌, Some, slice_get}
 use Rattle.hv_plan.specs.BuiltTrees.{tree_view}
-use Rattle.hv_order.specs.declared.certificate.Choice.{Choice}
+use Rattle.hv_certificate.specs.declared.certificate.Choice.{Choice}
 use Rattle.hv_order.specs.inside.Checks.{HasIdOf}
 use Rattle.hv_order.proofs.entries.has_lines.Given as goal
 
