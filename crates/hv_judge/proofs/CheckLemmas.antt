@@ -1,20 +1,26 @@
 -- What the check of a certificate answers of a plan in a world, and of three texts.
-use Rattle.std.proofs.Common.{◌≡◌, ℕ, Bool, true, false, List, sym, subst}
+use Rattle.std.proofs.Common.{◌≡◌, ◌<◌, ◌≤◌, ◌+◌, ℕ, Bool, true, false, List, Option, Some, None, length, sym, ◌∙◌, ap, subst, arith}
+use Rattle.std.specs.Prelude.{drop}
+use Rattle.hv_world.specs.Bindings.{GroundAction}
 use Rattle.hv_world.specs.Worlds.{World}
 use Rattle.hv_state.specs.Plans as states
-use Rattle.hv_state.specs.Plans.{IsStop}
+use Rattle.hv_state.specs.Plans.{IsStop, StopsAt}
+use Rattle.hv_state.specs.declared.trace.Stop.{Stop}
+use Rattle.hv_state.specs.declared.trace.Stop.TheVariants as stops
 use Rattle.hv_plan.specs.Values.{Plan}
-use Rattle.hv_plan.specs.PlanTrees.{PlanTree}
+use Rattle.hv_plan.specs.PlanTrees.{PlanTree, NodeIs, IsActionOf, IsNodeOf}
+use Rattle.hv_plan.proofs.FitLemmas.{same_length}
 use Rattle.hv_match.specs.Candidates.{Tells}
-use Rattle.hv_order.specs.Certified.{Certifies}
+use Rattle.hv_order.specs.Certified.{Certifies, CountsTo, line_numbers}
 use Rattle.hv_order.specs.Settings.{setting}
-use Rattle.hv_order.specs.declared.certificate.Certificate.{Certificate}
+use Rattle.hv_certificate.specs.declared.certificate.Certificate.{Certificate}
 use Rattle.hv_judge.specs.declared.answer.Cause.{Cause}
 use Rattle.hv_judge.specs.declared.not_solved.NotSolved.{NotSolved}
 use Rattle.hv_judge.specs.declared.not_solved.NotSolved.TheVariants.{Rejected, Fails, Undecided, Memory}
 use Rattle.hv_judge.specs.Causes.{IsCauseOf}
-use Rattle.hv_judge.specs.Checked.{IsCheckFault}
-use Rattle.hv_judge.specs.Solutions.{ReachesGoal, SolvesBy, run_of, judged_in}
+use Rattle.hv_judge.specs.Checked.{IsCheckFault, CountsFormulas, count_of}
+use Rattle.hv_judge.specs.declared.checking.Recheck.{Recheck}
+use Rattle.hv_judge.specs.Solutions.{HasTree, ReachesGoal, SolvesBy, run_of, judged_in}
 use Rattle.hv_judge.specs.Verdicts.{Judged}
 use Rattle.hv_judge.specs.inside.Ends.{Ends}
 use Rattle.hv_judge.specs.inside.CheckEnds.{check_end}
@@ -25,9 +31,9 @@ not_true e = absurd (let clash : false ≡ true = e in cc)
 
 module _ (laws : LawsOfPlans) (w : World) (p : Plan) (c : Certificate) where
   -- no certificate solves a plan that fails
-  pub fails : (k : Cause) → IsCauseOf w p 0 k → Tells (SolvesBy w p c) false
-  fails k cause = (
-    (λ e. not_true e),
+  pub fails : (k : Cause) → IsCauseOf w p 0 k → (b : Bool) → b ≡ false → Tells (SolvesBy w p c) b
+  fails k cause b off = (
+    (λ on. not_true (sym off ∙ on)),
     (λ s. absurd (no_solution laws w p 0 k cause (is_solution laws w p 0 c s))),
   )
 
@@ -55,3 +61,74 @@ check_ends domain problem plan (Rejected w f) h = h
 check_ends domain problem plan (Fails c) h = tt
 check_ends domain problem plan (Undecided l) h = tt
 check_ends domain problem plan Memory h = tt
+
+-- the tree of a plan has its actions, and a node for each decomposition line
+pub as_many_actions : (w : World) (p : Plan) (t : PlanTree) → HasTree w p t
+    → length p.actions ≡ length t.actions
+as_many_actions w p t tree = same_length (IsActionOf w) p.actions t.actions tree.is_tree.actions
+
+pub as_many_lines : (w : World) (p : Plan) (t : PlanTree) → HasTree w p t
+    → length p.decompositions ≡ length (line_numbers t)
+as_many_lines w p t tree =
+    same_length (λ d v. NodeIs t (IsNodeOf w t d) v) p.decompositions tree.is_tree.lines
+    tree.is_tree.line_nodes
+    ∙ sym (ap (λ xs. length (drop 1 xs)) tree.is_tree.order)
+
+pub one_at_most : {A : Type 0} (o : Option A) → count_of o ≤ 1
+one_at_most None = omega arith
+one_at_most (Some x) = omega arith
+
+-- where a run stops, by the actions of the tree
+pub stops_at : (w : World) (gs hs : List GroundAction) (f : Stop) (k : ℕ) → gs ≡ hs
+    → f ≡ stops.Inapplicable k → IsStop (states.plan w gs) f → StopsAt (states.plan w hs) k
+stops_at w gs hs f k same is h =
+    subst (λ xs. IsStop (states.plan w xs) (stops.Inapplicable k)) same
+    (subst (IsStop (states.plan w gs)) is h)
+
+-- on a no, what was counted has a bound
+pub counts_no : (w : World) (p : Plan) (r : Recheck) → r.certified ≡ false
+    → r.evaluated ≤ length p.actions + length p.decompositions + 1 → CountsFormulas w p r
+counts_no w p r off h = record { within = h; whole = λ on. not_true (sym off ∙ on) }
+
+-- the preconditions of actions up to the first that is not applicable
+pub counts_run : (w : World) (p : Plan) (t : PlanTree) → HasTree w p t → (k : ℕ) (r : Recheck)
+    → k < length t.actions → r.certified ≡ false → r.evaluated ≡ k + 1 → CountsFormulas w p r
+counts_run w p t tree k r less off e =
+    let same = as_many_actions w p t tree in
+    counts_no w p r off (omega (arith, less, e, same))
+
+-- those of all actions, and the goal
+pub counts_goal : (w : World) (p : Plan) (t : PlanTree) → HasTree w p t → (r : Recheck)
+    → r.certified ≡ false → r.evaluated ≡ length t.actions + count_of w.goal → CountsFormulas w p r
+counts_goal w p t tree r off e =
+    let same = as_many_actions w p t tree in
+    let one = one_at_most w.goal in
+    counts_no w p r off (omega (arith, e, same, one))
+
+-- and those of the methods
+pub counts_all : (w : World) (p : Plan) (t : PlanTree) → HasTree w p t → (b : Bool) (k n : ℕ)
+    → CountsTo (length (line_numbers t)) b k → n ≡ length t.actions + count_of w.goal + k
+    → CountsFormulas w p (record { certified = b; evaluated = n })
+counts_all w p t tree b k n counts e =
+    let actions = as_many_actions w p t tree in
+    let lines = as_many_lines w p t tree in
+    let one = one_at_most w.goal in
+    let most = counts.within in
+    record {
+      within = omega (arith, e, actions, lines, one, most);
+      whole = λ on.
+          let all = counts.whole on in
+          omega (arith, e, actions, lines, all);
+    }
+
+-- the sum of both counts is small
+pub small_sum : (w : World) (p : Plan) (t : PlanTree) → HasTree w p t → (b : Bool) (k : ℕ)
+    → CountsTo (length (line_numbers t)) b k
+    → length p.actions + length p.decompositions < 4294967295
+    → length t.actions + count_of w.goal + k < 4294967297
+small_sum w p t tree b k counts small =
+    let actions = as_many_actions w p t tree in
+    let lines = as_many_lines w p t tree in
+    let one = one_at_most w.goal in
+    let most = counts.within in
+    omega (arith, small, actions, lines, one, most)

@@ -11,7 +11,7 @@ use Rattle.hv_world.specs.declared.fault.StaticFault.{StaticFault}
 use Rattle.hv_plan.specs.Values.{Plan}
 use Rattle.hv_plan.specs.Spellings.{IsPlan, IsPlanFault}
 use Rattle.hv_plan.specs.declared.fault.PlanFault.{PlanFault}
-use Rattle.hv_order.specs.declared.certificate.Certificate.{Certificate}
+use Rattle.hv_certificate.specs.declared.certificate.Certificate.{Certificate}
 use Rattle.hv_judge.specs.declared.answer.Answer.TheVariants as answers
 use Rattle.hv_judge.specs.declared.answer.Fault.{Fault}
 use Rattle.hv_judge.specs.declared.answer.FaultKind.{FaultKind}

@@ -1,12 +1,12 @@
 -- Three texts and a limit have one answer, and it says whether there is a solution.
-use Rattle.std.proofs.Common.{ℕ, List}
+use Rattle.std.proofs.Common.{ℕ, List, refl}
 use Rattle.hv_syntax.specs.Values.{Domain, Problem}
 use Rattle.hv_world.specs.Worlds.{world_of}
 use Rattle.hv_plan.specs.Values.{Plan}
 use Rattle.hv_judge.specs.declared.answer.Answer.{Answer}
 use Rattle.hv_judge.specs.declared.answer.Answer.TheVariants.{Solves, Fails, Undecided, Rejected}
 use Rattle.hv_judge.specs.Verdicts.{IsSpelledAs, IsVerdict, Judged}
-use Rattle.hv_judge.specs.Answers.{OneAnswerLaw, SolvesLaw, FailsLaw}
+use Rattle.hv_judge.specs.Answers.{OneAnswerLaw, SolvesLaw, FailsLaw, CertifiedLaw, ExplainedLaw}
 use Rattle.hv_judge.proofs.LawTexts.{LawsOfTexts, AtTexts, texts_one, rejected_step, spelled_step}
 use Rattle.hv_judge.proofs.LawPlans.{LawsOfPlans, AtTree, tree_one, verdict_step, is_solution, no_solution}
 
@@ -43,3 +43,10 @@ module _ (laws : LawsOfPlans) where
   pub none_solves : FailsLaw
   none_solves domain problem plan limit c (d, p, q, spelled, cause) =
       (d, p, q, spelled, no_solution laws (world_of d p) q limit c cause)
+
+  pub a_certified : CertifiedLaw
+  a_certified domain problem plan cert r (d, p, q, spelled, is) on =
+      (d, p, q, spelled, is_solution laws (world_of d p) q 0 is.certificate (is.certified.0 on))
+
+pub explained : ExplainedLaw
+explained c = refl

@@ -18,7 +18,7 @@ use Rattle.hv_match.specs.Counts.{IsCount}
 use Rattle.hv_order.specs.Meanings.{Meaning}
 use Rattle.hv_order.specs.Settings.{setting, IsMeaning, IsSolved, HasCandidate, HaveCandidates, IsFirstWithout}
 use Rattle.hv_order.specs.Certified.{Certifies, CertifiedPlans}
-use Rattle.hv_order.specs.declared.certificate.Certificate.{Certificate}
+use Rattle.hv_certificate.specs.declared.certificate.Certificate.{Certificate}
 use Rattle.hv_judge.specs.declared.answer.Answer.{Answer}
 use Rattle.hv_judge.specs.declared.answer.Answer.TheVariants.{Solves, Fails, Undecided, Rejected}
 use Rattle.hv_judge.specs.declared.answer.Cause.{Cause}

@@ -10,5 +10,7 @@ pub mod LawTexts
 pub mod LawPlans
 pub mod LawStatics
 pub mod LawAnswers
+pub mod LawCertificates
 pub mod LawValues
 pub mod CheckLemmas
+pub mod RecheckLemmas

@@ -11,6 +11,10 @@ use Rattle.hv_plan.specs.Values.{Plan}
 use Rattle.hv_plan.specs.Spellings.{IsPlan, IsPlanFault}
 use Rattle.hv_plan.specs.Canonical.{plan_text}
 use Rattle.hv_plan.specs.declared.fault.PlanFault.{PlanFault}
+use Rattle.hv_certificate.specs.Forms.{IsCertText, IsCertFault}
+use Rattle.hv_certificate.specs.Texts.{cert_text}
+use Rattle.hv_certificate.specs.declared.certificate.Certificate.{Certificate}
+use Rattle.hv_certificate.specs.declared.fault.CertFault.{CertFault}
 use Rattle.hv_judge.specs.declared.answer.Which.{Which}
 use Rattle.hv_judge.specs.declared.answer.Which.TheVariants as texts
 use Rattle.hv_judge.specs.declared.printing.Printed.{Printed}
@@ -18,11 +22,11 @@ use Rattle.hv_judge.specs.declared.printing.Printed.TheVariants as ends
 use Rattle.hv_judge.specs.declared.running.RunFault.{RunFault}
 use Rattle.hv_judge.specs.declared.running.RunFault.TheVariants as runs
 use Rattle.hv_judge.specs.Rejections.{fault_in}
-use Rattle.hv_judge.specs.Prints.{rejection, IsPrint, a_domain, a_problem, a_plan, no_domain, no_problem, no_plan, IsPrintOf, text_read, text_too_long, WrotePrint, IsDone, IsTextRejection, IsPlanRejection, IsUnreadRejection}
+use Rattle.hv_judge.specs.Prints.{rejection, IsPrint, a_domain, a_problem, a_plan, a_certificate, no_domain, no_problem, no_plan, no_certificate, IsPrintOf, text_read, text_too_long, WroteText, IsDone, IsTextRejection, IsPlanRejection, IsCertificateRejection, IsUnreadRejection}
 
 -- what was written is also what a weaker demand allows
-pub print_as : {W : Type 0} (P Q : Printed → List ℕ → Type 0) (taken : W → Option (List ℕ)) (old new : W) (r : Result Printed RunFault)
-    → ((end : Printed) (bytes : List ℕ) → P end bytes → Q end bytes) → WrotePrint P taken old new r → WrotePrint Q taken old new r
+pub print_as : {W K : Type 0} (P Q : K → List ℕ → Type 0) (taken : W → Option (List ℕ)) (old new : W) (r : Result K RunFault)
+    → ((end : K) (bytes : List ℕ) → P end bytes → Q end bytes) → WroteText P taken old new r → WroteText Q taken old new r
 print_as P Q taken old new (Ok end) f (bytes, p, w) = (bytes, f end bytes p, w)
 print_as P Q taken old new (Err (runs.Read w)) f h = h
 print_as P Q taken old new (Err runs.Memory) f h = h
@@ -44,6 +48,10 @@ pub printed_plan : (text canonical : List ℕ) (p : Plan) → IsPlan text p → 
     → (end : Printed) (bytes : List ℕ) → IsDone canonical end bytes → IsPrint text texts.Plan end bytes
 printed_plan text canonical p says is end bytes (done, are) = as_print text texts.Plan end ends.Done bytes canonical done are (subst (IsPrint text texts.Plan ends.Done) (sym is) (a_plan p says))
 
+pub printed_certificate : (text canonical : List ℕ) (c : Certificate) → IsCertText text c → canonical ≡ cert_text c
+    → (end : Printed) (bytes : List ℕ) → IsDone canonical end bytes → IsPrint text texts.Certificate end bytes
+printed_certificate text canonical c says is end bytes (done, are) = as_print text texts.Certificate end ends.Done bytes canonical done are (subst (IsPrint text texts.Certificate ends.Done) (sym is) (a_certificate c says))
+
 pub rejected_domain : (text : List ℕ) (f : SyntaxFault) → IsDomainFault text f.kind f.span
     → (end : Printed) (bytes : List ℕ) → IsTextRejection texts.Domain text f end bytes → IsPrint text texts.Domain end bytes
 rejected_domain text f bad end bytes (k, reported, (done, are)) =
@@ -58,6 +66,11 @@ pub rejected_plan : (text : List ℕ) (f : PlanFault) → IsPlanFault text f
     → (end : Printed) (bytes : List ℕ) → IsPlanRejection f end bytes → IsPrint text texts.Plan end bytes
 rejected_plan text f bad end bytes (r, reported, (done, are)) =
     as_print text texts.Plan end ends.Rejected bytes (rejection texts.Plan r) done are (no_plan f r bad reported)
+
+pub rejected_certificate : (text : List ℕ) (f : CertFault) → IsCertFault text f
+    → (end : Printed) (bytes : List ℕ) → IsCertificateRejection f end bytes → IsPrint text texts.Certificate end bytes
+rejected_certificate text f bad end bytes (r, reported, (done, are)) =
+    as_print text texts.Certificate end ends.Rejected bytes (rejection texts.Certificate r) done are (no_certificate f r bad reported)
 
 -- the text that was read: `handed` is what was handed on
 pub printed_of : {R : Type 0} (w : Which) (left : R → Option (List ℕ)) (old new : R) (text handed : List ℕ) → handed ≡ text → IsRead (left old) (left new) MOST_BYTES text

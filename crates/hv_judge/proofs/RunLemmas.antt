@@ -73,7 +73,7 @@ halted_as P Q (Err runs.Write) g h = tt
 pub never_halted : {K : Type 0} (Q : RunFault → Type 0) (r : Result K RunFault) → IfHalted (λ f. ⊥) r → IfHalted Q r
 never_halted Q r h = halted_as (λ f. ⊥) Q r (λ f bad. absurd bad) h
 
-failed_read : (w : Which) (old new : Option (List ℕ)) (fault : ReadFault) → IsReadFault old new MOST_BYTES fault
+pub failed_read : (w : Which) (old new : Option (List ℕ)) (fault : ReadFault) → IsReadFault old new MOST_BYTES fault
     → (f : RunFault) → IsFailureOf w fault f → IsFailedRead w old new f
 failed_read w old new reads.Device h f is = subst (IsFailedRead w old new) (sym is) (refl, h)
 failed_read w old new reads.TooLong h f is = absurd is

@@ -16,7 +16,7 @@ use Rattle.hv_plan.specs.declared.cause.TreeFault.TheVariants as trees
 use Rattle.hv_plan.proofs.FitLemmas.{member_at, same_length}
 use Rattle.hv_order.specs.Certified.{Certifies, IsRowFault}
 use Rattle.hv_order.specs.Settings.{HasCandidate, HaveCandidates, IsFirstWithout, IsSolved}
-use Rattle.hv_order.specs.declared.certificate.Certificate.{Certificate}
+use Rattle.hv_certificate.specs.declared.certificate.Certificate.{Certificate}
 use Rattle.hv_order.specs.declared.solution.RowFault.{RowFault}
 use Rattle.hv_order.specs.declared.solution.RowFault.TheVariants as rows
 use Rattle.hv_judge.specs.declared.answer.Answer.TheVariants as answers

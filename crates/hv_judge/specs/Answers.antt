@@ -1,16 +1,21 @@
 -- The laws of answers: three texts and a limit have one, it says whether there is a solution, and a
 -- text is rejected exactly where the three do not spell what is judged.
-use Rattle.std.specs.Prelude.{◌≡◌, ◌⊎◌, ℕ, List}
+use Rattle.std.specs.Prelude.{◌≡◌, ◌⊎◌, ℕ, true, List}
 use Rattle.hv_syntax.specs.Values.{Domain, Problem}
 use Rattle.hv_plan.specs.Values.{Plan}
-use Rattle.hv_order.specs.declared.certificate.Certificate.{Certificate}
+use Rattle.hv_certificate.specs.Forms.{HasNumbers}
+use Rattle.hv_certificate.specs.Texts.{cert_text}
+use Rattle.hv_certificate.specs.declared.certificate.Certificate.{Certificate}
 use Rattle.hv_judge.specs.declared.answer.Answer.{Answer}
 use Rattle.hv_judge.specs.declared.answer.Answer.TheVariants.{Solves, Fails, Undecided, Rejected}
 use Rattle.hv_judge.specs.declared.answer.Cause.{Cause}
 use Rattle.hv_judge.specs.declared.answer.Fault.{Fault}
 use Rattle.hv_judge.specs.declared.answer.Which.{Which}
+use Rattle.hv_judge.specs.declared.checking.Recheck.{Recheck}
+use Rattle.hv_judge.specs.Checked.{Rechecked}
 use Rattle.hv_judge.specs.Rejections.{IsRejected}
 use Rattle.hv_judge.specs.Solutions.{IsSolution}
+use Rattle.hv_judge.specs.Text.{answer_text}
 use Rattle.hv_judge.specs.Verdicts.{AreSpelled, IsSpelledAs, Judged}
 
 -- two answers are one, their certificates aside
@@ -40,6 +45,29 @@ FailsLaw =
     (domain problem plan : List ℕ) (limit : ℕ) (c : Cause)
     → Judged domain problem plan limit (Fails c)
     → IsSpelledAs domain problem plan (λ w q. IsSolution w q → ⊥)
+
+-- where a certificate is said to be right, the plan is a solution
+abbrev pub CertifiedLaw : Type 0
+CertifiedLaw =
+    (domain problem plan cert : List ℕ) (r : Recheck) → Rechecked domain problem plan cert r
+    → r.certified ≡ true → IsSpelledAs domain problem plan IsSolution
+
+-- what is written of a plan that solves its problem, with its certificate, is the certificate's text
+abbrev pub ExplainedLaw : Type 0
+ExplainedLaw = (c : Certificate) → answer_text (Solves c) true ≡ cert_text c
+
+-- four texts have one answer, whether the certificate is right
+abbrev pub OneRecheckLaw : Type 0
+OneRecheckLaw =
+    (domain problem plan cert : List ℕ) (r s : Recheck) → Rechecked domain problem plan cert r
+    → Rechecked domain problem plan cert s → r.certified ≡ s.certified
+
+-- the text of the certificate of a plan that is said to solve its problem is right
+abbrev pub ExplainedAgainLaw : Type 0
+ExplainedAgainLaw =
+    (domain problem plan : List ℕ) (limit : ℕ) (c : Certificate) (r : Recheck) → HasNumbers c
+    → Judged domain problem plan limit (Solves c) → Rechecked domain problem plan (cert_text c) r
+    → r.certified ≡ true
 
 -- three texts spell a domain, a problem and a plan, and no static rule is broken
 abbrev pub HaveValues : List ℕ → List ℕ → List ℕ → Type 0

@@ -13,6 +13,7 @@ abbrev pub which_name : Which → List ℕ
 which_name texts.Domain = codes "domain"
 which_name texts.Problem = codes "problem"
 which_name texts.Plan = codes "plan"
+which_name texts.Certificate = codes "certificate"
 
 -- the number and the name of a fault of a text
 abbrev pub fault_number : FaultKind → ℕ
@@ -44,6 +45,7 @@ fault_number faults.BadLine = 42
 fault_number faults.IdTooLarge = 43
 fault_number faults.NoRoot = 44
 fault_number faults.RepeatedRoot = 45
+fault_number faults.BadCertificate = 70
 
 abbrev pub fault_name : FaultKind → List ℕ
 fault_name faults.BadByte = codes "BadByte"
@@ -74,6 +76,7 @@ fault_name faults.BadLine = codes "BadLine"
 fault_name faults.IdTooLarge = codes "IdTooLarge"
 fault_name faults.NoRoot = codes "NoRoot"
 fault_name faults.RepeatedRoot = codes "RepeatedRoot"
+fault_name faults.BadCertificate = codes "BadCertificate"
 
 -- the number and the name of a cause; those of the causes from 50 to 63 are said where the tree is
 abbrev pub cause_number : CauseKind → ℕ

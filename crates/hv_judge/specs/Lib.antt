@@ -8,4 +8,5 @@ pub mod Checked
 pub mod Answers
 pub mod Runs
 pub mod Prints
+pub mod Rechecks
 pub mod inside

@@ -15,6 +15,10 @@ use Rattle.hv_plan.specs.Values.{Plan}
 use Rattle.hv_plan.specs.Spellings.{IsPlan, IsPlanFault}
 use Rattle.hv_plan.specs.Canonical.{plan_text}
 use Rattle.hv_plan.specs.declared.fault.PlanFault.{PlanFault}
+use Rattle.hv_certificate.specs.Forms.{IsCertText, IsCertFault}
+use Rattle.hv_certificate.specs.Texts.{cert_text}
+use Rattle.hv_certificate.specs.declared.certificate.Certificate.{Certificate}
+use Rattle.hv_certificate.specs.declared.fault.CertFault.{CertFault}
 use Rattle.hv_judge.specs.declared.answer.Answer.TheVariants as answers
 use Rattle.hv_judge.specs.declared.answer.Fault.{Fault}
 use Rattle.hv_judge.specs.declared.answer.FaultKind.{FaultKind}
@@ -25,7 +29,7 @@ use Rattle.hv_judge.specs.declared.printing.Printed.{Printed}
 use Rattle.hv_judge.specs.declared.printing.Printed.TheVariants as ends
 use Rattle.hv_judge.specs.declared.running.RunFault.{RunFault}
 use Rattle.hv_judge.specs.declared.running.RunFault.TheVariants as runs
-use Rattle.hv_judge.specs.Rejections.{fault_in, fault_nowhere, reported, reported_plan}
+use Rattle.hv_judge.specs.Rejections.{fault_in, fault_nowhere, reported, reported_plan, reported_cert}
 use Rattle.hv_judge.specs.Text.{answer_text}
 use Rattle.hv_judge.specs.Runs.{IsTooLong}
 
@@ -41,6 +45,8 @@ pub data IsPrint (text : List ℕ) : Which → Printed → List ℕ → Type 0 w
   a_problem : (p : Problem) → IsProblemText text p
       → IsPrint text which.Problem ends.Done (canonical_problem p)
   a_plan : (p : Plan) → IsPlan text p → IsPrint text which.Plan ends.Done (plan_text p)
+  a_certificate : (c : Certificate) → IsCertText text c
+      → IsPrint text which.Certificate ends.Done (cert_text c)
   no_domain : (kind : SyntaxKind) (s : Span) (k : FaultKind) → IsDomainFault text kind s
       → reported kind ≡ Some k
       → IsPrint text which.Domain ends.Rejected (rejection which.Domain (fault_in k text s))
@@ -49,6 +55,8 @@ pub data IsPrint (text : List ℕ) : Which → Printed → List ℕ → Type 0 w
       → IsPrint text which.Problem ends.Rejected (rejection which.Problem (fault_in k text s))
   no_plan : (f : PlanFault) (r : Fault) → IsPlanFault text f → reported_plan f ≡ Some r
       → IsPrint text which.Plan ends.Rejected (rejection which.Plan r)
+  no_certificate : (f : CertFault) (r : Fault) → IsCertFault text f → reported_cert f ≡ Some r
+      → IsPrint text which.Certificate ends.Rejected (rejection which.Certificate r)
 
 -- what is written of a reader's bytes; a text that is too long is rejected
 pub data IsPrintOf {R : Type 0} (w : Which) (left : R → Option (List ℕ)) (old new : R) : Printed
@@ -61,13 +69,13 @@ pub data IsPrintOf {R : Type 0} (w : Which) (left : R → Option (List ℕ)) (ol
 
 -- what `P` allows was written, and that is how it ended; a beginning of it, where the writer
 -- failed; nothing was done with the writer, where the text was not read or memory was refused
-abbrev pub WrotePrint : {W : Type 0} → (Printed → List ℕ → Type 0) → (W → Option (List ℕ)) → W → W
-    → Result Printed RunFault → Type 0
-WrotePrint P taken old new (Ok end) = (bytes : List ℕ) × P end bytes
+abbrev pub WroteText : {W K : Type 0} → (K → List ℕ → Type 0) → (W → Option (List ℕ)) → W → W
+    → Result K RunFault → Type 0
+WroteText P taken old new (Ok end) = (bytes : List ℕ) × P end bytes
     × Appends (taken old) (taken new) bytes
-WrotePrint P taken old new (Err (runs.Read w)) = new ≡ old
-WrotePrint P taken old new (Err runs.Memory) = new ≡ old
-WrotePrint P taken old new (Err runs.Write) = (end : Printed) × (bytes : List ℕ) × P end bytes
+WroteText P taken old new (Err (runs.Read w)) = new ≡ old
+WroteText P taken old new (Err runs.Memory) = new ≡ old
+WroteText {W} {K} P taken old new (Err runs.Write) = (end : K) × (bytes : List ℕ) × P end bytes
     × AppendsBeginning (taken old) (taken new) bytes
 
 -- what the parts of the code do
@@ -89,6 +97,11 @@ IsTextRejection w text f end bytes = (k : FaultKind) × (reported f.kind ≡ Som
 abbrev pub IsPlanRejection : PlanFault → Printed → List ℕ → Type 0
 IsPlanRejection f end bytes = (r : Fault) × (reported_plan f ≡ Some r)
     × IsRejection which.Plan r end bytes
+
+-- the line of the rejection of a certificate
+abbrev pub IsCertificateRejection : CertFault → Printed → List ℕ → Type 0
+IsCertificateRejection f end bytes = (r : Fault) × (reported_cert f ≡ Some r)
+    × IsRejection which.Certificate r end bytes
 
 -- the line of the rejection of a text that is too long
 abbrev pub IsUnreadRejection : Which → ReadFault → Printed → List ℕ → Type 0

@@ -7,6 +7,8 @@ use Rattle.hv_text.specs.declared.fault.TheConstants.{MOST_BYTES}
 use Rattle.hv_plan.specs.Spellings.{IsPlanFault}
 use Rattle.hv_plan.specs.declared.fault.PlanFault.{PlanFault}
 use Rattle.hv_plan.specs.declared.fault.PlanFault.TheVariants as plans
+use Rattle.hv_certificate.specs.declared.fault.CertFault.{CertFault}
+use Rattle.hv_certificate.specs.declared.fault.CertFault.TheVariants as certificates
 use Rattle.hv_judge.specs.declared.answer.Which.{Which}
 use Rattle.hv_judge.specs.declared.answer.Which.TheVariants as which
 use Rattle.hv_judge.specs.declared.answer.FaultKind.{FaultKind}
@@ -89,6 +91,12 @@ reported_plan (plans.IdTooLarge line) = Some (fault_on faults.IdTooLarge line)
 reported_plan plans.NoRoot = Some (fault_nowhere faults.NoRoot)
 reported_plan (plans.RepeatedRoot line) = Some (fault_on faults.RepeatedRoot line)
 reported_plan plans.Memory = None
+
+-- the fault that is reported for a certificate's; want of memory is reported as none
+abbrev pub reported_cert : CertFault → Option Fault
+reported_cert certificates.TooLong = Some (fault_nowhere faults.TooLong)
+reported_cert (certificates.BadCertificate line) = Some (fault_on faults.BadCertificate line)
+reported_cert certificates.Memory = None
 
 -- the first text that is too long
 abbrev pub first_too_long : List ℕ → List ℕ → List ℕ → Option Which

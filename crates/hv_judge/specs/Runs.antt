@@ -33,17 +33,24 @@ too_long_answer w = answers.Rejected w (fault_nowhere faults.TooLong)
 abbrev pub IsTooLong : Option (List ℕ) → Option (List ℕ) → Type 0
 IsTooLong old new = IsReadFault old new MOST_BYTES reads.TooLong
 
--- the same text of the three
+-- the same text
 abbrev pub is_same : Which → Which → Bool
 is_same texts.Domain texts.Domain = true
 is_same texts.Domain texts.Problem = false
 is_same texts.Domain texts.Plan = false
+is_same texts.Domain texts.Certificate = false
 is_same texts.Problem texts.Domain = false
 is_same texts.Problem texts.Problem = true
 is_same texts.Problem texts.Plan = false
+is_same texts.Problem texts.Certificate = false
 is_same texts.Plan texts.Domain = false
 is_same texts.Plan texts.Problem = false
 is_same texts.Plan texts.Plan = true
+is_same texts.Plan texts.Certificate = false
+is_same texts.Certificate texts.Domain = false
+is_same texts.Certificate texts.Problem = false
+is_same texts.Certificate texts.Plan = false
+is_same texts.Certificate texts.Certificate = true
 
 -- how many reads of a text failed in a run that ended so
 abbrev pub reads_failed : {K : Type 0} → Which → Result K RunFault → ℕ

@@ -9,7 +9,7 @@ use Rattle.hv_plan.specs.Fits.{FitWorld}
 use Rattle.hv_plan.specs.PlanTrees.{PlanTree, IsTreeOf}
 use Rattle.hv_order.specs.Settings.{Setting, setting, IsSolved}
 use Rattle.hv_order.specs.Certified.{Certifies}
-use Rattle.hv_order.specs.declared.certificate.Certificate.{Certificate}
+use Rattle.hv_certificate.specs.declared.certificate.Certificate.{Certificate}
 
 -- the lines of a plan form a tree that fits the world, and this is the tree; a plan has no other
 pub record HasTree (w : World) (p : Plan) (t : PlanTree) : Type 0 where

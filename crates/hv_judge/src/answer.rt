@@ -5,15 +5,16 @@ ghost use Rattle.hv_judge.specs.Kinds.{fault_number, fault_name, cause_number, c
 ghost use Rattle.hv_judge.specs.Causes.{cause_at, cause_nowhere};
 ghost use Rattle.hv_judge.specs.Runs.{kind_of};
 
-use hv_order::certificate::Certificate;
+use hv_certificate::Certificate;
 use hv_plan::CauseKind as TreeKind;
 
-/// Which of the three texts.
+/// Which text: one of the three that are judged, or a certificate.
 #[derive(Clone, Copy, Debug, PartialEq, Eq)]
 pub enum Which {
     Domain,
     Problem,
     Plan,
+    Certificate,
 }
 
 impl Which {
@@ -25,6 +26,7 @@ impl Which {
             Which::Domain => "domain",
             Which::Problem => "problem",
             Which::Plan => "plan",
+            Which::Certificate => "certificate",
         }
     }
 }
@@ -89,6 +91,8 @@ pub enum FaultKind {
     NoRoot,
     /// A second `root` line.
     RepeatedRoot,
+    /// A line of a certificate that is not of its form.
+    BadCertificate,
 }
 
 impl FaultKind {
@@ -125,6 +129,7 @@ impl FaultKind {
             FaultKind::IdTooLarge => 43,
             FaultKind::NoRoot => 44,
             FaultKind::RepeatedRoot => 45,
+            FaultKind::BadCertificate => 70,
         }
     }
 
@@ -161,6 +166,7 @@ impl FaultKind {
             FaultKind::IdTooLarge => "IdTooLarge",
             FaultKind::NoRoot => "NoRoot",
             FaultKind::RepeatedRoot => "RepeatedRoot",
+            FaultKind::BadCertificate => "BadCertificate",
         }
     }
 }

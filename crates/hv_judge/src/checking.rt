@@ -1,18 +1,19 @@
 //! The check of a certificate that is given.
 
-ghost use Rattle.std.specs.Prelude.{◌≡◌, ◌<◌, length, IfOk, IfErr};
+ghost use Rattle.std.specs.Prelude.{◌≡◌, ◌<◌, ◌+◌, false, length, IfOk, IfErr};
 ghost use Rattle.hv_world.specs.WorldViews.{world_view};
 ghost use Rattle.hv_plan.specs.LineViews.{plan_view};
 ghost use Rattle.hv_match.specs.Candidates.{Tells};
 ghost use Rattle.hv_order.specs.Settings.{HasNoPrecondition};
-ghost use Rattle.hv_judge.specs.Checked.{Checked, IsCheckFault};
+ghost use Rattle.hv_judge.specs.Checked.{Checked, IsCheckFault, CountsFormulas, count_of};
 ghost use Rattle.hv_judge.specs.Solutions.{SolvesBy};
 
 use crate::answer::{Fault, Which};
 use crate::judgement::{first_too_long, read_world};
 use crate::not_solved::NotSolved;
+use crate::rejection::reported_cert;
+use hv_certificate::{CertFault, Certificate};
 use hv_match::counts_are_one;
-use hv_order::certificate::Certificate;
 use hv_order::certified_plans::certified_plans_are_solved;
 use hv_order::check::certifies;
 use hv_plan::{
@@ -23,6 +24,29 @@ use hv_state::{BitState, Stop, Trace};
 use hv_text::Memory;
 use hv_world::World;
 use std::alloc::Global;
+
+/// What the check of a certificate found.
+#[derive(Clone, Copy, Debug, PartialEq, Eq)]
+pub struct Recheck {
+    /// Whether the plan solves the problem by the certificate.
+    pub certified: bool,
+    /// How many formulas were evaluated: the preconditions of actions and of the methods of
+    /// decomposition lines, and the goal.
+    pub evaluated: u64,
+}
+
+impl Recheck {
+    // The plan does not solve the problem by the certificate; so many formulas told that.
+    fn not_certified(evaluated: u64) -> Recheck
+        ensures certified { result.certified ≡ false }
+        ensures evaluated { result.evaluated ≡ evaluated }
+    {
+        Recheck {
+            certified: false,
+            evaluated,
+        }
+    }
+}
 
 /// Why it is not said whether a certificate is right.
 #[derive(Clone, Copy, Debug, PartialEq, Eq)]
@@ -67,17 +91,45 @@ impl From<PlanFault> for CheckFault {
     }
 }
 
-// Whether a plan solves the problem of a world by a certificate.
-fn check_plan<'s>(
+impl From<CertFault> for CheckFault {
+    ghost use Rattle.hv_judge.specs.inside.CheckEnds.{cert_end};
+
+    ghost from_gives = { λ f e. e ≡ cert_end f };
+
+    fn from(fault: CertFault) -> CheckFault {
+        match reported_cert(fault) {
+            Some(fault) => CheckFault::Rejected(Which::Certificate, fault),
+            None => CheckFault::Memory,
+        }
+    }
+}
+
+// How many goals a world has: one, or none.
+fn goal_count(world: &World<'_>) -> u64
+    ensures { result ≡ count_of (world_view world.now).goal }
+{
+    match world.goal() {
+        Some(_) => 1,
+        None => 0,
+    }
+}
+
+// Whether a plan solves the problem of a world by a certificate. The precondition of each action
+// is evaluated, then the goal, and then those of the methods.
+pub(crate) fn check_plan<'s>(
     alloc: Global,
     world: &World<'s>,
     plan: &PlanText<'s>,
     certificate: &Certificate<'s>,
-) -> Result<bool, Memory>
+) -> Result<Recheck, Memory>
     requires top { HasNoPrecondition (world_view world.now) }
-    requires small { length (plan_view plan.now).actions < 4294967295 }
-    ensures { IfOk result
-        (Tells (SolvesBy (world_view world.now) (plan_view plan.now) certificate.now)) }
+    requires small { length (plan_view plan.now).actions
+        + length (plan_view plan.now).decompositions < 4294967295 }
+    ensures certified { IfOk result (λ found.
+        Tells (SolvesBy (world_view world.now) (plan_view plan.now) certificate.now)
+        found.certified) }
+    ensures evaluated { IfOk result
+        (CountsFormulas (world_view world.now) (plan_view plan.now)) }
 {
     a_plan_has_one_tree();
     a_tree_or_a_cause();
@@ -85,19 +137,23 @@ fn check_plan<'s>(
     certified_plans_are_solved();
     let tree = match Tree::build(alloc, world, plan) {
         Ok(tree) => tree,
-        Err(TreeFault::Cause(_)) => return Ok(false),
+        Err(TreeFault::Cause(_)) => return Ok(Recheck::not_certified(0)),
         Err(TreeFault::Memory) => return Err(Memory),
     };
     let trace = match Trace::<BitState>::run(alloc, world, tree.actions()) {
         Ok(trace) => trace,
-        Err(Stop::Inapplicable(_)) => return Ok(false),
+        Err(Stop::Inapplicable(action)) => return Ok(Recheck::not_certified(action as u64 + 1)),
         Err(Stop::Memory) => return Err(Memory),
     };
+    let evaluated = tree.actions().len() as u64 + goal_count(world);
     if !trace.goal_holds() {
-        return Ok(false);
+        return Ok(Recheck::not_certified(evaluated));
     }
     match certifies(alloc, world, &tree, &trace, certificate) {
-        Ok(is_right) => Ok(is_right),
+        Ok(found) => Ok(Recheck {
+            certified: found.certified,
+            evaluated: evaluated + found.evaluated,
+        }),
         Err(_) => Err(Memory),
     }
 }
@@ -126,5 +182,6 @@ pub fn check<'s>(
     }
     let world = read_world(alloc, domain, problem)?;
     let plan = read_plan(alloc, plan)?;
-    Ok(check_plan(alloc, &world, &plan, certificate)?)
+    let found = check_plan(alloc, &world, &plan, certificate)?;
+    Ok(found.certified)
 }

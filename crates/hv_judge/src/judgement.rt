@@ -12,7 +12,7 @@ use crate::answer::{Answer, Fault, Which};
 use crate::not_solved::NotSolved;
 use crate::rejection::{fault_in, reported, reported_static};
 use crate::verdict::judge_plan;
-use hv_order::certificate::Certificate;
+use hv_certificate::Certificate;
 use hv_plan::{plans_are_small, read_plan};
 use hv_syntax::{SyntaxFault, read_domain, read_problem};
 use hv_text::{MOST_BYTES, Memory};

@@ -2,9 +2,11 @@
 //! the law.
 
 ghost use Rattle.hv_judge.specs.Answers.{OneAnswerLaw, SolvesLaw, FailsLaw};
+ghost use Rattle.hv_judge.specs.Answers.{CertifiedLaw, ExplainedLaw, OneRecheckLaw, ExplainedAgainLaw};
 ghost use Rattle.hv_judge.specs.Answers.{ValuesOrRejectionLaw, NeverBothLaw};
 ghost use Rattle.hv_judge.specs.Answers.{OneSpellingLaw, OneRejectionLaw};
 
+use hv_certificate::certificates_are_their_texts;
 use hv_match::counts_are_one;
 use hv_order::certified_plans::certified_plans_are_solved;
 use hv_plan::{a_plan_has_one_tree, a_plan_or_a_fault, a_tree_or_a_cause};
@@ -42,6 +44,18 @@ pub fn a_solution_or_none()
     certified_plans_are_solved();
 }
 
+/// A plan for which a certificate is said to be right is a solution. What is written of a plan that
+/// solves its problem, with its certificate, is the text of that certificate.
+pub fn a_certificate_of_a_solution()
+    ensures certified { CertifiedLaw }
+    ensures explained { ExplainedLaw }
+{
+    a_plan_has_one_tree();
+    a_tree_or_a_cause();
+    counts_are_one();
+    certified_plans_are_solved();
+}
+
 /// Any three texts spell a domain, a problem and a plan that are judged, or one of them is
 /// rejected, and never both: what they spell is one domain, one problem and one plan, and a
 /// rejection is of one text for one fault.
@@ -56,4 +70,15 @@ pub fn values_or_a_rejection()
     a_problem_or_a_fault();
     a_world_or_a_fault();
     a_plan_or_a_fault();
+}
+
+/// Four texts have one answer, whether the certificate is right: what it says of a plan hangs on
+/// its text alone. The text that is written of a plan that solves its problem, with its certificate,
+/// is answered with a yes.
+pub fn one_recheck()
+    ensures one { OneRecheckLaw }
+    ensures explained { ExplainedAgainLaw }
+{
+    certificates_are_their_texts();
+    values_or_a_rejection();
 }

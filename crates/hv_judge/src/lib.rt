@@ -9,16 +9,20 @@ mod limit;
 mod not_solved;
 mod order;
 mod printing;
+mod rechecking;
 mod rejection;
 mod running;
 mod verdict;
 mod write;
 
 pub use answer::{Answer, Cause, CauseKind, Fault, FaultKind, Kind, Place, Which};
-pub use checking::{CheckFault, check};
-pub use hv_order::certificate::{Certificate, Choice};
+pub use checking::{CheckFault, Recheck, check};
+pub use hv_certificate::{Certificate, Choice};
 pub use judgement::judge;
-pub use law::{a_solution_or_none, one_answer, values_or_a_rejection};
+pub use law::{
+    a_certificate_of_a_solution, a_solution_or_none, one_answer, one_recheck, values_or_a_rejection,
+};
 pub use printing::{Printed, run_print};
+pub use rechecking::{RecheckKind, recheck, run_recheck};
 pub use running::{RunFault, run};
 pub use write::write_answer;

@@ -12,8 +12,8 @@ ghost use Rattle.hv_judge.specs.inside.Ends.{IsEndInOrder, IsLastCause};
 
 use crate::answer::{Cause, CauseKind};
 use crate::not_solved::NotSolved;
+use hv_certificate::Certificate;
 use hv_match::Matcher;
-use hv_order::certificate::Certificate;
 use hv_order::certified_plans::certified_plans_are_solved;
 use hv_order::solution::{RowFault, find_certificate, solution};
 use hv_plan::Tree;

@@ -5,12 +5,13 @@ ghost use Rattle.hv_text.specs.declared.fault.TheConstants.{MOST_BYTES};
 ghost use Rattle.hv_judge.specs.declared.answer.Which.{Which};
 ghost use Rattle.hv_judge.specs.declared.answer.Which.TheVariants as texts;
 ghost use Rattle.hv_judge.specs.Runs.{is_same, reads_failed, writes_failed, failures_at, IfHalted, IsWant, IsFailureOf, IsHaltOfText};
-ghost use Rattle.hv_judge.specs.Prints.{IsPrint, IsPrintOf, WrotePrint, IsDone, IsRejection, IsTextRejection, IsPlanRejection, IsUnreadRejection};
+ghost use Rattle.hv_judge.specs.Prints.{IsPrint, IsPrintOf, WroteText, IsDone, IsRejection, IsTextRejection, IsPlanRejection, IsCertificateRejection, IsUnreadRejection};
 
 use crate::answer::{Answer, Fault, Which};
-use crate::rejection::{fault_in, reported, reported_plan};
+use crate::rejection::{fault_in, reported, reported_cert, reported_plan};
 use crate::running::RunFault;
 use crate::write::write_answer;
+use hv_certificate::{CertFault, print_cert, read_cert};
 use hv_plan::{PlanFault, print_plan, read_plan};
 use hv_syntax::{SyntaxFault, print_domain, print_problem, read_domain, read_problem};
 use hv_text::{MOST_BYTES, ReadFault, Sink, Source, read_all, write_all};
@@ -28,7 +29,7 @@ pub enum Printed {
 // Writes the line of a rejection.
 fn reject<W: Sink>(which: Which, fault: Fault, out: &mut W) -> Result<Printed, RunFault>
     requires { W.failures out.old < 2 ^ 64 - 1 }
-    ensures wrote { WrotePrint (IsRejection which fault) W.taken out.old out.new result }
+    ensures wrote { WroteText (IsRejection which fault) W.taken out.old out.new result }
     ensures reads { (w : Which) → reads_failed w result ≡ 0 }
     ensures halted { IfHalted (λ _. ⊥) result }
     ensures writes { W.failures out.new ≡ W.failures out.old + writes_failed result }
@@ -46,7 +47,7 @@ fn reject_text<W: Sink>(
 ) -> Result<Printed, RunFault>
     requires text { length text.now ≤ MOST_BYTES }
     requires out { W.failures out.old < 2 ^ 64 - 1 }
-    ensures wrote { WrotePrint
+    ensures wrote { WroteText
         (IsTextRejection which text.now fault) W.taken out.old out.new result }
     ensures reads { (w : Which) → reads_failed w result ≡ 0 }
     ensures halted { IfHalted IsWant result }
@@ -61,7 +62,7 @@ fn reject_text<W: Sink>(
 // Writes bytes that are the canonical text of something.
 fn write_canonical<W: Sink>(bytes: &[u8], out: &mut W) -> Result<Printed, RunFault>
     requires { W.failures out.old < 2 ^ 64 - 1 }
-    ensures wrote { WrotePrint (IsDone bytes.now) W.taken out.old out.new result }
+    ensures wrote { WroteText (IsDone bytes.now) W.taken out.old out.new result }
     ensures reads { (w : Which) → reads_failed w result ≡ 0 }
     ensures halted { IfHalted IsWant result }
     ensures writes { W.failures out.new ≡ W.failures out.old + writes_failed result }
@@ -74,7 +75,7 @@ fn write_canonical<W: Sink>(bytes: &[u8], out: &mut W) -> Result<Printed, RunFau
 fn print_domain_text<W: Sink>(alloc: Global, text: &[u8], out: &mut W) -> Result<Printed, RunFault>
     requires text { length text.now ≤ MOST_BYTES }
     requires out { W.failures out.old < 2 ^ 64 - 1 }
-    ensures wrote { WrotePrint (IsPrint text.now texts.Domain) W.taken out.old out.new result }
+    ensures wrote { WroteText (IsPrint text.now texts.Domain) W.taken out.old out.new result }
     ensures reads { (w : Which) → reads_failed w result ≡ 0 }
     ensures halted { IfHalted IsWant result }
     ensures writes { W.failures out.new ≡ W.failures out.old + writes_failed result }
@@ -93,7 +94,7 @@ fn print_domain_text<W: Sink>(alloc: Global, text: &[u8], out: &mut W) -> Result
 fn print_problem_text<W: Sink>(alloc: Global, text: &[u8], out: &mut W) -> Result<Printed, RunFault>
     requires text { length text.now ≤ MOST_BYTES }
     requires out { W.failures out.old < 2 ^ 64 - 1 }
-    ensures wrote { WrotePrint (IsPrint text.now texts.Problem) W.taken out.old out.new result }
+    ensures wrote { WroteText (IsPrint text.now texts.Problem) W.taken out.old out.new result }
     ensures reads { (w : Which) → reads_failed w result ≡ 0 }
     ensures halted { IfHalted IsWant result }
     ensures writes { W.failures out.new ≡ W.failures out.old + writes_failed result }
@@ -111,7 +112,7 @@ fn print_problem_text<W: Sink>(alloc: Global, text: &[u8], out: &mut W) -> Resul
 // Prints a plan.
 fn print_plan_text<W: Sink>(alloc: Global, text: &[u8], out: &mut W) -> Result<Printed, RunFault>
     requires { W.failures out.old < 2 ^ 64 - 1 }
-    ensures wrote { WrotePrint (IsPrint text.now texts.Plan) W.taken out.old out.new result }
+    ensures wrote { WroteText (IsPrint text.now texts.Plan) W.taken out.old out.new result }
     ensures reads { (w : Which) → reads_failed w result ≡ 0 }
     ensures halted { IfHalted IsWant result }
     ensures writes { W.failures out.new ≡ W.failures out.old + writes_failed result }
@@ -129,13 +130,49 @@ fn print_plan_text<W: Sink>(alloc: Global, text: &[u8], out: &mut W) -> Result<P
 // Writes the line of the rejection of a plan.
 fn reject_plan<W: Sink>(fault: PlanFault, out: &mut W) -> Result<Printed, RunFault>
     requires { W.failures out.old < 2 ^ 64 - 1 }
-    ensures wrote { WrotePrint (IsPlanRejection fault) W.taken out.old out.new result }
+    ensures wrote { WroteText (IsPlanRejection fault) W.taken out.old out.new result }
     ensures reads { (w : Which) → reads_failed w result ≡ 0 }
     ensures halted { IfHalted IsWant result }
     ensures writes { W.failures out.new ≡ W.failures out.old + writes_failed result }
 {
     match reported_plan(fault) {
         Some(fault) => reject(Which::Plan, fault, out),
+        None => Err(RunFault::Memory),
+    }
+}
+
+// Prints a certificate.
+fn print_certificate_text<W: Sink>(
+    alloc: Global,
+    text: &[u8],
+    out: &mut W,
+) -> Result<Printed, RunFault>
+    requires { W.failures out.old < 2 ^ 64 - 1 }
+    ensures wrote { WroteText (IsPrint text.now texts.Certificate) W.taken out.old out.new result }
+    ensures reads { (w : Which) → reads_failed w result ≡ 0 }
+    ensures halted { IfHalted IsWant result }
+    ensures writes { W.failures out.new ≡ W.failures out.old + writes_failed result }
+{
+    match read_cert(alloc, text) {
+        Ok(certificate) => {
+            let mut bytes = Vec::new(alloc);
+            print_cert(&certificate, &mut bytes)?;
+            write_canonical(&bytes, out)
+        }
+        Err(fault) => reject_certificate(fault, out),
+    }
+}
+
+// Writes the line of the rejection of a certificate.
+fn reject_certificate<W: Sink>(fault: CertFault, out: &mut W) -> Result<Printed, RunFault>
+    requires { W.failures out.old < 2 ^ 64 - 1 }
+    ensures wrote { WroteText (IsCertificateRejection fault) W.taken out.old out.new result }
+    ensures reads { (w : Which) → reads_failed w result ≡ 0 }
+    ensures halted { IfHalted IsWant result }
+    ensures writes { W.failures out.new ≡ W.failures out.old + writes_failed result }
+{
+    match reported_cert(fault) {
+        Some(fault) => reject(Which::Certificate, fault, out),
         None => Err(RunFault::Memory),
     }
 }
@@ -149,7 +186,7 @@ fn print_text<W: Sink>(
 ) -> Result<Printed, RunFault>
     requires text { length text.now ≤ MOST_BYTES }
     requires out { W.failures out.old < 2 ^ 64 - 1 }
-    ensures wrote { WrotePrint (IsPrint text.now which) W.taken out.old out.new result }
+    ensures wrote { WroteText (IsPrint text.now which) W.taken out.old out.new result }
     ensures reads { (w : Which) → reads_failed w result ≡ 0 }
     ensures halted { IfHalted IsWant result }
     ensures writes { W.failures out.new ≡ W.failures out.old + writes_failed result }
@@ -158,13 +195,14 @@ fn print_text<W: Sink>(
         Which::Domain => print_domain_text(alloc, text, out),
         Which::Problem => print_problem_text(alloc, text, out),
         Which::Plan => print_plan_text(alloc, text, out),
+        Which::Certificate => print_certificate_text(alloc, text, out),
     }
 }
 
 // What is done with a text that was not read: one that is too long is rejected.
 fn print_unread<W: Sink>(which: Which, fault: ReadFault, out: &mut W) -> Result<Printed, RunFault>
     requires { W.failures out.old < 2 ^ 64 - 1 }
-    ensures wrote { WrotePrint (IsUnreadRejection which fault) W.taken out.old out.new result }
+    ensures wrote { WroteText (IsUnreadRejection which fault) W.taken out.old out.new result }
     ensures reads { (w : Which) → reads_failed w result ≡ failures_at w which fault }
     ensures halted { IfHalted (IsFailureOf which fault) result }
     ensures writes { W.failures out.new ≡ W.failures out.old + writes_failed result }
@@ -191,7 +229,7 @@ pub fn run_print<R: Source, W: Sink>(
 ) -> Result<Printed, RunFault>
     requires reader { R.failures reader.old < 2 ^ 64 - 1 }
     requires out { W.failures out.old < 2 ^ 64 - 1 }
-    ensures wrote { WrotePrint
+    ensures wrote { WroteText
         (IsPrintOf which R.left reader.old reader.new) W.taken out.old out.new result }
     ensures reads { R.failures reader.new ≡ R.failures reader.old + reads_failed which result }
     // no other reader is blamed

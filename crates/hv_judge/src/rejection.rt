@@ -2,9 +2,10 @@
 
 ghost use Rattle.std.specs.Prelude.{◌≡◌, ◌≤◌, length, Some};
 ghost use Rattle.hv_text.specs.declared.fault.TheConstants.{MOST_BYTES};
-ghost use Rattle.hv_judge.specs.Rejections.{fault_in, reported, reported_static, reported_plan};
+ghost use Rattle.hv_judge.specs.Rejections.{fault_in, reported, reported_static, reported_plan, reported_cert};
 
 use crate::answer::{Fault, FaultKind, Place};
+use hv_certificate::CertFault;
 use hv_plan::PlanFault;
 use hv_syntax::SyntaxKind;
 use hv_text::{MOST_BYTES, Span, TextKind, place};
@@ -63,7 +64,7 @@ pub(crate) fn reported_static(kind: StaticKind) -> Option<FaultKind>
     }
 }
 
-// A plan's fault is told by its line alone.
+// A fault that is told by its line alone.
 fn at_line(kind: FaultKind, line: u32) -> Option<Fault>
     ensures { result ≡ Some (record { kind = kind; place = Place.Line line }) }
 {
@@ -73,7 +74,7 @@ fn at_line(kind: FaultKind, line: u32) -> Option<Fault>
     })
 }
 
-// A plan's fault without a place.
+// A fault without a place.
 fn nowhere(kind: FaultKind) -> Option<Fault>
     ensures { result ≡ Some (record { kind = kind; place = Place.Nowhere }) }
 {
@@ -97,5 +98,16 @@ pub(crate) fn reported_plan(fault: PlanFault) -> Option<Fault>
         PlanFault::NoRoot => nowhere(FaultKind::NoRoot),
         PlanFault::RepeatedRoot(line) => at_line(FaultKind::RepeatedRoot, line),
         PlanFault::Memory => None,
+    }
+}
+
+// The fault that is reported for a certificate's; None for want of memory.
+pub(crate) fn reported_cert(fault: CertFault) -> Option<Fault>
+    ensures { result ≡ reported_cert fault }
+{
+    match fault {
+        CertFault::TooLong => nowhere(FaultKind::TooLong),
+        CertFault::BadCertificate(line) => at_line(FaultKind::BadCertificate, line),
+        CertFault::Memory => None,
     }
 }

@@ -5,10 +5,11 @@ ghost use Rattle.std.specs.Io.KnownBytes.{Appends};
 ghost use Rattle.hv_text.specs.Bytes.{lower};
 ghost use Rattle.hv_text.specs.Names.{text_of};
 ghost use Rattle.hv_text.specs.Io.{AppendsBeginning};
-ghost use Rattle.hv_judge.specs.Text.{line_text, place_text, ids_text, names_text, children_text, objects_text, choice_text, root_text, node_text, nodes_text, certificate_text, cause_text, fault_text, verdict_text, explanation, answer_text};
+ghost use Rattle.hv_certificate.specs.Texts.{ids_text, names_text, children_text, objects_text, choice_text, root_text, node_text, nodes_text, certificate_text};
+ghost use Rattle.hv_judge.specs.Text.{line_text, place_text, cause_text, fault_text, verdict_text, explanation, answer_text};
 
 use crate::answer::{Answer, Cause, Fault, Place, Which};
-use hv_order::certificate::{Certificate, Choice};
+use hv_certificate::{Certificate, Choice};
 use hv_text::{Name, Sink, WriteFault, write_all, write_parts};
 use itoa::Buffer;
 

@@ -40,9 +40,9 @@ returns-clause-ok c =
     spelled c.args.domain.now c.args.problem.now c.args.plan.now 0
     (world_view c.in_ok-world.world) (plan_view c.in_ok-plan.plan)
     (sym c.first_too_long.ensures ∙ c.in_default.is) c.in_ok-world.ensures.ok
-    c.in_ok-plan.ensures.ok (λ w q. Tells (SolvesBy w q c.args.certificate.now) c.in_ok-check_plan.field-0) c.in_ok-check_plan.ensures
+    c.in_ok-plan.ensures.ok (λ w q. Tells (SolvesBy w q c.args.certificate.now) c.in_ok-found.found.certified) c.in_ok-found.ensures.certified
 
-pub returns-in_err-check_plan-clause-err : goal.returns-in_err-check_plan-clause-err
-returns-in_err-check_plan-clause-err c =
-    let p = err_from_is_err_and c.from_residual-in_err-check_plan.result c.from_residual-in_err-check_plan.ensures.1 in
+pub returns-in_err-found-clause-err : goal.returns-in_err-found-clause-err
+returns-in_err-found-clause-err c =
+    let p = err_from_is_err_and c.from_residual-in_err-found.result c.from_residual-in_err-found.ensures.1 in
     rw (p.1, p.2) tt

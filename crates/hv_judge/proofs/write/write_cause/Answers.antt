@@ -1,6 +1,7 @@
 use Rattle.std.proofs.Common.{rules, [], ◌∷◌, codes, decimal}
 use Rattle.hv_judge.specs.Kinds.{cause_number, cause_name}
-use Rattle.hv_judge.specs.Text.{joined, line_text}
+use Rattle.hv_certificate.specs.Texts.{joined}
+use Rattle.hv_judge.specs.Text.{line_text}
 use Rattle.hv_judge.proofs.WriteLemmas.{first_fails, on_err, then_err}
 use Rattle.hv_judge.proofs.write.write_cause.Goals as goal
 

@@ -1,5 +1,5 @@
 use Rattle.std.proofs.Common.{rules}
-use Rattle.hv_judge.specs.Text.{root_text, nodes_text}
+use Rattle.hv_certificate.specs.Texts.{root_text, nodes_text}
 use Rattle.hv_judge.proofs.WriteLemmas.{first_fails, on_err, then_err, then_ok}
 use Rattle.hv_judge.proofs.write.write_certificate.Goals as goal
 

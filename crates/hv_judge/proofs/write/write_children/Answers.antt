@@ -1,5 +1,5 @@
 use Rattle.std.proofs.Common.{rules, codes}
-use Rattle.hv_judge.specs.Text.{ids_text}
+use Rattle.hv_certificate.specs.Texts.{ids_text}
 use Rattle.hv_judge.proofs.WriteLemmas.{first_fails, on_err, then_err}
 use Rattle.hv_judge.proofs.write.write_children.Goals as goal
 

@@ -1,5 +1,5 @@
 use Rattle.std.proofs.Common.{rules}
-use Rattle.hv_judge.specs.Text.{children_text, objects_text}
+use Rattle.hv_certificate.specs.Texts.{children_text, objects_text}
 use Rattle.hv_judge.proofs.WriteLemmas.{first_fails, on_err, then_err}
 use Rattle.hv_judge.proofs.write.write_choice.Goals as goal
 

@@ -1,6 +1,7 @@
 use Rattle.std.proofs.Common.{rules, [], ◌∷◌, codes, decimal}
 use Rattle.hv_judge.specs.Kinds.{which_name, fault_number, fault_name}
-use Rattle.hv_judge.specs.Text.{joined, place_text}
+use Rattle.hv_certificate.specs.Texts.{joined}
+use Rattle.hv_judge.specs.Text.{place_text}
 use Rattle.hv_judge.proofs.WriteLemmas.{first_fails, on_err, then_err}
 use Rattle.hv_judge.proofs.write.write_fault.Goals as goal
 

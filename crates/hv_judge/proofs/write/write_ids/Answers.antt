@@ -1,5 +1,5 @@
 use Rattle.std.proofs.Common.{rules}
-use Rattle.hv_judge.specs.Text.{id_text}
+use Rattle.hv_certificate.specs.Texts.{id_text}
 use Rattle.hv_judge.proofs.WriteLemmas.{item_fails, on_err}
 use Rattle.hv_judge.proofs.write.write_ids.Goals as goal
 

@@ -1,6 +1,6 @@
 use Rattle.std.proofs.Common.{◌≡◌, take}
 use Rattle.std.specs.Io.KnownBytes.{Appends}
-use Rattle.hv_judge.specs.Text.{ids_text}
+use Rattle.hv_certificate.specs.Texts.{ids_text}
 use Rattle.hv_judge.proofs.write.write_ids.Given as goal
 
 -- the texts so far were written, and no write failed

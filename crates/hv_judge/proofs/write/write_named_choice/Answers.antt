@@ -1,5 +1,5 @@
 use Rattle.std.proofs.Common.{rules}
-use Rattle.hv_judge.specs.Text.{choice_text}
+use Rattle.hv_certificate.specs.Texts.{choice_text}
 use Rattle.hv_judge.proofs.WriteLemmas.{first_fails, on_err, then_err}
 use Rattle.hv_judge.proofs.write.write_named_choice.Goals as goal
 

@@ -1,6 +1,6 @@
 use Rattle.std.proofs.Common.{◌≡◌, take}
 use Rattle.std.specs.Io.KnownBytes.{Appends}
-use Rattle.hv_judge.specs.Text.{names_text}
+use Rattle.hv_certificate.specs.Texts.{names_text}
 use Rattle.hv_judge.proofs.write.write_names.Given as goal
 
 -- the texts so far were written, and no write failed

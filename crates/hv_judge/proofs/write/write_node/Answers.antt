@@ -1,5 +1,5 @@
 use Rattle.std.proofs.Common.{rules, [], ◌∷◌, ◌++◌, codes, decimal}
-use Rattle.hv_judge.specs.Text.{choice_text, joined}
+use Rattle.hv_certificate.specs.Texts.{choice_text, joined}
 use Rattle.hv_judge.proofs.WriteLemmas.{first_fails, on_err, then_err}
 use Rattle.hv_judge.proofs.write.write_node.Goals as goal
 

@@ -1,5 +1,5 @@
 use Rattle.std.proofs.Common.{ap}
-use Rattle.hv_judge.specs.Text.{node_text}
+use Rattle.hv_certificate.specs.Texts.{node_text}
 use Rattle.hv_judge.proofs.WriteLemmas.{item_fails, on_err}
 use Rattle.hv_judge.proofs.write.write_nodes.Goals as goal
 

@@ -1,6 +1,6 @@
 use Rattle.std.proofs.Common.{◌≡◌, take}
 use Rattle.std.specs.Io.KnownBytes.{Appends}
-use Rattle.hv_judge.specs.Text.{nodes_text}
+use Rattle.hv_certificate.specs.Texts.{nodes_text}
 use Rattle.hv_judge.proofs.write.write_nodes.Given as goal
 
 -- the texts so far were written, and no write failed

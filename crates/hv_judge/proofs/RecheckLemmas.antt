@@ -1,0 +1,102 @@
+-- What the check of a certificate's text answers, and what is written of it.
+use Rattle.std.proofs.Common.{◌≡◌, ◌<◌, ◌≤◌, ℕ, Bool, true, false, List, Option, None, length, sym, subst, arith}
+use Rattle.hv_text.specs.Io.{IsRead, IsReadFault}
+use Rattle.hv_text.specs.declared.fault.TheConstants.{MOST_BYTES}
+use Rattle.hv_text.specs.declared.io.ReadFault.{ReadFault}
+use Rattle.hv_certificate.specs.Forms.{IsCertFault}
+use Rattle.hv_certificate.specs.declared.fault.CertFault.{CertFault}
+use Rattle.hv_certificate.specs.declared.fault.CertFault.TheVariants as certificates
+use Rattle.hv_judge.specs.declared.answer.Fault.{Fault}
+use Rattle.hv_judge.specs.declared.answer.FaultKind.TheVariants as faults
+use Rattle.hv_judge.specs.declared.answer.Which.{Which}
+use Rattle.hv_judge.specs.declared.checking.Recheck.{Recheck}
+use Rattle.hv_judge.specs.declared.not_solved.NotSolved.{NotSolved}
+use Rattle.hv_judge.specs.declared.not_solved.NotSolved.TheVariants.{Rejected, Fails, Undecided, Memory}
+use Rattle.hv_judge.specs.declared.rechecking.RecheckKind.{RecheckKind}
+use Rattle.hv_judge.specs.declared.rechecking.RecheckKind.TheVariants as kinds
+use Rattle.hv_judge.specs.declared.running.RunFault.{RunFault}
+use Rattle.hv_judge.specs.Checked.{Rechecked, IsRejectedOfFour, not_judged, not_of_form, IsRecheckFault}
+use Rattle.hv_judge.specs.Prints.{rejection}
+use Rattle.hv_judge.specs.Rechecks.{IsRecheckLine, says_certified, says_not_certified, says_rejected, found_kind, found_line, IsFoundLine, IsRejectionLine, IsUnreadLine}
+use Rattle.hv_judge.specs.Rechecks.{IsRecheckFrom, text_read, text_too_long, IsHaltFrom, text_failed, text_given}
+use Rattle.hv_judge.specs.Rejections.{first_too_long, fault_nowhere}
+use Rattle.hv_judge.specs.Runs.{IsFailureOf}
+use Rattle.hv_judge.specs.Verdicts.{IsSpelledAs, Judged}
+use Rattle.hv_judge.specs.inside.CheckEnds.{check_end, cert_end}
+use Rattle.hv_judge.specs.inside.Ends.{Ends}
+use Rattle.hv_judge.proofs.RunLemmas.{failed_read}
+
+module _ (domain problem plan cert : List ℕ) where
+  -- a rejection of one of the three texts is that of the judge
+  pub judged_ends : (e : NotSolved) → first_too_long domain problem plan ≡ None
+      → length cert ≤ MOST_BYTES → Ends (Judged domain problem plan 0) e
+      → IsRecheckFault domain problem plan cert (check_end e)
+  judged_ends (Rejected w f) short few h = not_judged w f short few h
+  judged_ends (Fails c) short few h = tt
+  judged_ends (Undecided l) short few h = tt
+  judged_ends Memory short few h = tt
+
+  -- that of the certificate is for a line
+  pub cert_ends : (f : CertFault) → length cert ≤ MOST_BYTES
+      → IsSpelledAs domain problem plan (λ w q. Unit {0}) → IsCertFault cert f
+      → IsRecheckFault domain problem plan cert (cert_end f)
+  cert_ends certificates.TooLong few spelled h =
+      absurd (let long : MOST_BYTES < length cert = h in omega (arith, few, long))
+  cert_ends (certificates.BadCertificate line) few spelled h = not_of_form line spelled h
+  cert_ends certificates.Memory few spelled h = tt
+
+  -- a line of a kind
+  as_line : (k x : RecheckKind) (line bytes : List ℕ) → k ≡ x → line ≡ bytes
+      → IsRecheckLine domain problem plan cert x bytes → IsRecheckLine domain problem plan cert k line
+  as_line k x line bytes same equal h =
+      subst (λ y. IsRecheckLine domain problem plan cert y line) (sym same)
+      (subst (λ y. IsRecheckLine domain problem plan cert x y) (sym equal) h)
+
+  found_by : (b : Bool) (n : ℕ)
+      → Rechecked domain problem plan cert (record { certified = b; evaluated = n })
+      → (k : RecheckKind) (line : List ℕ) → IsFoundLine b k line
+      → IsRecheckLine domain problem plan cert k line
+  found_by true n h k line (kind, is) = as_line k kinds.Certified line (found_line true) kind is (says_certified n h)
+  found_by false n h k line (kind, is) = as_line k kinds.NotCertified line (found_line false) kind is (says_not_certified n h)
+
+  pub found_as : (r : Recheck) → Rechecked domain problem plan cert r
+      → (k : RecheckKind) (line : List ℕ) → IsFoundLine r.certified k line
+      → IsRecheckLine domain problem plan cert k line
+  found_as r h k line is = found_by r.certified r.evaluated h k line is
+
+  pub rejected_as : (w : Which) (f : Fault) → IsRejectedOfFour domain problem plan cert w f
+      → (k : RecheckKind) (line : List ℕ) → IsRejectionLine w f k line
+      → IsRecheckLine domain problem plan cert k line
+  rejected_as w f h k line (kind, is) = as_line k kinds.Rejected line (rejection w f) kind is (says_rejected w f h)
+
+-- a reader that gave its text, of which `handed` is what was handed on
+pub from_read : {R : Type 0} (w : Which) (left : R → Option (List ℕ)) (r r' : R) (Alone : Type 0)
+    (Next : List ℕ → RecheckKind → List ℕ → Type 0) (text handed : List ℕ) → handed ≡ text
+    → IsRead (left r) (left r') MOST_BYTES text
+    → (k : RecheckKind) (line : List ℕ) → Next handed k line → IsRecheckFrom w left r r' Alone Next k line
+from_read w left r r' Alone Next text handed e read k line h =
+    text_read text k line read (subst (λ t. Next t k line) e h)
+
+-- one that gave too much
+pub from_unread : {R : Type 0} (w : Which) (left : R → Option (List ℕ)) (r r' : R) (Alone : Type 0)
+    (Next : List ℕ → RecheckKind → List ℕ → Type 0) (fault : ReadFault)
+    → IsReadFault (left r) (left r') MOST_BYTES fault → Alone
+    → (k : RecheckKind) (line : List ℕ) → IsUnreadLine w fault k line
+    → IsRecheckFrom w left r r' Alone Next k line
+from_unread w left r r' Alone Next fault h alone k line (long, (kind, is)) =
+    subst (λ x. IsRecheckFrom w left r r' Alone Next x line) (sym kind)
+    (subst (λ y. IsRecheckFrom w left r r' Alone Next kinds.Rejected y) (sym is)
+    (text_too_long (subst (IsReadFault (left r) (left r') MOST_BYTES) long h) alone))
+
+-- the same where nothing is written
+pub halt_read : {R : Type 0} (w : Which) (left : R → Option (List ℕ)) (r r' : R) (Alone : Type 0)
+    (Next : RunFault → Type 0) (text : List ℕ) → IsRead (left r) (left r') MOST_BYTES text
+    → (f : RunFault) → Next f → IsHaltFrom w left r r' Alone Next f
+halt_read w left r r' Alone Next text read f h = text_given text f read h
+
+pub halt_unread : {R : Type 0} (w : Which) (left : R → Option (List ℕ)) (r r' : R) (Alone : Type 0)
+    (Next : RunFault → Type 0) (fault : ReadFault)
+    → IsReadFault (left r) (left r') MOST_BYTES fault → Alone
+    → (f : RunFault) → IsFailureOf w fault f → IsHaltFrom w left r r' Alone Next f
+halt_unread w left r r' Alone Next fault h alone f is =
+    text_failed f (failed_read w (left r) (left r') fault h f is) alone

@@ -1,0 +1,14 @@
+use Rattle.hv_judge.proofs.LawPlans.{LawsOfPlans}
+use Rattle.hv_judge.proofs.LawAnswers.{a_certified, explained}
+use Rattle.hv_judge.proofs.law.a_certificate_of_a_solution.Goals as goal
+
+pub returns : goal.returns
+returns c =
+    let laws : LawsOfPlans = record {
+      one_tree = c.a_plan_has_one_tree.ensures;
+      no_cause = c.a_tree_or_a_cause.ensures.no_cause;
+      one_cause = c.a_tree_or_a_cause.ensures.one_cause;
+      one_count = c.counts_are_one.ensures;
+      certified = c.certified_plans_are_solved.ensures;
+    } in
+    record { certified = a_certified laws; explained = explained }

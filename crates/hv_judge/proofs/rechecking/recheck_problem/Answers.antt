@@ -1,0 +1,30 @@
+use Rattle.std.proofs.Common.{refl}
+use Rattle.hv_judge.specs.declared.answer.Which.TheVariants as texts
+use Rattle.hv_judge.proofs.PrintingLemmas.{print_as}
+use Rattle.hv_judge.proofs.RunLemmas.{halted_as}
+use Rattle.hv_judge.proofs.RecheckLemmas.{from_read, from_unread, halt_read, halt_unread}
+use Rattle.hv_judge.proofs.rechecking.recheck_problem.Goals as goal
+
+pub returns-in-Ok-clause-wrote : goal.returns-in-Ok-clause-wrote
+returns-in-Ok-clause-wrote g c =
+    print_as _ _ g.W.Sink.taken _ _ c.recheck_plan.result
+    (from_read texts.Problem g.B.Source.left c.args.problem.now c.read_all.new.reader _ _ c.in-Ok.problem.items _ c.deref.ensures.value c.in-Ok.ensures.ok)
+    c.recheck_plan.ensures.wrote
+
+pub returns-in-Err-clause-wrote : goal.returns-in-Err-clause-wrote
+returns-in-Err-clause-wrote g c =
+    print_as _ _ g.W.Sink.taken _ _ c.reject_unread.result
+    (from_unread texts.Problem g.B.Source.left c.args.problem.now c.read_all.new.reader _ _ c.in-Err.fault c.in-Err.ensures.err (refl, refl))
+    c.reject_unread.ensures.wrote
+
+pub returns-in-Ok-clause-halted : goal.returns-in-Ok-clause-halted
+returns-in-Ok-clause-halted g c =
+    halted_as _ _ c.recheck_plan.result
+    (halt_read texts.Problem g.B.Source.left c.args.problem.now c.read_all.new.reader _ _ c.in-Ok.problem.items c.in-Ok.ensures.ok)
+    c.recheck_plan.ensures.halted
+
+pub returns-in-Err-clause-halted : goal.returns-in-Err-clause-halted
+returns-in-Err-clause-halted g c =
+    halted_as _ _ c.reject_unread.result
+    (halt_unread texts.Problem g.B.Source.left c.args.problem.now c.read_all.new.reader _ _ c.in-Err.fault c.in-Err.ensures.err (refl, refl))
+    c.reject_unread.ensures.halted
