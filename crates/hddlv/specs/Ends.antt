@@ -2,8 +2,9 @@
 use Rattle.std.specs.Prelude.{ℕ, List, [], ◌++◌, codes}
 use Rattle.hv_judge.specs.declared.answer.Kind.TheVariants as kinds
 use Rattle.hv_judge.specs.declared.printing.Printed.TheVariants as printed
+use Rattle.hv_judge.specs.declared.rechecking.RecheckKind.TheVariants as rechecked
 use Rattle.hddlv.specs.declared.end.End.{End}
-use Rattle.hddlv.specs.declared.end.End.TheVariants.{Judged, Printed, Words, NotUtf8, Missing, CannotRead, CannotWrite, OutOfMemory}
+use Rattle.hddlv.specs.declared.end.End.TheVariants.{Judged, Rechecked, Printed, Words, NotUtf8, Missing, CannotRead, CannotWrite, OutOfMemory}
 
 -- the exit status
 abbrev pub status_of : End → ℕ
@@ -11,6 +12,9 @@ status_of (Judged kinds.Solves) = 0
 status_of (Judged kinds.Fails) = 1
 status_of (Judged kinds.Undecided) = 2
 status_of (Judged kinds.Rejected) = 3
+status_of (Rechecked rechecked.Certified) = 0
+status_of (Rechecked rechecked.NotCertified) = 1
+status_of (Rechecked rechecked.Rejected) = 3
 status_of (Printed printed.Done) = 0
 status_of (Printed printed.Rejected) = 3
 status_of Words = 4
@@ -23,6 +27,7 @@ status_of OutOfMemory = 5
 -- the line on standard error
 abbrev pub line_of : End → List ℕ
 line_of (Judged kind) = []
+line_of (Rechecked kind) = []
 line_of (Printed end) = []
 line_of Words = []
 line_of NotUtf8 = codes "hddlv: a word of the command line is not UTF-8\n"

@@ -7,11 +7,12 @@ use Rattle.clap.specs.declared.builder.ArgAction.TheVariants.{SetTrue}
 use Rattle.clap.specs.declared.builder.value_parser.ValueParser.TheVariants as parser
 use Rattle.hddlv.specs.declared.task.Job.{Job}
 use Rattle.hddlv.specs.declared.task.Mode.{Mode}
-use Rattle.hddlv.specs.declared.task.Mode.TheVariants.{Judge, PrintDomain, PrintProblem, PrintPlan}
+use Rattle.hddlv.specs.declared.task.Mode.TheVariants.{Judge, Recheck, PrintDomain, PrintProblem, PrintPlan}
 
 -- the name of the command of a mode
 abbrev pub command_of : Mode → Text
 command_of Judge = codes "judge"
+command_of Recheck = codes "recheck"
 command_of PrintDomain = codes "print-domain"
 command_of PrintProblem = codes "print-problem"
 command_of PrintPlan = codes "print-plan"
@@ -28,10 +29,17 @@ limit_rule = record (new_rule (codes "limit")) { long = Some (codes "limit"); de
 abbrev pub explain_rule : Rule
 explain_rule = record (new_rule (codes "explain")) { long = Some (codes "explain"); action = Some SetTrue }
 
+-- a command, given the files of a domain, a problem and a plan
+abbrev pub with_plan_rules : App → App
+with_plan_rules app = with_rule (with_rule (with_rule app (file_rule (codes "domain"))) (file_rule (codes "problem"))) (file_rule (codes "plan"))
+
 -- `judge [--limit N] [--explain] DOMAIN PROBLEM PLAN`
 abbrev pub judge_line : App
-judge_line = with_rule (with_rule (with_rule (with_rule (with_rule (new_app (command_of Judge)) limit_rule) explain_rule)
-    (file_rule (codes "domain"))) (file_rule (codes "problem"))) (file_rule (codes "plan"))
+judge_line = with_plan_rules (with_rule (with_rule (new_app (command_of Judge)) limit_rule) explain_rule)
+
+-- `recheck DOMAIN PROBLEM PLAN CERTIFICATE`
+abbrev pub recheck_line : App
+recheck_line = with_rule (with_plan_rules (new_app (command_of Recheck))) (file_rule (codes "certificate"))
 
 -- `print-domain FILE` and its like
 abbrev pub print_line : Text → App
@@ -40,9 +48,9 @@ print_line name = with_rule (new_app name) (file_rule (codes "file"))
 -- the whole command, of which one subcommand must be named; it has a version
 abbrev pub line : App
 line =
-    with_subcommand (with_subcommand (with_subcommand (with_subcommand
+    with_subcommand (with_subcommand (with_subcommand (with_subcommand (with_subcommand
     (record (new_app (codes "hddlv")) { top = record (new_app (codes "hddlv")).top { has_version = true; subcommand_required = true } })
-    judge_line.top) (print_line (command_of PrintDomain)).top) (print_line (command_of PrintProblem)).top) (print_line (command_of PrintPlan)).top
+    judge_line.top) recheck_line.top) (print_line (command_of PrintDomain)).top) (print_line (command_of PrintProblem)).top) (print_line (command_of PrintPlan)).top
 
 -- the number is what the text of `--limit` spells
 abbrev pub HasLimit : List Row → ℕ → Type 0
@@ -51,6 +59,7 @@ HasLimit rows limit = (t : Text) × (one_of (codes "limit") rows ≡ Some t) × 
 -- the arguments that name the files of a mode, in their order
 abbrev pub file_arguments : Mode → List Text
 file_arguments Judge = codes "domain" ∷ codes "problem" ∷ codes "plan" ∷ []
+file_arguments Recheck = codes "domain" ∷ codes "problem" ∷ codes "plan" ∷ codes "certificate" ∷ []
 file_arguments _ = codes "file" ∷ []
 
 -- the files of the job are the values of these arguments

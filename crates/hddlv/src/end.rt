@@ -5,7 +5,7 @@ ghost use Rattle.std.specs.Io.KnownBytes.{Appends};
 ghost use Rattle.hv_text.specs.Io.{AppendsBeginning};
 ghost use Rattle.hddlv.specs.Ends.{status_of, line_of};
 
-use hv_judge::{Kind, Printed};
+use hv_judge::{Kind, Printed, RecheckKind};
 use hv_text::{Sink, WriteFault, write_all, write_parts};
 
 /// How a run of the program ends.
@@ -13,6 +13,8 @@ use hv_text::{Sink, WriteFault, write_all, write_parts};
 pub enum End<'a> {
     /// A verdict of this kind was written.
     Judged(Kind),
+    /// What was said of a certificate was written.
+    Rechecked(RecheckKind),
     /// A canonical text was written, or the line of a rejection.
     Printed(Printed),
     /// The words of the command line do not parse, or ask for help or the version; their text was written.
@@ -23,22 +25,26 @@ pub enum End<'a> {
     Missing,
     /// The file of this name cannot be opened or read.
     CannotRead(&'a str),
-    /// The verdict or the canonical text cannot be written.
+    /// The answer or the canonical text cannot be written.
     CannotWrite,
     /// A growth of memory was refused.
     OutOfMemory,
 }
 
-/// The exit status: 0 for a plan that solves its problem or a text that was printed, 1 for one that fails, 2 for undecided, 3 for a rejected text, 4 for words that
-/// name no job, and 5 where a file, the output or memory failed.
+/// The exit status: 0 for a plan that solves its problem, a certificate that is right or a text that was printed, 1 for a plan that fails or a certificate that is not
+/// right, 2 for undecided, 3 for a rejected text, 4 for words that name no job, and 5 where a file, the output or memory failed.
 pub fn status(end: &End<'_>) -> u8
     ensures { result ≡ status_of end.now }
 {
     match end {
-        End::Judged(Kind::Solves) | End::Printed(Printed::Done) => 0,
-        End::Judged(Kind::Fails) => 1,
+        End::Judged(Kind::Solves)
+        | End::Rechecked(RecheckKind::Certified)
+        | End::Printed(Printed::Done) => 0,
+        End::Judged(Kind::Fails) | End::Rechecked(RecheckKind::NotCertified) => 1,
         End::Judged(Kind::Undecided) => 2,
-        End::Judged(Kind::Rejected) | End::Printed(Printed::Rejected) => 3,
+        End::Judged(Kind::Rejected)
+        | End::Rechecked(RecheckKind::Rejected)
+        | End::Printed(Printed::Rejected) => 3,
         End::Words | End::NotUtf8 | End::Missing => 4,
         End::CannotRead(_) | End::CannotWrite | End::OutOfMemory => 5,
     }
@@ -64,6 +70,6 @@ pub fn write_end<W: Sink>(end: &End<'_>, out: &mut W) -> Result<(), WriteFault>
         ),
         End::CannotWrite => write_all(out, b"hddlv: cannot write\n"),
         End::OutOfMemory => write_all(out, b"hddlv: out of memory\n"),
-        End::Judged(_) | End::Printed(_) | End::Words => Ok(()),
+        End::Judged(_) | End::Rechecked(_) | End::Printed(_) | End::Words => Ok(()),
     }
 }

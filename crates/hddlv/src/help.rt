@@ -9,10 +9,10 @@ pub const PROGRAM_END: &str =
     "Domains and problems are read in HDDL, and plans with their decomposition trees in\n\
     the format of the International Planning Competition 2020.\n\n\
     Example:\n  hddlv judge domain.hddl problem.hddl plan.txt\n\n\
-    Exit status:\n  0  the plan solves the problem, or the text was printed\n  \
-    1  the plan fails\n  \
+    Exit status:\n  0  the plan solves the problem, the certificate is right, or the text was printed\n  \
+    1  the plan fails, or the certificate is not right\n  \
     2  undecided\n  \
-    3  the domain, the problem or the plan is rejected\n  \
+    3  the domain, the problem, the plan or the certificate is rejected\n  \
     4  the command line was not understood, or help was asked for\n  \
     5  a file could not be read, the answer not written, or memory ran out";
 
@@ -31,6 +31,22 @@ pub const JUDGE_END: &str =
     the number of actions after which its precondition is tested.\n\n\
     Examples:\n  hddlv judge domain.hddl problem.hddl plan.txt\n  \
     hddlv judge --limit 1000000000 --explain domain.hddl problem.hddl plan.txt";
+
+/// What the command `recheck` does.
+pub const RECHECK: &str = "Check the certificate of a plan, without search";
+
+/// What stands below the options of `recheck`.
+pub const RECHECK_END: &str =
+    "Writes one line, of which these are the forms, each with its exit status:\n  \
+    certified                        0  by this certificate the plan solves the problem\n  \
+    not certified                    1  by this certificate it does not\n  \
+    rejected TEXT NUMBER NAME PLACE  3  this text is not written as it should be\n\n\
+    The certificate is what judge --explain writes of a plan that solves its problem, with\n\
+    its first line. It says how each line of the plan is matched with its method, so that\n\
+    nothing is searched for and there is no limit.\n\n\
+    Example:\n  \
+    hddlv judge --explain domain.hddl problem.hddl plan.txt > certificate.txt\n  \
+    hddlv recheck domain.hddl problem.hddl plan.txt certificate.txt";
 
 /// What `--limit` is.
 pub const LIMIT: &str = "The most ways to match a line of the plan with its method";

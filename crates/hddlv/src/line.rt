@@ -3,7 +3,7 @@
 ghost use Rattle.std.specs.Prelude.{◌≡◌, ◌↔◌, ◌∷◌, [], codes, map, IfOk, IfSome, Some, true, false, string_bytes};
 ghost use Rattle.clap.specs.Words.{app_of, subcommand_of, rule_of, rows_of, found_of, first_of, with_rule, with_subcommand};
 ghost use Rattle.clap.specs.declared.builder.command.Command.TheViews.{out-Command};
-ghost use Rattle.hddlv.specs.Line.{line, judge_line, print_line, limit_rule, explain_rule, file_rule, command_of, file_arguments, HasFiles, HasLimit, HasOptions, IsJobOf};
+ghost use Rattle.hddlv.specs.Line.{line, judge_line, recheck_line, print_line, limit_rule, explain_rule, file_rule, with_plan_rules, command_of, file_arguments, HasFiles, HasLimit, HasOptions, IsJobOf};
 
 use crate::help;
 use crate::task::{Job, JobFault, Mode};
@@ -54,6 +54,20 @@ fn with_command<'a>(above: Command<'a>, command: Command<'a>) -> Result<Command<
     above.subcommand(command)
 }
 
+// The command, given the files of a plan: its domain, its problem and the plan itself.
+fn with_plan_args<'a>(alloc: Global, command: Command<'a>) -> Result<Command<'a>, AllocError>
+    ensures app { IfOk result (λ c. app_of c ≡ with_plan_rules (app_of command.entry)) }
+    ensures local { IfOk result (λ c. (out-Command c).has_globals ≡ (out-Command command.entry).has_globals) }
+{
+    let command = with_arg(command, file_arg(alloc, "domain", "The domain, in HDDL"))?;
+    let command = with_arg(command, file_arg(alloc, "problem", "The problem, in HDDL"))?;
+    let command = with_arg(
+        command,
+        file_arg(alloc, "plan", "The plan, with its decomposition tree"),
+    )?;
+    Ok(command)
+}
+
 fn judge_command<'a>(alloc: Global) -> Result<Command<'a>, AllocError>
     ensures app { IfOk result (λ c. app_of c ≡ judge_line) }
     ensures local { IfOk result (λ c. (out-Command c).has_globals ≡ false) }
@@ -63,11 +77,25 @@ fn judge_command<'a>(alloc: Global) -> Result<Command<'a>, AllocError>
         .after_help(help::JUDGE_END);
     let command = with_arg(command, limit_arg(alloc))?;
     let command = with_arg(command, explain_arg(alloc))?;
-    let command = with_arg(command, file_arg(alloc, "domain", "The domain, in HDDL"))?;
-    let command = with_arg(command, file_arg(alloc, "problem", "The problem, in HDDL"))?;
+    let command = with_plan_args(alloc, command)?;
+    Ok(command)
+}
+
+fn recheck_command<'a>(alloc: Global) -> Result<Command<'a>, AllocError>
+    ensures app { IfOk result (λ c. app_of c ≡ recheck_line) }
+    ensures local { IfOk result (λ c. (out-Command c).has_globals ≡ false) }
+{
+    let command = Command::new(alloc, "recheck")
+        .about(help::RECHECK)
+        .after_help(help::RECHECK_END);
+    let command = with_plan_args(alloc, command)?;
     let command = with_arg(
         command,
-        file_arg(alloc, "plan", "The plan, with its decomposition tree"),
+        file_arg(
+            alloc,
+            "certificate",
+            "The certificate, as judge --explain writes it",
+        ),
     )?;
     Ok(command)
 }
@@ -95,6 +123,7 @@ fn command<'a>(alloc: Global) -> Result<Command<'a>, AllocError>
         .version("0.1.0")
         .subcommand_required(true);
     let command = with_command(command, judge_command(alloc)?)?;
+    let command = with_command(command, recheck_command(alloc)?)?;
     let command = with_command(
         command,
         print_command(
@@ -167,6 +196,24 @@ fn judge_job(alloc: Global, matches: &ArgMatches<'_>) -> Result<Job, JobFault>
     })
 }
 
+fn recheck_job(alloc: Global, matches: &ArgMatches<'_>) -> Result<Job, JobFault>
+    ensures named { IfOk result (λ job. command_of job.mode ≡ codes "recheck") }
+    ensures files { IfOk result (λ job. HasFiles (file_arguments job.mode) (rows_of (found_of matches.now)) job) }
+    ensures options { IfOk result (λ job. HasOptions job.mode (rows_of (found_of matches.now)) job) }
+{
+    let domain = text_of(alloc, matches, "domain")?;
+    let problem = text_of(alloc, matches, "problem")?;
+    let plan = text_of(alloc, matches, "plan")?;
+    let certificate = text_of(alloc, matches, "certificate")?;
+    let files = vec![in alloc; domain, problem, plan, certificate]?;
+    Ok(Job {
+        mode: Mode::Recheck,
+        files,
+        limit: 1_000_000,
+        explain: false,
+    })
+}
+
 // The job of a command that prints a text, which has neither a limit nor a certificate.
 fn print_job(alloc: Global, mode: Mode, matches: &ArgMatches<'_>) -> Result<Job, JobFault>
     ensures named { IfOk result (λ job. job.mode ≡ mode) }
@@ -189,6 +236,7 @@ fn mode_of(name: &str) -> Option<Mode>
 {
     match name {
         "judge" => Some(Mode::Judge),
+        "recheck" => Some(Mode::Recheck),
         "print-domain" => Some(Mode::PrintDomain),
         "print-problem" => Some(Mode::PrintProblem),
         "print-plan" => Some(Mode::PrintPlan),
@@ -213,6 +261,7 @@ pub fn job<'a>(alloc: Global, words: &'a [&'a str]) -> Result<Job, JobFault>
     };
     match mode_of(name) {
         Some(Mode::Judge) => Ok(judge_job(alloc, inner)?),
+        Some(Mode::Recheck) => Ok(recheck_job(alloc, inner)?),
         Some(mode) => Ok(print_job(alloc, mode, inner)?),
         None => Err(JobFault::Missing),
     }

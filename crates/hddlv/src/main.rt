@@ -1,4 +1,4 @@
-//! The program: judges three files, or prints one.
+//! The program: judges three files, checks a certificate for them, or prints one.
 #![tactic(auto)]
 
 mod end;
@@ -8,13 +8,15 @@ mod task;
 #[cfg(test)]
 mod tests;
 
-ghost use Rattle.std.specs.Prelude.{◌≡◌, IfOk, length};
+ghost use Rattle.std.specs.Prelude.{◌≡◌, ◌≢◌, IfOk, IfErr, length};
 ghost use Rattle.std.specs.Process.{exit_status};
+ghost use Rattle.hv_judge.specs.declared.answer.Which.TheVariants as texts;
+ghost use Rattle.hv_judge.specs.declared.running.RunFault.TheVariants as faults;
 ghost use Rattle.hddlv.specs.Ends.{status_of};
 ghost use Rattle.hddlv.specs.Line.{file_arguments};
 
 use end::{End, status, write_end};
-use hv_judge::{Kind, RunFault, Which, run, run_print};
+use hv_judge::{Kind, RecheckKind, RunFault, Which, run, run_print, run_recheck};
 use hv_text::{FromReader, ToWriter};
 use line::job;
 use std::alloc::Global;
@@ -28,7 +30,7 @@ fn open<'a>(rt: &HostRuntime, name: &'a str) -> Result<File, &'a str> {
 }
 
 // The three files, opened in this order, or the name of the first that cannot be opened.
-fn open_all<'a>(
+fn open_three<'a>(
     rt: &HostRuntime,
     domain: &'a str,
     problem: &'a str,
@@ -40,13 +42,28 @@ fn open_all<'a>(
     Ok((domain, problem, plan))
 }
 
+// The four files, opened in this order, or the name of the first that cannot be opened.
+fn open_four<'a>(
+    rt: &HostRuntime,
+    domain: &'a str,
+    problem: &'a str,
+    plan: &'a str,
+    certificate: &'a str,
+) -> Result<(File, File, File, File), &'a str> {
+    let (domain, problem, plan) = open_three(rt, domain, problem, plan)?;
+    let certificate = open(rt, certificate)?;
+    Ok((domain, problem, plan, certificate))
+}
+
 // Judges open files and writes the verdict to standard output.
 fn judge_open(
     rt: &HostRuntime,
     files: (File, File, File),
     limit: u64,
     explain: bool,
-) -> Result<Kind, RunFault> {
+) -> Result<Kind, RunFault>
+    ensures { IfErr result (λ fault. fault ≢ faults.Read texts.Certificate) }
+{
     let (domain, problem, plan) = files;
     let mut domain = FromReader::new(domain);
     let mut problem = FromReader::new(problem);
@@ -69,7 +86,7 @@ fn judge_files<'a>(rt: &HostRuntime, job: &'a Job) -> End<'a>
     let [domain, problem, plan] = job.files.as_slice() else {
         unreachable!()
     };
-    let files = match open_all(rt, domain.as_str(), problem.as_str(), plan.as_str()) {
+    let files = match open_three(rt, domain.as_str(), problem.as_str(), plan.as_str()) {
         Ok(files) => files,
         Err(name) => return End::CannotRead(name),
     };
@@ -78,6 +95,55 @@ fn judge_files<'a>(rt: &HostRuntime, job: &'a Job) -> End<'a>
         Err(RunFault::Read(Which::Domain)) => End::CannotRead(domain.as_str()),
         Err(RunFault::Read(Which::Problem)) => End::CannotRead(problem.as_str()),
         Err(RunFault::Read(Which::Plan)) => End::CannotRead(plan.as_str()),
+        Err(RunFault::Read(Which::Certificate)) => unreachable!(),
+        Err(RunFault::Memory) => End::OutOfMemory,
+        Err(RunFault::Write) => End::CannotWrite,
+    }
+}
+
+// Checks an open certificate for open files and writes what was found to standard output.
+fn recheck_open(
+    rt: &HostRuntime,
+    files: (File, File, File, File),
+) -> Result<RecheckKind, RunFault> {
+    let (domain, problem, plan, certificate) = files;
+    let mut domain = FromReader::new(domain);
+    let mut problem = FromReader::new(problem);
+    let mut plan = FromReader::new(plan);
+    let mut certificate = FromReader::new(certificate);
+    let mut out = ToWriter::new(io::writer(rt));
+    run_recheck(
+        rt.alloc(),
+        &mut domain,
+        &mut problem,
+        &mut plan,
+        &mut certificate,
+        &mut out,
+    )
+}
+
+fn recheck_files<'a>(rt: &HostRuntime, job: &'a Job) -> End<'a>
+    requires { length job.now.files.items ≡ 4 }
+{
+    let [domain, problem, plan, certificate] = job.files.as_slice() else {
+        unreachable!()
+    };
+    let files = match open_four(
+        rt,
+        domain.as_str(),
+        problem.as_str(),
+        plan.as_str(),
+        certificate.as_str(),
+    ) {
+        Ok(files) => files,
+        Err(name) => return End::CannotRead(name),
+    };
+    match recheck_open(rt, files) {
+        Ok(kind) => End::Rechecked(kind),
+        Err(RunFault::Read(Which::Domain)) => End::CannotRead(domain.as_str()),
+        Err(RunFault::Read(Which::Problem)) => End::CannotRead(problem.as_str()),
+        Err(RunFault::Read(Which::Plan)) => End::CannotRead(plan.as_str()),
+        Err(RunFault::Read(Which::Certificate)) => End::CannotRead(certificate.as_str()),
         Err(RunFault::Memory) => End::OutOfMemory,
         Err(RunFault::Write) => End::CannotWrite,
     }
@@ -109,6 +175,7 @@ fn end_of<'a>(rt: &HostRuntime, job: &'a Job) -> End<'a>
 {
     match job.mode {
         Mode::Judge => judge_files(rt, job),
+        Mode::Recheck => recheck_files(rt, job),
         Mode::PrintDomain => print_file(rt, Which::Domain, job),
         Mode::PrintProblem => print_file(rt, Which::Problem, job),
         Mode::PrintPlan => print_file(rt, Which::Plan, job),

@@ -1,7 +1,7 @@
 use crate::end::{End, status, write_end};
 use crate::line::job;
 use crate::task::{Job, JobFault, Mode};
-use hv_judge::{Kind, Printed};
+use hv_judge::{Kind, Printed, RecheckKind};
 use hv_text::ToMemory;
 use std::alloc::{AllocError, Global};
 use std::test::Fail;
@@ -76,6 +76,31 @@ fn words_that_ask_for_a_verdict(rt: HostRuntime) -> Result<(), Fail> {
 }
 
 #[test]
+fn words_that_ask_for_a_recheck(rt: HostRuntime) -> Result<(), Fail> {
+    let alloc = rt.alloc();
+    assert_eq!(rt;
+        named(alloc, &["hddlv", "recheck", "d", "p", "q", "c"]),
+        plain(alloc, Mode::Recheck, &["d", "p", "q", "c"])?
+    );
+    assert!(rt; is_refused(alloc, &["hddlv", "recheck"]));
+    assert!(rt; is_refused(alloc, &["hddlv", "recheck", "d", "p", "q"]));
+    assert!(rt; is_refused(alloc, &["hddlv", "recheck", "d", "p", "q", "c", "r"]));
+    assert!(rt;
+        is_refused(
+            alloc,
+            &["hddlv", "recheck", "--explain", "d", "p", "q", "c"]
+        )
+    );
+    assert!(rt;
+        is_refused(
+            alloc,
+            &["hddlv", "recheck", "--limit", "9", "d", "p", "q", "c"]
+        )
+    );
+    Ok(())
+}
+
+#[test]
 fn words_that_ask_for_a_canonical_text(rt: HostRuntime) -> Result<(), Fail> {
     let alloc = rt.alloc();
     for (command, mode) in [
@@ -127,6 +152,9 @@ fn ends(rt: HostRuntime) -> Result<(), Fail> {
         (End::Judged(Kind::Fails), 1, ""),
         (End::Judged(Kind::Undecided), 2, ""),
         (End::Judged(Kind::Rejected), 3, ""),
+        (End::Rechecked(RecheckKind::Certified), 0, ""),
+        (End::Rechecked(RecheckKind::NotCertified), 1, ""),
+        (End::Rechecked(RecheckKind::Rejected), 3, ""),
         (End::Printed(Printed::Done), 0, ""),
         (End::Printed(Printed::Rejected), 3, ""),
         (End::Words, 4, ""),
