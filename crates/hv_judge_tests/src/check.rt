@@ -76,7 +76,9 @@ fn lines_missing_extra_or_in_another_order(rt: HostRuntime) -> Result<(), Fail> 
     Ok(())
 }
 
-const UP_AND_DOWN: &[u8] = b"==>\n1 up\n2 down\nroot 10 11\n10 x -> m-x 1 2\n11 y -> m-y\n<==\n";
+/// A plan in which a task is done in the middle of another.
+pub(crate) const UP_AND_DOWN: &[u8] =
+    b"==>\n1 up\n2 down\nroot 10 11\n10 x -> m-x 1 2\n11 y -> m-y\n<==\n";
 
 #[test]
 fn certificates_of_middle(rt: HostRuntime) -> Result<(), Fail> {
@@ -124,8 +126,8 @@ fn certificates_of_exchange(rt: HostRuntime) -> Result<(), Fail> {
     Ok(())
 }
 
-// A plan in which a line is a child twice.
-const TWO_PARENTS: &[u8] = b"==>\n1 up\n2 down\nroot 1 2 2\n<==\n";
+/// A plan in which a line is a child twice.
+pub(crate) const TWO_PARENTS: &[u8] = b"==>\n1 up\n2 down\nroot 1 2 2\n<==\n";
 
 #[test]
 fn plans_that_are_rejected_or_no_tree(rt: HostRuntime) -> Result<(), Fail> {

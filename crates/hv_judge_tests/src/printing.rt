@@ -1,5 +1,6 @@
 //! Texts that are printed anew, or rejected.
 
+use crate::rechecked::DELIVERED;
 use hv_judge::{Printed, Which, run_print};
 use hv_text::{FromMemory, ToMemory};
 use std::alloc::Global;
@@ -17,7 +18,7 @@ fn printed(alloc: Global, which: Which, text: &str) -> Result<(Printed, String),
     Ok((end, String::from_utf8_lossy(alloc, out.written())?))
 }
 
-const PRINTED_TEXTS: [(Which, &str, &str); 5] = [
+const PRINTED_TEXTS: [(Which, &str, &str); 6] = [
     (
         Which::Domain,
         "(define (domain FLIP) (:predicates (P)) (:action Flip :effect (p)))\n",
@@ -43,6 +44,7 @@ const PRINTED_TEXTS: [(Which, &str, &str); 5] = [
         "==>\n10 ( Deliver P B ) -> M-Deliver 007 11\nroot 10 00\n007 (DRIVE T1 A B) ; first\n0 stay -> m\n11 drop\n<==\n",
         "==>\n7 drive t1 a b\n11 drop\nroot 10 0\n10 deliver p b -> m-deliver 7 11\n0 stay -> m\n<==\n",
     ),
+    (Which::Certificate, DELIVERED, DELIVERED),
 ];
 
 // What was printed is printed as it is.
@@ -88,6 +90,11 @@ fn rejects_texts_that_are_not_printed(rt: HostRuntime) -> Result<(), Fail> {
             Which::Plan,
             "==>\nroot x\n<==\n",
             "rejected plan 42 BadLine line 2\n",
+        ),
+        (
+            Which::Certificate,
+            "solves\n",
+            "rejected certificate 70 BadCertificate line 2\n",
         ),
     ] {
         let (end, line) = printed(alloc, which, text)?;

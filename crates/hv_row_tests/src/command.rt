@@ -24,6 +24,12 @@ pub enum Command<'f> {
         plan: &'f [u8],
         options: Options,
     },
+    Recheck {
+        domain: &'f [u8],
+        problem: &'f [u8],
+        plan: &'f [u8],
+        certificate: &'f [u8],
+    },
     Print(Which, &'f [u8]),
 }
 
@@ -56,6 +62,12 @@ pub fn read_command<'f>(alloc: Global, texts: &Texts<'f>, line: &str) -> Result<
             problem: texts.find(Which::Problem, problem)?,
             plan: texts.find(Which::Plan, plan)?,
             options: read_options(options)?,
+        }),
+        ["recheck", domain, problem, plan, certificate] => Ok(Command::Recheck {
+            domain: texts.find(Which::Domain, domain)?,
+            problem: texts.find(Which::Problem, problem)?,
+            plan: texts.find(Which::Plan, plan)?,
+            certificate: texts.find(Which::Certificate, certificate)?,
         }),
         ["print-domain", name] => read_print(texts, Which::Domain, name),
         ["print-problem", name] => read_print(texts, Which::Problem, name),

@@ -1,17 +1,18 @@
-//! Judges and prints the worked rows of the files that are named, writes each answer, and
-//! compares it with the one that is wanted.
+//! Judges and prints the worked rows of the files that are named, checks their certificates, writes
+//! each answer, and compares it with the one that is wanted.
 //!
 //! A file of rows is cut into sections by lines that begin with `### `. What stands before the
 //! first is a comment. A text is named once, above the rows that call it. A row has the line that
 //! asks, and below it how it is to end, with the answer to the byte:
 //!
 //! ```text
-//! ### domain NAME             or problem NAME, or plan NAME
+//! ### domain NAME             or problem NAME, plan NAME, certificate NAME
 //! the text
 //! ### row NAME
 //! judge [--limit N] [--explain] DOMAIN PROBLEM PLAN
+//!                             or recheck DOMAIN PROBLEM PLAN CERTIFICATE
 //!                             or print-domain NAME, print-problem NAME, print-plan NAME
-//! ### solves                  or fails, undecided, rejected, printed
+//! ### solves                  or fails, undecided, rejected, certified, not-certified, printed
 //! the answer
 //! ```
 //!

@@ -24,7 +24,7 @@ impl<'f> Texts<'f> {
         }
     }
 
-    /// Keeps a text of this kind, `domain`, `problem` or `plan`, under its name.
+    /// Keeps a text of this kind, `domain`, `problem`, `plan` or `certificate`, under its name.
     ///
     /// # Errors
     ///
