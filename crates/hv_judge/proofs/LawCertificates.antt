@@ -1,5 +1,5 @@
 -- Four texts have one answer, since what a certificate says of a plan hangs on its text alone.
-use Rattle.std.proofs.Common.{◌≡◌, ℕ, Bool, true, false, List, [], ◌∷◌, Some, length, map, refl, sym, ◌∙◌, ap, subst}
+use Rattle.std.proofs.Common.{◌≡◌, ℕ, Bool, true, false, List, [], ◌∷◌, Some, map, refl, sym, ◌∙◌, ap, subst}
 use Rattle.std.specs.Prelude.{drop}
 use Rattle.std.specs.List.{AllZip}
 use Rattle.hv_text.specs.Names.{text_of}
@@ -7,7 +7,6 @@ use Rattle.hv_syntax.specs.Values.{Domain, Problem}
 use Rattle.hv_world.specs.Worlds.{World, world_of}
 use Rattle.hv_plan.specs.PlanTrees.{NodeIs}
 use Rattle.hv_plan.specs.Values.{Plan}
-use Rattle.hv_match.specs.Candidates.{Tells}
 use Rattle.hv_certificate.specs.Forms.{IsCertText, HasNumbers}
 use Rattle.hv_certificate.specs.Texts.{cert_text}
 use Rattle.hv_certificate.specs.Views.{choice_view, line_view, certificate_view}

@@ -7,7 +7,6 @@ use Rattle.hv_certificate.specs.Forms.{IsCertFault}
 use Rattle.hv_certificate.specs.declared.fault.CertFault.{CertFault}
 use Rattle.hv_certificate.specs.declared.fault.CertFault.TheVariants as certificates
 use Rattle.hv_judge.specs.declared.answer.Fault.{Fault}
-use Rattle.hv_judge.specs.declared.answer.FaultKind.TheVariants as faults
 use Rattle.hv_judge.specs.declared.answer.Which.{Which}
 use Rattle.hv_judge.specs.declared.checking.Recheck.{Recheck}
 use Rattle.hv_judge.specs.declared.not_solved.NotSolved.{NotSolved}
@@ -17,9 +16,9 @@ use Rattle.hv_judge.specs.declared.rechecking.RecheckKind.TheVariants as kinds
 use Rattle.hv_judge.specs.declared.running.RunFault.{RunFault}
 use Rattle.hv_judge.specs.Checked.{Rechecked, IsRejectedOfFour, not_judged, not_of_form, IsRecheckFault}
 use Rattle.hv_judge.specs.Prints.{rejection}
-use Rattle.hv_judge.specs.Rechecks.{IsRecheckLine, says_certified, says_not_certified, says_rejected, found_kind, found_line, IsFoundLine, IsRejectionLine, IsUnreadLine}
+use Rattle.hv_judge.specs.Rechecks.{IsRecheckLine, says_certified, says_not_certified, says_rejected, found_line, IsFoundLine, IsRejectionLine, IsUnreadLine}
 use Rattle.hv_judge.specs.Rechecks.{IsRecheckFrom, text_read, text_too_long, IsHaltFrom, text_failed, text_given}
-use Rattle.hv_judge.specs.Rejections.{first_too_long, fault_nowhere}
+use Rattle.hv_judge.specs.Rejections.{first_too_long}
 use Rattle.hv_judge.specs.Runs.{IsFailureOf}
 use Rattle.hv_judge.specs.Verdicts.{IsSpelledAs, Judged}
 use Rattle.hv_judge.specs.inside.CheckEnds.{check_end, cert_end}

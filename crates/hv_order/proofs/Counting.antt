@@ -1,6 +1,5 @@
 -- How many preconditions the check of a certificate has evaluated after some nodes.
-use Rattle.std.proofs.Common.{◌≡◌, ◌<◌, ◌≤◌, ◌+◌, ◌-◌, ℕ, Bool, true, false, length, sym, ◌∙◌, ap, subst, arith}
-use Rattle.std.specs.Prelude.{min}
+use Rattle.std.proofs.Common.{◌≡◌, ◌<◌, ◌≤◌, ◌+◌, ◌-◌, ℕ, Bool, false, length, sym, subst, arith}
 use Rattle.std.proofs.Math.Nat.{min-le_right, min-eq_left, min-eq_right, le-min}
 use Rattle.hv_world.specs.Worlds.{World}
 use Rattle.hv_plan.specs.PlanTrees.{PlanTree, IsTreeIn}
