@@ -17,7 +17,8 @@ pub enum End<'a> {
     Rechecked(RecheckKind),
     /// A canonical text was written, or the line of a rejection.
     Printed(Printed),
-    /// The words of the command line do not parse, or ask for help or the version; their text was written.
+    /// The words of the command line do not parse, or ask for help or the version; their text was
+    /// written.
     Words,
     /// A word of the command line is not UTF-8.
     NotUtf8,
@@ -31,8 +32,10 @@ pub enum End<'a> {
     OutOfMemory,
 }
 
-/// The exit status: 0 for a plan that solves its problem, a certificate that is right or a text that was printed, 1 for a plan that fails or a certificate that is not
-/// right, 2 for undecided, 3 for a rejected text, 4 for words that name no job, and 5 where a file, the output or memory failed.
+/// The exit status: 0 for a plan that solves its problem, a certificate that is right or a text
+/// that was printed, 1 for a plan that fails or a certificate that is not right, 2 for undecided,
+/// 3 for a rejected text, 4 for words that name no job, and 5 where a file, the output or memory
+/// failed.
 pub fn status(end: &End<'_>) -> u8
     ensures { result ≡ status_of end.now }
 {
@@ -50,7 +53,8 @@ pub fn status(end: &End<'_>) -> u8
     }
 }
 
-/// Writes the line of an end that has one: of all with status 5, and of those with status 4 for which no text was written yet.
+/// Writes the line of an end that has one: of all with status 5, and of those with status 4 for
+/// which no text was written yet.
 ///
 /// # Errors
 ///
@@ -58,7 +62,8 @@ pub fn status(end: &End<'_>) -> u8
 pub fn write_end<W: Sink>(end: &End<'_>, out: &mut W) -> Result<(), WriteFault>
     requires { W.failures out.old < 2 ^ 64 - 1 }
     ensures ok { OnOk result (Appends (W.taken out.old) (W.taken out.new) (line_of end.now)) }
-    ensures err { OnErr result (AppendsBeginning (W.taken out.old) (W.taken out.new) (line_of end.now)) }
+    ensures err { OnErr result (AppendsBeginning (W.taken out.old) (W.taken out.new)
+        (line_of end.now)) }
     ensures failures { W.failures out.new ≡ W.failures out.old + (if is_ok result then 0 else 1) }
 {
     match end {

@@ -40,16 +40,20 @@ fn file_arg<'a>(alloc: Global, id: &'a str, help: &'a str) -> Arg<'a>
 
 fn with_arg<'a>(command: Command<'a>, arg: Arg<'a>) -> Result<Command<'a>, AllocError>
     requires { arg.global ≡ false }
-    ensures app { IfOk result (λ c. app_of c ≡ with_rule (app_of command.entry) (rule_of arg.entry)) }
-    ensures local { IfOk result (λ c. (out-Command c).has_globals ≡ (out-Command command.entry).has_globals) }
+    ensures app { IfOk result (λ c. app_of c ≡ with_rule (app_of command.entry)
+        (rule_of arg.entry)) }
+    ensures local { IfOk result (λ c. (out-Command c).has_globals
+        ≡ (out-Command command.entry).has_globals) }
 {
     command.arg(arg)
 }
 
 fn with_command<'a>(above: Command<'a>, command: Command<'a>) -> Result<Command<'a>, AllocError>
     requires { (out-Command command).has_globals ≡ false }
-    ensures app { IfOk result (λ c. app_of c ≡ with_subcommand (app_of above.entry) (app_of command.entry).top) }
-    ensures local { IfOk result (λ c. (out-Command c).has_globals ≡ (out-Command above.entry).has_globals) }
+    ensures app { IfOk result (λ c. app_of c ≡ with_subcommand (app_of above.entry)
+        (app_of command.entry).top) }
+    ensures local { IfOk result (λ c. (out-Command c).has_globals
+        ≡ (out-Command above.entry).has_globals) }
 {
     above.subcommand(command)
 }
@@ -57,7 +61,8 @@ fn with_command<'a>(above: Command<'a>, command: Command<'a>) -> Result<Command<
 // The command, given the files of a plan: its domain, its problem and the plan itself.
 fn with_plan_args<'a>(alloc: Global, command: Command<'a>) -> Result<Command<'a>, AllocError>
     ensures app { IfOk result (λ c. app_of c ≡ with_plan_rules (app_of command.entry)) }
-    ensures local { IfOk result (λ c. (out-Command c).has_globals ≡ (out-Command command.entry).has_globals) }
+    ensures local { IfOk result (λ c. (out-Command c).has_globals
+        ≡ (out-Command command.entry).has_globals) }
 {
     let command = with_arg(command, file_arg(alloc, "domain", "The domain, in HDDL"))?;
     let command = with_arg(command, file_arg(alloc, "problem", "The problem, in HDDL"))?;
@@ -149,9 +154,11 @@ fn command<'a>(alloc: Global) -> Result<Command<'a>, AllocError>
     Ok(command)
 }
 
-// A value that the definition of the command asks for is never missing; nothing here proves that, so `Missing` is answered in its place.
+// A value that the definition of the command asks for is never missing; nothing here proves that,
+// so `Missing` is answered in its place.
 fn text_of(alloc: Global, matches: &ArgMatches<'_>, id: &str) -> Result<String, JobFault>
-    ensures { IfOk result (λ s. first_of id.now (rows_of (found_of matches.now)) ≡ Some (string_bytes s)) }
+    ensures { IfOk result (λ s. first_of id.now (rows_of (found_of matches.now))
+        ≡ Some (string_bytes s)) }
 {
     match matches.get_str(id) {
         Some(text) => Ok(String::from_str(alloc, text)?),
@@ -169,7 +176,8 @@ fn limit_of(matches: &ArgMatches<'_>) -> Result<u64, JobFault>
 }
 
 fn is_explained(matches: &ArgMatches<'_>) -> bool
-    ensures { (result ≡ true) ↔ (first_of (codes "explain") (rows_of (found_of matches.now)) ≡ Some (codes "true")) }
+    ensures { (result ≡ true) ↔ (first_of (codes "explain") (rows_of (found_of matches.now))
+        ≡ Some (codes "true")) }
 {
     match matches.get_str("explain") {
         Some(text) => text == "true",
@@ -179,8 +187,10 @@ fn is_explained(matches: &ArgMatches<'_>) -> bool
 
 fn judge_job(alloc: Global, matches: &ArgMatches<'_>) -> Result<Job, JobFault>
     ensures named { IfOk result (λ job. command_of job.mode ≡ codes "judge") }
-    ensures files { IfOk result (λ job. HasFiles (file_arguments job.mode) (rows_of (found_of matches.now)) job) }
-    ensures options { IfOk result (λ job. HasOptions job.mode (rows_of (found_of matches.now)) job) }
+    ensures files { IfOk result (λ job. HasFiles (file_arguments job.mode)
+        (rows_of (found_of matches.now)) job) }
+    ensures options { IfOk result (λ job. HasOptions job.mode (rows_of (found_of matches.now))
+        job) }
 {
     let domain = text_of(alloc, matches, "domain")?;
     let problem = text_of(alloc, matches, "problem")?;
@@ -198,8 +208,10 @@ fn judge_job(alloc: Global, matches: &ArgMatches<'_>) -> Result<Job, JobFault>
 
 fn recheck_job(alloc: Global, matches: &ArgMatches<'_>) -> Result<Job, JobFault>
     ensures named { IfOk result (λ job. command_of job.mode ≡ codes "recheck") }
-    ensures files { IfOk result (λ job. HasFiles (file_arguments job.mode) (rows_of (found_of matches.now)) job) }
-    ensures options { IfOk result (λ job. HasOptions job.mode (rows_of (found_of matches.now)) job) }
+    ensures files { IfOk result (λ job. HasFiles (file_arguments job.mode)
+        (rows_of (found_of matches.now)) job) }
+    ensures options { IfOk result (λ job. HasOptions job.mode (rows_of (found_of matches.now))
+        job) }
 {
     let domain = text_of(alloc, matches, "domain")?;
     let problem = text_of(alloc, matches, "problem")?;
@@ -244,12 +256,13 @@ fn mode_of(name: &str) -> Option<Mode>
     }
 }
 
-/// The job that the words name: what the definition of the command reads in them. The first word is the program's own.
+/// The job that the words name: what the definition of the command reads in them. The first word is
+/// the program's own.
 ///
 /// # Errors
 ///
-/// `Words` where they do not parse, or ask for help or the version; `Missing` where they parse but lack a command or a value that
-/// each line must have; and `Memory` where a growth was refused.
+/// `Words` where they do not parse, or ask for help or the version; `Missing` where they parse but
+/// lack a command or a value that each line must have; and `Memory` where a growth was refused.
 pub fn job<'a>(alloc: Global, words: &'a [&'a str]) -> Result<Job, JobFault>
     ensures { IfOk result (IsJobOf (subcommand_of line (map (λ w. w.now) words.entry.now))) }
 {

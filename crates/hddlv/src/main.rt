@@ -191,8 +191,8 @@ fn conclude(rt: &HostRuntime, end: &End<'_>) -> ExitCode
     ExitCode::from(status(end))
 }
 
-// Writes `clap`'s text on the words to standard error. A mistake is said to be one of this program's words; help and the version
-// say so themselves.
+// Writes `clap`'s text on the words to standard error. A mistake is said to be one of this
+// program's words; help and the version say so themselves.
 fn refuse_words(rt: &HostRuntime, error: &clap::Error) -> ExitCode
     ensures { exit_status result ≡ 4 }
 {

@@ -23,7 +23,8 @@ pub enum Mode {
 pub struct Job {
     /// What is to be done with the files.
     pub mode: Mode,
-    /// Their names as given: of the domain, the problem and the plan, in this order, with the certificate last where one is to be checked; or of the one text that is to be printed.
+    /// Their names as given: of the domain, the problem and the plan, in this order, with the
+    /// certificate last where one is to be checked; or of the one text that is to be printed.
     pub files: Vec<String>,
     /// The limit on the choices of a node that are searched; 1,000,000 where none is given.
     pub limit: u64,
