@@ -272,9 +272,52 @@ const PLANS: [(&[u8], usize); 13] = [
     ),
 ];
 
+// Two types, and parameters that stand in constraints alone or nowhere.
+const COLOURS: &[u8] = b"(define (domain colours) (:types red blue)\n\
+    (:constants r1 r2 - red b1 - blue)\n\
+    (:task t :parameters (?x)) (:action a :parameters (?x))\n\
+    (:method m2 :parameters (?p - red ?q - blue) :task (t ?p) :subtasks (and (a ?p) (a ?q)))\n\
+    (:method m3 :parameters (?q - blue ?p) :task (t ?p) :subtasks (and (a ?p) (a ?q) (a ?q)))\n\
+    (:method f2 :parameters (?f - red ?g - blue ?p) :task (t ?p)\n\
+    :subtasks (a ?p) :constraints (not (= ?f ?p)))\n\
+    (:method g2 :parameters (?f ?g ?p) :task (t ?p)\n\
+    :subtasks (a ?p) :constraints (and (= ?f ?g) (not (= ?g ?p)))))";
+
+const COLOUR: &[u8] = b"(define (problem c) (:domain colours) (:init) (:htn :subtasks (t r1)))";
+
+// Plans, and how many candidates line 10 has.
+const COLOURED: [(&[u8], usize); 9] = [
+    // the types say which child does which subtask
+    (b"==>\n1 a b1\n2 a r1\nroot 10\n10 t r1 -> m2 1 2\n<==", 1),
+    (b"==>\n1 a r2\n2 a r1\nroot 10\n10 t r1 -> m2 1 2\n<==", 0),
+    // the task's object is of another type
+    (b"==>\n1 a b1\n2 a b1\nroot 10\n10 t b1 -> m2 1 2\n<==", 0),
+    (
+        b"==>\n1 a b1\n2 a r1\n3 a b1\nroot 10\n10 t r1 -> m3 1 2 3\n<==",
+        2,
+    ),
+    (
+        b"==>\n1 a b1\n2 a b1\n3 a b1\nroot 10\n10 t b1 -> m3 1 2 3\n<==",
+        6,
+    ),
+    (
+        b"==>\n1 a b1\n2 a r1\n3 a r2\nroot 10\n10 t r1 -> m3 1 2 3\n<==",
+        0,
+    ),
+    // of two parameters that are nowhere bound, one stands in a constraint
+    (b"==>\n1 a r1\nroot 10\n10 t r1 -> f2 1\n<==", 1),
+    (b"==>\n1 a b1\nroot 10\n10 t b1 -> f2 1\n<==", 2),
+    (b"==>\n1 a r1\nroot 10\n10 t r1 -> g2 1\n<==", 2),
+];
+
 // How many candidates line 10 has, where they are those of the slow list.
-fn compared(alloc: Global, plan: &'static [u8]) -> Option<usize> {
-    let world = world_of(alloc, STEPS, STEP)?;
+fn compared(
+    alloc: Global,
+    domain: &'static [u8],
+    problem: &'static [u8],
+    plan: &'static [u8],
+) -> Option<usize> {
+    let world = world_of(alloc, domain, problem)?;
     let plan = plan_of(alloc, plan)?;
     let tree = tree_of(alloc, &world, &plan)?;
     let node = node_of(&tree, Some(10))?;
@@ -290,6 +333,12 @@ fn compared(alloc: Global, plan: &'static [u8]) -> Option<usize> {
 #[test]
 fn candidates_are_those_of_a_slow_list(rt: HostRuntime) {
     for (plan, candidates) in PLANS {
-        assert_eq!(rt; compared(rt.alloc(), plan), Some(candidates));
+        assert_eq!(rt; compared(rt.alloc(), STEPS, STEP, plan), Some(candidates));
+    }
+    for (plan, candidates) in COLOURED {
+        assert_eq!(rt;
+            compared(rt.alloc(), COLOURS, COLOUR, plan),
+            Some(candidates)
+        );
     }
 }
