@@ -1,5 +1,6 @@
 -- The places of the children that may do a subtask.
-use Rattle.std.proofs.Common.{◌≡◌, ℕ, zero, suc, ◌+◌, ◌<◌, ◌≤◌, Bool, true, false, List, [], ◌∷◌, ◌++◌, length, map, nat_eq, eq-eqb, refl, ap, arith, if◌then◌else◌, drop, Option, Some, None, MatchOption, IfSome, Contains}
+use Rattle.std.proofs.Common.{◌≡◌, ℕ, zero, suc, ◌+◌, ◌<◌, ◌≤◌, Bool, true, false, List, [], ◌∷◌, ◌++◌, length, map, nat_eq, eq-eqb, refl, sym, ap, ◌∙◌, append_assoc, arith, if◌then◌else◌, drop, Option, Some, None, MatchOption, IfSome, Contains}
+use Rattle.std.proofs.lemmas.List.{append-nil}
 use Rattle.hv_world.specs.Bindings.{object_of}
 use Rattle.hv_world.specs.Alike.{same_name}
 use Rattle.hv_world.specs.Values.{Term, object, variable, Subtask}
@@ -57,6 +58,20 @@ module _ (test : Option Work → Bool) where
 pub places_same : (f g : Option Work → Bool) → ((c : Option Work) → f c ≡ g c) → (k : ℕ) (cs : List (Option Work)) → places_where f k cs ≡ places_where g k cs
 places_same f g h k [] = refl
 places_same f g h k (c ∷ cs) = rw (h c, places_same f g h (k + 1) cs) refl
+
+-- a child more that passes, or not, behind other places
+pub row_yes : (test : Option Work → Bool) (cs : List (Option Work)) (c : Option Work) (i : ℕ) (before : List ℕ) → length cs ≡ i → test c ≡ true → (before ++ places_where test 0 cs) ++ i ∷ [] ≡ before ++ places_where test 0 (cs ++ c ∷ [])
+row_yes test cs c i before size e =
+    let z : 0 + length cs ≡ i = omega (arith, size) in
+    let end = places_end test 0 cs c in
+    let end' = rw (z, e) at end in
+    append_assoc before (places_where test 0 cs) (i ∷ []) ∙ ap (λ l. before ++ l) (sym end')
+
+pub row_no : (test : Option Work → Bool) (cs : List (Option Work)) (c : Option Work) (before : List ℕ) → test c ≡ false → before ++ places_where test 0 cs ≡ before ++ places_where test 0 (cs ++ c ∷ [])
+row_no test cs c before e =
+    let end = places_end test 0 cs c in
+    let end' = rw e at end in
+    ap (λ l. before ++ l) (sym (end' ∙ append-nil (places_where test 0 cs)))
 
 -- objects have the same values under all
 ground_values : (B : List ℕ) (ts : List Term) → is_ground ts ≡ true → same_values [] ts (map (object_of B) ts) ≡ true

@@ -4,6 +4,7 @@ use Rattle.std.proofs.lemmas.Bool.Decides.{nat_tests}
 use Rattle.std.proofs.lemmas.Bool.{ltb-true}
 use Rattle.std.proofs.lemmas.List.{append-nil, length-map, map-set, take_all, drop_all}
 use Rattle.std.proofs.lemmas.Slice.Eq.{bytes_eq-Decides}
+use Rattle.std.specs.Borrow.{Bor}
 use Rattle.std.specs.Global.{Vec}
 use Rattle.std.specs.Str.{bytes_eq}
 use Rattle.std.specs.List.{AllClonesOf, AllZip, position, position_or_len, list_any}
@@ -12,8 +13,9 @@ use Rattle.hv_world.specs.Bindings.{object_of}
 use Rattle.hv_world.specs.Alike.{same_name}
 use Rattle.hv_world.specs.Values.{Term, TaskName, compound, primitive, Subtask}
 use Rattle.hv_match.specs.inside.Puzzles.{Work, is_ground, same_values, may_do, places_where}
-use Rattle.hv_match.specs.inside.Tables.{key_head, work_key, subtask_key, has_key, number_of, row_at, AreRows, row_for, AreChildRows}
+use Rattle.hv_match.specs.inside.Tables.{key_head, work_key, subtask_key, has_key, number_of, row_at, AreKeys, AreNamed, AreRows, HasPut, HasPutExact, row_for, AreChildRows}
 use Rattle.hv_match.specs.declared.child_rows.ChildRows.{ChildRows}
+use Rattle.hv_match.specs.declared.child_rows.RowKeys.{RowKeys}
 use Rattle.hv_match.proofs.Members.{none_in_empty}
 use Rattle.hv_match.proofs.Factors.{name_is, name_itself}
 use Rattle.hv_match.proofs.Fitting.{both, also, values_from, values_to}
@@ -204,10 +206,39 @@ row_within ss cs j x m = go (slice_get ss j) m
     go None m = absurd (none_in_empty x m)
     go (Some s) m = omega (arith, (places_within (may_do s) 0 cs x m).1)
 
-pub placed : (keys : List (Vec ℕ)) (ss : List Subtask) (cs : List (Option Work)) (p : ChildRows) → map (λ s. number_of (subtask_key s) keys) ss ≡ map Some p.keys.now.row_of.items → AreRows keys cs p.rows.items → AreChildRows ss cs p
-placed keys ss cs p e rows j s h =
-    let r = number_at keys ss p.keys.now.row_of.items e j s h in
-    ap (λ (o : Option ℕ). elim o [ None ↦ [] | Some i ↦ row_at p.rows.items i ]) r.1 ∙ rows (subtask_key s) r.0 r.2 ∙ places_same (has_key (subtask_key s)) (may_do s) (key_says s) 0 cs
+-- a key without objects begins with 0
+named_head : (s : Subtask) → is_ground s.terms ≡ false → get_or (subtask_key s) 0 1 ≡ 0
+named_head s e = rw e (go s.name)
+  where
+    go : (n : TaskName) → get_or (key_head false n) 0 1 ≡ 0
+    go (compound t) = refl
+    go (primitive a) = refl
+
+pub placed : (ks : Bor RowKeys) (ss : List Subtask) (cs : List (Option Work)) (rows : List (Vec ℕ)) (ls : List (List ℕ)) → AreKeys ss ks.now → AreRows ks.now cs rows → ls ≡ map (λ v. v.items) rows →
+    AreChildRows ss cs (record { keys = ks; rows = ls; is_by_subtask = false })
+placed ks ss cs rows ls keys are same j s h =
+    let r = number_at ks.now.keys.keys ss ks.now.row_of.items keys.numbers j s h in
+    ap (λ (o : Option ℕ). elim o [ None ↦ [] | Some i ↦ get_or ls i [] ]) r.1
+    ∙ ap (λ (l : List (List ℕ)). get_or l r.0 []) same
+    ∙ are (subtask_key s) r.0 (λ e. named_head s (keys.named e j s h)) r.2
+    ∙ places_same (has_key (subtask_key s)) (may_do s) (key_says s) 0 cs
+
+-- a row for each subtask
+pub own_rows : (ks : Bor RowKeys) (ss : List Subtask) (cs : List (Option Work)) (ls : List (List ℕ)) → ls ≡ map (λ s. places_where (may_do s) 0 cs) ss →
+    AreChildRows ss cs (record { keys = ks; rows = ls; is_by_subtask = true })
+own_rows ks ss cs ls same j s h = ap (λ (l : List (List ℕ)). get_or l j []) same ∙ go ss j h
+  where
+    go : (ss : List Subtask) (j : ℕ) → slice_get ss j ≡ Some s → get_or (map (λ s. places_where (may_do s) 0 cs) ss) j [] ≡ places_where (may_do s) 0 cs
+    go [] j h = cc
+    go (t ∷ ss) zero h = let f : t ≡ s = cc in ap (λ z. places_where (may_do z) 0 cs) f
+    go (t ∷ ss) (suc j) h = go ss j h
+
+-- one subtask more that has not objects alone
+pub named_more : (ss : List Subtask) (s : Subtask) → AreNamed ss → is_ground s.terms ≡ false → AreNamed (ss ++ s ∷ [])
+named_more [] s h e zero t g = let f : s ≡ t = cc in ap (λ z. is_ground z.terms) (sym f) ∙ e
+named_more [] s h e (suc j) t g = cc
+named_more (x ∷ ss) s h e zero t g = h zero t g
+named_more (x ∷ ss) s h e (suc j) t g = named_more ss s (λ j t g. h (suc j) t g) e j t g
 
 -- the rows
 
@@ -252,22 +283,36 @@ two_puts : (a b : Bool) (place : ℕ) (l : List ℕ) → (a ≡ true → b ≡ f
 two_puts true b place l h = rw (h refl) (append-nil (l ++ place ∷ []))
 two_puts false b place l h = rw (append-nil l) refl
 
-pub child_put : (keys : List (Vec ℕ)) (old mid new : List (Vec ℕ)) (c : Work) (name key : List ℕ) (place : ℕ) (cs : List (Option Work)) → name ≡ key_head false c.name → key ≡ work_key c → length cs ≡ place →
-    ((k : List ℕ) (i : ℕ) → number_of k keys ≡ Some i → row_at mid i ≡ row_at old i ++ (if bytes_eq name k then place ∷ [] else [])) →
-    ((k : List ℕ) (i : ℕ) → number_of k keys ≡ Some i → row_at new i ≡ row_at mid i ++ (if bytes_eq key k then place ∷ [] else [])) →
-    AreRows keys cs old → AreRows keys (cs ++ Some c ∷ []) new
-child_put keys old mid new c name key place cs en ek size f g are k i e =
+pub child_put : (ks : RowKeys) (old mid new : List (Vec ℕ)) (c : Work) (name : List ℕ) (place : ℕ) (cs : List (Option Work)) → name ≡ key_head false c.name → length cs ≡ place →
+    HasPut ks.keys.keys name place old mid → HasPutExact ks c place mid new → AreRows ks cs old → AreRows ks (cs ++ Some c ∷ []) new
+child_put ks old mid new c name place cs en size f g are k i sought e =
     let z : 0 + length cs ≡ place = omega (arith, size) in
     let first = f k i e in
-    let first' = rw (en, are k i e) at first in
-    let second = g k i e in
-    let second' = rw (ek, first') at second in
+    let first' = rw (en, are k i sought e) at first in
+    let second = g k i sought e in
+    let second' = rw first' at second in
     let end = places_end (has_key k) 0 cs (Some c) in
     let end' = rw z at end in
     second' ∙ two_puts (bytes_eq (key_head false c.name) k) (bytes_eq (work_key c) k) place (places_where (has_key k) 0 cs) (apart k c.name c.name c.objects) ∙ sym end'
 
-pub none_put : (keys rows : List (Vec ℕ)) (cs : List (Option Work)) → AreRows keys cs rows → AreRows keys (cs ++ None ∷ []) rows
-none_put keys rows cs are k i e = are k i e ∙ sym (places_end (has_key k) 0 cs None ∙ append-nil (places_where (has_key k) 0 cs))
+pub none_put : (ks : RowKeys) (rows : List (Vec ℕ)) (cs : List (Option Work)) → AreRows ks cs rows → AreRows ks (cs ++ None ∷ []) rows
+none_put ks rows cs are k i sought e = are k i sought e ∙ sym (places_end (has_key k) 0 cs None ∙ append-nil (places_where (has_key k) 0 cs))
+
+-- a key with objects is looked for
+pub exact_put : (ks : RowKeys) (old new : List (Vec ℕ)) (c : Work) (key : List ℕ) (place : ℕ) → key ≡ work_key c → HasPut ks.keys.keys key place old new → HasPutExact ks c place old new
+exact_put ks old new c key place same f k i sought e = f k i e ∙ ap (λ (j : List ℕ). row_at old i ++ (if bytes_eq j k then place ∷ [] else [])) same
+
+-- or there is none to be looked for
+pub none_exact : (ks : RowKeys) (rows : List (Vec ℕ)) (c : Work) (place : ℕ) → ks.is_exact ≡ false → HasPutExact ks c place rows rows
+none_exact ks rows c place none k i sought e = rw (go (bytes_eq (work_key c) k) refl) (sym (append-nil (row_at rows i)))
+  where
+    clash : (n : TaskName) → key_head true n ++ c.objects ≡ k → ⊥
+    clash (compound t) f = let g : get_or (1 ∷ 0 ∷ t ∷ c.objects) 0 1 ≡ 0 = ap (λ (l : List ℕ). get_or l 0 1) f ∙ sought none in cc
+    clash (primitive a) f = let g : get_or (1 ∷ 1 ∷ a ∷ c.objects) 0 1 ≡ 0 = ap (λ (l : List ℕ). get_or l 0 1) f ∙ sought none in cc
+
+    go : (b : Bool) → bytes_eq (work_key c) k ≡ b → bytes_eq (work_key c) k ≡ false
+    go true f = absurd (clash c.name (key_is (work_key c) k f))
+    go false f = f
 
 -- clones of an empty row are empty
 none_paired : (R : ℕ → ℕ → Type 0) (xs ys : List ℕ) → xs ≡ [] → AllZip R xs ys → ys ≡ []

@@ -72,12 +72,17 @@ impl<'a> Candidates<'a> {
         ensures { IfOk result (λ c. c.coming ≡ listed (puzzle_view puzzle.entry)) }
     {
         let is_over = puzzle.is_hopeless();
+        let subtasks = puzzle.table.subtasks.len();
+        let parameters = puzzle.table.ranges.len();
+        let levels = subtasks.saturating_add(parameters);
+        let chosen = Vec::with_capacity(alloc, levels)?;
+        let numbers = Vec::with_capacity(alloc, levels)?;
         let made_at = vec![in alloc; 0usize; puzzle.children.len()]?;
-        let children = vec![in alloc; 0u32; puzzle.table.subtasks.len()]?;
-        let objects = vec![in alloc; ObjectId(0); puzzle.table.ranges.len()]?;
+        let children = vec![in alloc; 0u32; subtasks]?;
+        let objects = vec![in alloc; ObjectId(0); parameters]?;
         let at = State {
-            chosen: Vec::new(alloc),
-            numbers: Vec::new(alloc),
+            chosen,
+            numbers,
             made_at,
             next: 0,
             is_over,

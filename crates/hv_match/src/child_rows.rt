@@ -1,18 +1,21 @@
 //! The places of the children that may do the subtasks.
 
-ghost use Rattle.std.specs.Prelude.{◌≡◌, ◌++◌, [], length, map, option_map, IfOk, OnOk};
+ghost use Rattle.std.specs.Prelude.{◌≡◌, ◌++◌, [], length, map, false, option_map, IfOk, OnOk};
 ghost use Rattle.hv_world.specs.inside.Kept as kept;
 ghost use Rattle.hv_world.specs.Bindings.{object_number, object_of};
 ghost use Rattle.hv_world.specs.Views.{name_view, term_view, subtask_view};
 ghost use Rattle.hv_match.specs.inside.Puzzles as puzzles;
 ghost use Rattle.hv_match.specs.inside.Tables as tables;
-ghost use Rattle.hv_match.specs.inside.Tables.{work_view, AreChildRowsBy, AreKeyNumbers, AreKeys, AreRows, HasPut, HasPutChild, IsKeyNumber, KeepNumbers};
+ghost use Rattle.hv_match.specs.inside.Tables.{work_view, AreChildRows, AreChildRowsBy, AreKeyNumbers, AreKeys, AreNamed, AreRows, HasPut, HasPutChild, HasPutExact, IsKeyNumber, KeepNumbers};
 
-use crate::puzzle::{Work, value};
-use hv_text::Memory;
+use crate::puzzle::{Work, are_values, same_name, value};
+use hv_text::{Lists, Memory};
 use hv_world::{ObjectId, Subtask, TaskName, Term};
 use indexmap::IndexSet;
 use std::alloc::Global;
+
+// For each of so few subtasks all children are looked at, and no key is hashed.
+const FEW: usize = 8;
 
 /// For each subtask of a method the key of the children that may do it.
 #[derive(Drop)]
@@ -20,23 +23,18 @@ pub(crate) struct RowKeys {
     keys: IndexSet<Vec<usize>>,
     // For each subtask the number of its key.
     row_of: Vec<usize>,
+    // Whether some key has objects.
+    is_exact: bool,
 }
 
-/// For each subtask a row of places: for each key the places of the children that have it.
+/// Rows of places, for each subtask or else for each key: the places of the children that may do it
+/// or have it.
 #[derive(Drop)]
 pub(crate) struct ChildRows<'a> {
     keys: &'a RowKeys,
-    rows: Vec<Vec<usize>>,
-}
-
-// The row of a number.
-fn row_at(rows: &[Vec<usize>], number: usize) -> &[usize]
-    ensures { result.now ≡ tables.row_at rows.now number }
-{
-    match rows.get(number) {
-        Some(row) => row,
-        None => &[],
-    }
+    rows: Lists<usize>,
+    // Whether there is a row for each subtask.
+    is_by_subtask: bool,
 }
 
 impl ChildRows<'_> {
@@ -44,8 +42,11 @@ impl ChildRows<'_> {
     pub(crate) fn row(&self, subtask: usize) -> &[usize]
         ensures { result.now ≡ tables.row_for self.now subtask }
     {
+        if self.is_by_subtask {
+            return self.rows.at(subtask);
+        }
         match self.keys.row_of.get(subtask) {
-            Some(number) => row_at(&self.rows, *number),
+            Some(number) => self.rows.at(*number),
             None => &[],
         }
     }
@@ -70,15 +71,32 @@ fn is_object(term: Term) -> bool
     matches!(term, Term::Object(_))
 }
 
-// What a key with this name begins with, where `is_exact` says whether objects follow.
-fn key_head(alloc: Global, name: TaskName, is_exact: bool) -> Result<Vec<usize>, Memory>
-    ensures { IfOk result (λ v. v.items ≡ tables.key_head is_exact (name_view name)) }
+// Whether there is a subtask whose terms are all objects.
+fn has_ground(subtasks: &[Subtask]) -> bool
+    ensures { result ≡ false → AreNamed (map subtask_view subtasks.now) }
+{
+    for subtask in subtasks {
+        if is_ground(&subtask.terms) {
+            return true;
+        }
+    }
+    false
+}
+
+// Writes down what a key with this name begins with, where `is_exact` says whether objects follow.
+fn write_head(key: &mut Vec<usize>, name: TaskName, is_exact: bool) -> Result<(), Memory>
+    ensures { OnOk result (key.new.items ≡ tables.key_head is_exact (name_view name)) }
 {
     let mark = if is_exact { 1 } else { 0 };
-    match name {
-        TaskName::Compound(task) => Ok(vec![in alloc; mark, 0, task.0]?),
-        TaskName::Primitive(action) => Ok(vec![in alloc; mark, 1, action.0]?),
-    }
+    let (kind, number) = match name {
+        TaskName::Compound(task) => (0, task.0),
+        TaskName::Primitive(action) => (1, action.0),
+    };
+    key.clear();
+    key.push(mark)?;
+    key.push(kind)?;
+    key.push(number)?;
+    Ok(())
 }
 
 // Puts objects behind what a key has.
@@ -101,13 +119,13 @@ fn push_terms(key: &mut Vec<usize>, terms: &[Term]) -> Result<(), Memory>
     Ok(())
 }
 
-// The key of what a child does.
-fn work_key(alloc: Global, work: Work<'_>) -> Result<Vec<usize>, Memory>
-    ensures { IfOk result (λ v. v.items ≡ tables.work_key (work_view work.entry)) }
+// Writes down the key of what a child does.
+fn write_key(key: &mut Vec<usize>, work: Work<'_>) -> Result<(), Memory>
+    ensures { OnOk result (key.new.items ≡ tables.work_key (work_view work.entry)) }
 {
-    let mut key = key_head(alloc, work.name, true)?;
-    push_objects(&mut key, work.objects)?;
-    Ok(key)
+    write_head(key, work.name, true)?;
+    push_objects(key, work.objects)?;
+    Ok(())
 }
 
 // The key of a subtask, with its objects where all its terms are objects.
@@ -115,7 +133,8 @@ fn subtask_key(alloc: Global, subtask: &Subtask) -> Result<Vec<usize>, Memory>
     ensures { IfOk result (λ v. v.items ≡ tables.subtask_key (subtask_view subtask.now)) }
 {
     let is_exact = is_ground(&subtask.terms);
-    let mut key = key_head(alloc, subtask.name, is_exact)?;
+    let mut key = Vec::new(alloc);
+    write_head(&mut key, subtask.name, is_exact)?;
     if is_exact {
         push_terms(&mut key, &subtask.terms)?;
     }
@@ -156,36 +175,55 @@ fn key_numbers(
 fn put(
     keys: &IndexSet<Vec<usize>>,
     rows: &mut [Vec<usize>],
-    key: Vec<usize>,
+    key: &[usize],
     place: usize,
 ) -> Result<(), Memory>
     requires { length rows.old ≡ length keys.now.keys }
     ensures size { OnOk result (length rows.new ≡ length rows.old) }
-    ensures rows { OnOk result (HasPut keys.now.keys key.items place rows.old rows.new) }
+    ensures rows { OnOk result (HasPut keys.now.keys key.now place rows.old rows.new) }
 {
-    if let Some(number) = keys.get_index_of(&key) {
+    if let Some(number) = keys.get_index_of(key) {
         rows[number].push(place)?;
     }
     Ok(())
 }
 
-// Takes account of one child more.
-fn put_child(
-    alloc: Global,
-    keys: &IndexSet<Vec<usize>>,
+// The same for the key of what a child does, where some key has objects.
+fn put_exact(
+    keys: &RowKeys,
     rows: &mut [Vec<usize>],
+    key: &mut Vec<usize>,
+    work: Work<'_>,
+    place: usize,
+) -> Result<(), Memory>
+    requires { length rows.old ≡ length keys.now.keys.keys }
+    ensures size { OnOk result (length rows.new ≡ length rows.old) }
+    ensures rows { OnOk result (HasPutExact keys.now (work_view work.entry) place rows.old rows.new) }
+{
+    if !keys.is_exact {
+        return Ok(());
+    }
+    write_key(key, work)?;
+    put(&keys.keys, rows, key.as_slice(), place)?;
+    Ok(())
+}
+
+// Takes account of one child more. The keys looked for are written down in `key`.
+fn put_child(
+    keys: &RowKeys,
+    rows: &mut [Vec<usize>],
+    key: &mut Vec<usize>,
     child: Option<Work<'_>>,
     place: usize,
 ) -> Result<(), Memory>
-    requires { length rows.old ≡ length keys.now.keys }
+    requires { length rows.old ≡ length keys.now.keys.keys }
     ensures size { OnOk result (length rows.new ≡ length rows.old) }
-    ensures rows { OnOk result (HasPutChild keys.now.keys (option_map work_view child.entry) place rows.old rows.new) }
+    ensures rows { OnOk result (HasPutChild keys.now (option_map work_view child.entry) place rows.old rows.new) }
 {
     if let Some(work) = child {
-        let name = key_head(alloc, work.name, false)?;
-        put(keys, rows, name, place)?;
-        let key = work_key(alloc, work)?;
-        put(keys, rows, key, place)?;
+        write_head(key, work.name, false)?;
+        put(&keys.keys, rows, key.as_slice(), place)?;
+        put_exact(keys, rows, key, work, place)?;
     }
     Ok(())
 }
@@ -193,14 +231,74 @@ fn put_child(
 // For each key the places of the children that have it.
 fn rows_of(
     alloc: Global,
-    keys: &IndexSet<Vec<usize>>,
+    keys: &RowKeys,
     children: &[Option<Work<'_>>],
 ) -> Result<Vec<Vec<usize>>, Memory>
-    ensures { IfOk result (λ v. AreRows keys.now.keys (map (option_map work_view) children.now) v.items) }
+    ensures { IfOk result (λ v. AreRows keys.now (map (option_map work_view) children.now) v.items) }
 {
-    let mut rows = vec![in alloc; Vec::new(alloc); keys.len()]?;
+    let mut rows = vec![in alloc; Vec::new(alloc); keys.keys.len()]?;
+    let mut key = Vec::new(alloc);
     for (place, child) in children.iter().enumerate() {
-        put_child(alloc, keys, &mut rows, *child, place)?;
+        put_child(keys, &mut rows, &mut key, *child, place)?;
+    }
+    Ok(rows)
+}
+
+// These rows one after another in one list.
+fn in_one(alloc: Global, rows: &[Vec<usize>]) -> Result<Lists<usize>, Memory>
+    ensures { IfOk result (λ ls. ls ≡ map (λ v. v.items) rows.now) }
+{
+    let mut lists = Lists::with_capacity(alloc, rows.len())?;
+    for row in rows {
+        lists.push(row)?;
+    }
+    Ok(lists)
+}
+
+// Whether a child may do a subtask, by its name, and, where all terms of the subtask are objects, by
+// its objects.
+fn may_do(subtask: &Subtask, child: Option<Work<'_>>) -> bool
+    ensures { result ≡ puzzles.may_do (subtask_view subtask.now) (option_map work_view child.entry) }
+{
+    match child {
+        None => false,
+        Some(work) => {
+            same_name(work.name, subtask.name)
+                && (!is_ground(&subtask.terms) || are_values(&[], &subtask.terms, work.objects))
+        }
+    }
+}
+
+// Puts the places of the children that may do a subtask behind what a row has.
+fn push_row(
+    row: &mut Vec<usize>,
+    subtask: &Subtask,
+    children: &[Option<Work<'_>>],
+) -> Result<(), Memory>
+    ensures { OnOk result (row.new.items ≡ row.old.items ++ tables.row_of_code (subtask_view subtask.now) children.now) }
+{
+    for (place, child) in children.iter().enumerate() {
+        if may_do(subtask, *child) {
+            row.push(place)?;
+        }
+    }
+    Ok(())
+}
+
+// For each subtask the places of the children that may do it.
+fn rows_by_subtask(
+    alloc: Global,
+    subtasks: &[Subtask],
+    children: &[Option<Work<'_>>],
+) -> Result<Lists<usize>, Memory>
+    ensures { IfOk result (λ ls. ls ≡ map (λ s. tables.row_of_code s children.now) (map subtask_view subtasks.now)) }
+{
+    let mut rows = Lists::with_capacity(alloc, subtasks.len())?;
+    let mut row = Vec::with_capacity(alloc, children.len())?;
+    for subtask in subtasks {
+        row.clear();
+        push_row(&mut row, subtask, children)?;
+        rows.push(&row)?;
     }
     Ok(rows)
 }
@@ -211,17 +309,61 @@ pub(crate) fn row_keys(alloc: Global, subtasks: &[Subtask]) -> Result<RowKeys, M
 {
     let mut keys = IndexSet::new(alloc);
     let row_of = key_numbers(alloc, &mut keys, subtasks)?;
-    Ok(RowKeys { keys, row_of })
+    let is_exact = has_ground(subtasks);
+    Ok(RowKeys {
+        keys,
+        row_of,
+        is_exact,
+    })
 }
 
-/// The places of the children that may do each of the subtasks that have these keys.
-pub(crate) fn child_rows_for<'a>(
+// Rows for each of these subtasks.
+fn by_subtask<'a>(
+    alloc: Global,
+    keys: &'a RowKeys,
+    subtasks: &[Subtask],
+    children: &[Option<Work<'_>>],
+) -> Result<ChildRows<'a>, Memory>
+    ensures { IfOk result (AreChildRows (map subtask_view subtasks.now) (map (option_map work_view) children.now)) }
+{
+    let rows = rows_by_subtask(alloc, subtasks, children)?;
+    Ok(ChildRows {
+        keys,
+        rows,
+        is_by_subtask: true,
+    })
+}
+
+// Rows for each of these keys.
+fn by_key<'a>(
     alloc: Global,
     keys: &'a RowKeys,
     children: &[Option<Work<'_>>],
 ) -> Result<ChildRows<'a>, Memory>
     ensures { IfOk result (AreChildRowsBy keys.now (map (option_map work_view) children.now)) }
 {
-    let rows = rows_of(alloc, &keys.keys, children)?;
-    Ok(ChildRows { keys, rows })
+    let rows = rows_of(alloc, keys, children)?;
+    let rows = in_one(alloc, &rows)?;
+    Ok(ChildRows {
+        keys,
+        rows,
+        is_by_subtask: false,
+    })
+}
+
+/// The places of the children that may do each of these subtasks, which have these keys.
+pub(crate) fn child_rows_for<'a>(
+    alloc: Global,
+    keys: &'a RowKeys,
+    subtasks: &[Subtask],
+    children: &[Option<Work<'_>>],
+) -> Result<ChildRows<'a>, Memory>
+    requires { AreKeys (map subtask_view subtasks.now) keys.now }
+    ensures { IfOk result (AreChildRows (map subtask_view subtasks.now) (map (option_map work_view) children.now)) }
+{
+    if subtasks.len() <= FEW {
+        by_subtask(alloc, keys, subtasks, children)
+    } else {
+        by_key(alloc, keys, children)
+    }
 }

@@ -98,7 +98,7 @@ fn works<'a>(
 ) -> Result<Vec<Option<Work<'a>>>, Memory>
     ensures { IfOk result (λ v. AreWorks (map (option_map work_view) v.items) (tasks_of tree.now children.now)) }
 {
-    let mut works = Vec::new(alloc);
+    let mut works = Vec::with_capacity(alloc, children.len())?;
     for child in children {
         works.push(work(tree, *child))?;
     }
@@ -159,7 +159,7 @@ pub(crate) fn puzzle<'a>(
     if u32::try_from(children.len()).is_err() {
         return Err(Memory);
     }
-    let places = child_rows_for(alloc, &table.keys, &children)?;
+    let places = child_rows_for(alloc, &table.keys, table.subtasks, &children)?;
     Ok(Puzzle {
         table,
         objects: node.objects(),

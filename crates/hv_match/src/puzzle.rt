@@ -107,8 +107,8 @@ pub(crate) fn all_hold(values: &[usize], constraints: &[Constraint]) -> bool
     true
 }
 
-// Whether two names are one.
-fn same_name(name: TaskName, other: TaskName) -> bool
+/// Whether two names are one.
+pub(crate) fn same_name(name: TaskName, other: TaskName) -> bool
     ensures { result ≡ alike.same_name (name_view name) (name_view other) }
 {
     match (name, other) {

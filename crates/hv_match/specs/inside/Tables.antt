@@ -43,9 +43,14 @@ number_of k (v ∷ vs) = if bytes_eq k v.items then Some 0 else option_map suc (
 abbrev pub row_at : List (Vec ℕ) → ℕ → List ℕ
 row_at rows i = slice_index_or (map (λ v. v.items) rows) i []
 
--- the row of each key has the places of the children that have the key
-abbrev pub AreRows : List (Vec ℕ) → List (Option Work) → List (Vec ℕ) → Type 0
-AreRows keys cs rows = (k : List ℕ) (i : ℕ) → number_of k keys ≡ Some i → row_at rows i ≡ places_where (has_key k) 0 cs
+-- the key is looked for: it has no objects, or keys with objects are looked for too
+abbrev pub IsSought : RowKeys → List ℕ → Type 0
+IsSought ks k = ks.is_exact ≡ false → slice_index_or k 0 1 ≡ 0
+
+-- the row of each key that is looked for has the places of the children that have the key
+abbrev pub AreRows : RowKeys → List (Option Work) → List (Vec ℕ) → Type 0
+AreRows ks cs rows =
+    (k : List ℕ) (i : ℕ) → IsSought ks k → number_of k ks.keys.keys ≡ Some i → row_at rows i ≡ places_where (has_key k) 0 cs
 
 -- the number of the key of a subtask
 abbrev pub IsKeyNumber : List (Vec ℕ) → Subtask → ℕ → Type 0
@@ -59,23 +64,40 @@ AreKeyNumbers keys ss is = map (λ s. number_of (subtask_key s) keys) ss ≡ map
 abbrev pub KeepNumbers : List (Vec ℕ) → List (Vec ℕ) → Type 0
 KeepNumbers old new = (k : List ℕ) (i : ℕ) → number_of k old ≡ Some i → number_of k new ≡ Some i
 
--- each subtask has the number of its key
-abbrev pub AreKeys : List Subtask → RowKeys → Type 0
-AreKeys ss k = AreKeyNumbers k.keys.keys ss k.row_of.items
+-- no subtask has objects alone for its terms
+abbrev pub AreNamed : List Subtask → Type 0
+AreNamed ss = (j : ℕ) (s : Subtask) → slice_get ss j ≡ Some s → is_ground s.terms ≡ false
+
+-- each subtask has the number of its key, and keys with objects are looked for where there are any
+pub record AreKeys (ss : List Subtask) (k : RowKeys) : Type 0 where
+  pub numbers : AreKeyNumbers k.keys.keys ss k.row_of.items
+  pub named : k.is_exact ≡ false → AreNamed ss
 
 -- a place stands behind those of a key, and the other rows are as they were
 abbrev pub HasPut : List (Vec ℕ) → List ℕ → ℕ → List (Vec ℕ) → List (Vec ℕ) → Type 0
 HasPut keys key place old new =
     (k : List ℕ) (i : ℕ) → number_of k keys ≡ Some i → row_at new i ≡ row_at old i ++ (if bytes_eq key k then place ∷ [] else [])
 
+-- the place of a child stands behind those of its key with objects, as far as that is looked for
+abbrev pub HasPutExact : RowKeys → Work → ℕ → List (Vec ℕ) → List (Vec ℕ) → Type 0
+HasPutExact ks c place old new =
+    (k : List ℕ) (i : ℕ) → IsSought ks k → number_of k ks.keys.keys ≡ Some i
+    → row_at new i ≡ row_at old i ++ (if bytes_eq (work_key c) k then place ∷ [] else [])
+
 -- the rows take account of one child more
-abbrev pub HasPutChild : List (Vec ℕ) → Option Work → ℕ → List (Vec ℕ) → List (Vec ℕ) → Type 0
-HasPutChild keys child place old new =
-    (cs : List (Option Work)) → length cs ≡ place → AreRows keys cs old → AreRows keys (cs ++ child ∷ []) new
+abbrev pub HasPutChild : RowKeys → Option Work → ℕ → List (Vec ℕ) → List (Vec ℕ) → Type 0
+HasPutChild ks child place old new =
+    (cs : List (Option Work)) → length cs ≡ place → AreRows ks cs old → AreRows ks (cs ++ child ∷ []) new
+
+-- the places of the children that may do a subtask
+abbrev pub row_of_code : Subtask → List (Option code_work.Work) → List ℕ
+row_of_code s cs = places_where (may_do s) 0 (map (option_map work_view) cs)
 
 -- the row of the subtask of a number
 abbrev pub row_for : ChildRows → ℕ → List ℕ
-row_for p j = elim (slice_get p.keys.now.row_of.items j) [ None ↦ [] | Some i ↦ row_at p.rows.items i ]
+row_for p j =
+    if p.is_by_subtask then slice_index_or p.rows j []
+    else elim (slice_get p.keys.now.row_of.items j) [ None ↦ [] | Some i ↦ slice_index_or p.rows i [] ]
 
 -- the row of each subtask has the places of the children that may do it
 abbrev pub AreChildRows : List Subtask → List (Option Work) → ChildRows → Type 0

@@ -9,14 +9,14 @@ pub loop-place-init : goal.loop-place-init
 loop-place-init c =
     let rows = c.in_ok-rows.rows in (
       omega (arith, rows.ok.0, c.in_ok-rows.ensures.len, c.len.ensures.len),
-      λ k i e. all_empty c.new.result rows.items c.in_ok-rows.ensures.items c.new.ensures.items i,
+      λ k i s e. all_empty c.new.result rows.items c.in_ok-rows.ensures.items c.new.ensures.items i,
     )
 
 pub loop-place-preserved : goal.loop-place-preserved
 loop-place-preserved c =
     let xs = c.args.children.now in
     let i = c.loop-place.place in
-    let keys = c.args.keys.now.keys in
+    let keys = c.args.keys.now in
     let old = c.loop-place.rows.items in
     let new = c.put_child.new.rows in
     let size : length (map (option_map work_view) (take i xs)) ≡ i = length-map (take i xs) (option_map work_view) ∙ length-take-le i xs (omega (arith, c.loop-place-test.true)) in

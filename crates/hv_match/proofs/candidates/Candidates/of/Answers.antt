@@ -8,4 +8,4 @@ use Rattle.hv_match.proofs.candidates.Candidates.of.Goals as goal
 pub returns : goal.returns
 returns c =
     let p = puzzle_view c.args.puzzle in
-    ap (map (parts (length p.subtasks))) (fresh (options p) (is_good p) (levels p) c.is_hopeless-is_over.result c.new.result.items c.new-2.result.items c.new.ensures.items c.is_hopeless-is_over.ensures)
+    ap (map (parts (length p.subtasks))) (fresh (options p) (is_good p) (levels p) c.is_hopeless-is_over.result c.in_ok-chosen.chosen.items c.in_ok-numbers.numbers.items c.in_ok-chosen.ensures.items c.is_hopeless-is_over.ensures)
