@@ -1,5 +1,5 @@
 -- Where parameters have their objects from.
-use Rattle.std.proofs.Common.{◌≡◌, ℕ, zero, suc, ◌+◌, Bool, true, false, not, ◌&&◌, List, [], ◌∷◌, ◌++◌, map, drop, get_or, slice_get, refl, sym, ap, ◌∙◌, arith, subst, if◌then◌else◌, Option, Some, None}
+use Rattle.std.proofs.Common.{◌≡◌, ℕ, zero, suc, ◌+◌, Bool, true, false, not, ◌&&◌, List, [], ◌∷◌, ◌++◌, map, take, drop, get_or, slice_get, refl, sym, ap, ◌∙◌, arith, subst, if◌then◌else◌, Option, Some, None}
 use Rattle.std.proofs.lemmas.Bool.{eqb-true}
 use Rattle.std.specs.List.{AllZip}
 use Rattle.hv_world.specs.Bindings.{object_of}
@@ -103,7 +103,7 @@ at_child cs B (x ∷ M) [] j s a e = absurd a
 at_child cs B (x ∷ M) (r ∷ ss) zero s a e = let f : r ≡ s = cc in (x, refl, subst (λ z. Done cs B x z) f a.0)
 at_child cs B (x ∷ M) (r ∷ ss) (suc j) s a e = at_child cs B M ss j s a.1 e
 
-get_left : (a b : List ℕ) (j x : ℕ) → slice_get a j ≡ Some x → slice_get (a ++ b) j ≡ Some x
+pub get_left : (a b : List ℕ) (j x : ℕ) → slice_get a j ≡ Some x → slice_get (a ++ b) j ≡ Some x
 get_left [] b j x e = cc
 get_left (y ∷ a) b zero x e = e
 get_left (y ∷ a) b (suc j) x e = get_left a b j x e
@@ -134,14 +134,21 @@ forced_bound pz M B us i o c e = looked pz M B c (M ++ us) does i (source_of pz.
         let l = get_left M us j r.0 r.1 in
         let h : r.0 ≡ x = cc in subst (λ y. Done pz.children B y s) h r.2
 
-pub agrees : (pz : Puzzle) (M B q ys : List ℕ) → IsMatch pz M B → M ≡ q ++ ys → Agrees pz q B
-agrees pz M B q ys c m v o e = sym (looked pz M B c q does v (source_of pz.task pz.subtasks v) (stands pz.task pz.subtasks v) o e)
+pub get_taken : (n : ℕ) (q : List ℕ) (j x : ℕ) → slice_get (take n q) j ≡ Some x → slice_get q j ≡ Some x
+get_taken zero q j x e = cc
+get_taken (suc n) [] j x e = cc
+get_taken (suc n) (y ∷ q) zero x e = e
+get_taken (suc n) (y ∷ q) (suc j) x e = get_taken n q j x e
+
+-- a match has what the first choices of it say of parameters
+pub agrees : (pz : Puzzle) (n : ℕ) (B p xs : List ℕ) → IsMatch pz (take n (p ++ xs)) B → Agrees pz p B
+agrees pz n B p xs c v o e = sym (looked pz (take n (p ++ xs)) B c p does v (source_of pz.task pz.subtasks v) (stands pz.task pz.subtasks v) o e)
   where
-    does : (j x : ℕ) (s : Subtask) → slice_get q j ≡ Some x → slice_get pz.subtasks j ≡ Some s → Done pz.children B x s
+    does : (j x : ℕ) (s : Subtask) → slice_get p j ≡ Some x → slice_get pz.subtasks j ≡ Some s → Done pz.children B x s
     does j x s f g =
-        let r = at_child pz.children B M pz.subtasks j s c.done g in
-        let l = get_left q ys j x f in
-        let k : slice_get M j ≡ Some x = ap (λ z. slice_get z j) m ∙ l in
+        let r = at_child pz.children B (take n (p ++ xs)) pz.subtasks j s c.done g in
+        let l = get_left p xs j x f in
+        let k = get_taken n (p ++ xs) j r.0 r.1 in
         let h : r.0 ≡ x = cc in subst (λ y. Done pz.children B y s) h r.2
 
 pub bound_some : (pz : Puzzle) (M B us : List ℕ) (i : ℕ) → IsMatch pz M B → is_free pz.task pz.subtasks i ≡ false → bound pz (M ++ us) i ≡ None → ⊥

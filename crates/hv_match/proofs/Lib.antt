@@ -13,6 +13,7 @@ pub mod Paths
 pub mod Whole
 pub mod Fitting
 pub mod Steps
+pub mod Scarce
 pub mod Hope
 pub mod Bridge
 pub mod Ways

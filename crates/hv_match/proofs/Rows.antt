@@ -176,7 +176,7 @@ numbers_more (t ∷ ss) (j ∷ is) s i old new h e f =
     let others : map (λ s. number_of (subtask_key s) old) ss ≡ map Some is = cc in
     rw (h (subtask_key t) j first, numbers_more ss is s i old new h others f) refl
 
-number_at : (keys : List (Vec ℕ)) (ss : List Subtask) (is : List ℕ) → map (λ s. number_of (subtask_key s) keys) ss ≡ map Some is → (j : ℕ) (s : Subtask) → slice_get ss j ≡ Some s → (i : ℕ) × (slice_get is j ≡ Some i) × (number_of (subtask_key s) keys ≡ Some i)
+pub number_at : (keys : List (Vec ℕ)) (ss : List Subtask) (is : List ℕ) → map (λ s. number_of (subtask_key s) keys) ss ≡ map Some is → (j : ℕ) (s : Subtask) → slice_get ss j ≡ Some s → (i : ℕ) × (slice_get is j ≡ Some i) × (number_of (subtask_key s) keys ≡ Some i)
 number_at keys [] is e j s h = cc
 number_at keys (t ∷ ss) [] e j s h = cc
 number_at keys (t ∷ ss) (i ∷ is) e zero s h =
@@ -275,7 +275,7 @@ put_there keys rows was now key at place k i found other lt more = ap (λ (ls : 
         get_or-set_other lists at i now.items [] apart ∙ sym (append-nil (get_or lists i []))
 
 -- a list written back over all of another
-pub written_back : (n : ℕ) (new old : List (Vec ℕ)) → length new ≡ length old → length old ≡ n → take n (new ++ drop (length new) old) ≡ new
+pub written_back : {X : Type 0} (n : ℕ) (new old : List X) → length new ≡ length old → length old ≡ n → take n (new ++ drop (length new) old) ≡ new
 written_back n new old e f = rw (drop_all (length new) old (omega (arith, e)), append-nil new) (take_all n new (omega (arith, e, f)))
 
 -- one child more

@@ -6,7 +6,7 @@ ghost use Rattle.hv_world.specs.Bindings.{object_number, object_of};
 ghost use Rattle.hv_world.specs.Views.{name_view, term_view, subtask_view};
 ghost use Rattle.hv_match.specs.inside.Puzzles as puzzles;
 ghost use Rattle.hv_match.specs.inside.Tables as tables;
-ghost use Rattle.hv_match.specs.inside.Tables.{work_view, AreChildRows, AreChildRowsBy, AreKeyNumbers, AreKeys, AreNamed, AreRows, HasPut, HasPutChild, HasPutExact, IsKeyNumber, KeepNumbers};
+ghost use Rattle.hv_match.specs.inside.Tables.{work_view, AreChildRows, AreChildRowsBy, AreKeyNumbers, AreKeys, AreNamed, AreRows, AreSizes, CountsOnce, HasPut, HasPutChild, HasPutExact, IsKeyNumber, KeepNumbers};
 
 use crate::puzzle::{Work, are_values, same_name, value};
 use hv_text::{Lists, Memory};
@@ -23,8 +23,22 @@ pub(crate) struct RowKeys {
     keys: IndexSet<Vec<usize>>,
     // For each subtask the number of its key.
     row_of: Vec<usize>,
+    // For each key how many subtasks have it.
+    sizes: Vec<usize>,
     // Whether some key has objects.
     is_exact: bool,
+}
+
+impl RowKeys {
+    /// How many subtasks have the key that the subtask of a number has.
+    pub(crate) fn size(&self, subtask: usize) -> usize
+        ensures { result ≡ tables.size_for self.now subtask }
+    {
+        match self.row_of.get(subtask) {
+            Some(number) => self.sizes.get(*number).copied().unwrap_or(0),
+            None => 0,
+        }
+    }
 }
 
 /// Rows of places, for each subtask or else for each key: the places of the children that may do it
@@ -303,16 +317,40 @@ fn rows_by_subtask(
     Ok(rows)
 }
 
+// Counts a number once more, where it is one of those that are counted.
+fn count_once(sizes: &mut [usize], number: usize)
+    ensures size { length sizes.new ≡ length sizes.old }
+    ensures counted { CountsOnce sizes.old number sizes.new }
+{
+    if number >= sizes.len() {
+        return;
+    }
+    sizes[number] = sizes[number].saturating_add(1);
+}
+
+// How often each of so many numbers stands among these.
+fn sizes(alloc: Global, count: usize, numbers: &[usize]) -> Result<Vec<usize>, Memory>
+    ensures { IfOk result (λ v. AreSizes numbers.now v.items) }
+{
+    let mut sizes = vec![in alloc; 0usize; count]?;
+    for number in numbers {
+        count_once(&mut sizes, *number);
+    }
+    Ok(sizes)
+}
+
 /// The keys of these subtasks.
 pub(crate) fn row_keys(alloc: Global, subtasks: &[Subtask]) -> Result<RowKeys, Memory>
     ensures { IfOk result (AreKeys (map subtask_view subtasks.now)) }
 {
     let mut keys = IndexSet::new(alloc);
     let row_of = key_numbers(alloc, &mut keys, subtasks)?;
+    let sizes = sizes(alloc, keys.len(), &row_of)?;
     let is_exact = has_ground(subtasks);
     Ok(RowKeys {
         keys,
         row_of,
+        sizes,
         is_exact,
     })
 }

@@ -1,41 +1,50 @@
-//! Which constraints are decided when a parameter has its object.
+//! Which constraints are decided by how many choices.
 
+use crate::sources::Source;
 use hv_text::Memory;
 use hv_world::{Constraint, Term};
 use std::alloc::Global;
 
-// The number of the parameter that a term is, if it is one.
-fn parameter_of(term: Term) -> Option<usize> {
+// How many choices say which object a parameter has: none where the task says it, those of the
+// children up to one that says it, or those of all children and of the parameters up to itself.
+fn choices_for(parameter: usize, subtasks: usize, sources: &[Option<Source>]) -> usize {
+    match sources.get(parameter) {
+        Some(Some(source)) => match source.subtask {
+            None => 0,
+            Some(subtask) => subtask.saturating_add(1),
+        },
+        _ => subtasks.saturating_add(parameter).saturating_add(1),
+    }
+}
+
+// The same of a term.
+fn choices_for_term(term: Term, subtasks: usize, sources: &[Option<Source>]) -> usize {
     match term {
-        Term::Object(_) => None,
-        Term::Variable(variable) => Some(variable),
+        Term::Object(_) => 0,
+        Term::Variable(parameter) => choices_for(parameter, subtasks, sources),
     }
 }
 
-// The last parameter of a constraint.
-fn last_parameter(constraint: Constraint) -> Option<usize> {
-    match (
-        parameter_of(constraint.left),
-        parameter_of(constraint.right),
-    ) {
-        (Some(left), Some(right)) => Some(left.max(right)),
-        (left, right) => left.or(right),
-    }
-}
-
-/// For each parameter the numbers of the constraints whose last parameter it is. Every whole choice
-/// is tested for all constraints, so only the time of the search hangs on this table.
+/// For each number of choices the numbers of the constraints that so many decide, and fewer do not.
+/// Every whole choice is tested for all constraints, so only the time of the search hangs on this
+/// table. It is empty where there are no constraints.
 pub(crate) fn decided(
     alloc: Global,
-    parameters: usize,
+    subtasks: usize,
+    sources: &[Option<Source>],
     constraints: &[Constraint],
 ) -> Result<Vec<Vec<usize>>, Memory> {
-    let mut decided = vec![in alloc; Vec::new(alloc); parameters]?;
+    if constraints.is_empty() {
+        return Ok(Vec::new(alloc));
+    }
+    let levels = subtasks.saturating_add(sources.len()).saturating_add(1);
+    let mut decided = vec![in alloc; Vec::new(alloc); levels]?;
     for (number, constraint) in constraints.iter().enumerate() {
-        if let Some(parameter) = last_parameter(*constraint)
-            && parameter < decided.len()
-        {
-            decided[parameter].push(number)?;
+        let left = choices_for_term(constraint.left, subtasks, sources);
+        let right = choices_for_term(constraint.right, subtasks, sources);
+        let choices = left.max(right);
+        if choices < decided.len() {
+            decided[choices].push(number)?;
         }
     }
     Ok(decided)

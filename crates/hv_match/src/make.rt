@@ -128,8 +128,8 @@ pub(crate) fn method_table<'w>(
     let subtasks = method.network().subtasks();
     let constraints = method.network().constraints();
     let keys = row_keys(alloc, subtasks)?;
-    let decided = decided(alloc, ranges.len(), constraints)?;
     let sources = sources(alloc, ranges.len(), task, subtasks)?;
+    let decided = decided(alloc, subtasks.len(), &sources, constraints)?;
     let count = exact_count(world, method);
     Ok(MethodTable {
         ranges,

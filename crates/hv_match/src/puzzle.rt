@@ -1,6 +1,6 @@
 //! The candidates of a node as a search has them: what it chooses from, and what it wants.
 
-ghost use Rattle.std.specs.Prelude.{◌≡◌, ◌<◌, ◌≤◌, ◌+◌, ◌^◌, length, map, option_map, [], true, false, IfSome, IsSome, Some, None, slice_get};
+ghost use Rattle.std.specs.Prelude.{◌≡◌, ◌<◌, ◌≤◌, ◌+◌, ◌^◌, nat_eq, length, map, option_map, [], true, false, IfSome, IsSome, Some, None, slice_get};
 ghost use Rattle.std.specs.List.Sorted.{IsStrictlyIncreasing};
 ghost use Rattle.hv_world.specs.Bindings.{object_number, object_of};
 ghost use Rattle.hv_world.specs.Alike as alike;
@@ -68,31 +68,22 @@ pub(crate) fn are_values(values: &[usize], terms: &[Term], objects: &[ObjectId])
     terms.len() == objects.len()
 }
 
+/// Whether two objects are as a constraint says.
+pub(crate) fn agree(left: usize, right: usize, is_equal: bool) -> bool
+    ensures { result ≡ puzzles.same_bool (nat_eq left right) is_equal }
+{
+    (left == right) == is_equal
+}
+
 // Whether a constraint holds.
 fn holds(values: &[usize], constraint: Constraint) -> bool
     ensures { result ≡ puzzles.holds values.now (constraint_view constraint) }
 {
-    (value(values, constraint.left) == value(values, constraint.right)) == constraint.is_equal
-}
-
-// Whether the first parameters, which have these objects, say what a term is.
-fn is_known(values: &[usize], term: Term) -> bool
-    ensures { result ≡ true → puzzles.IsKnown values.now (term_view term) }
-{
-    match term {
-        Term::Object(_) => true,
-        Term::Variable(variable) => variable < values.len(),
-    }
-}
-
-// Whether the first parameters, which have these objects, break a constraint, whatever the others
-// have.
-fn breaks(values: &[usize], constraint: Constraint) -> bool
-    ensures { result ≡ true → puzzles.IsBroken values.now (constraint_view constraint) }
-{
-    is_known(values, constraint.left)
-        && is_known(values, constraint.right)
-        && !holds(values, constraint)
+    agree(
+        value(values, constraint.left),
+        value(values, constraint.right),
+        constraint.is_equal,
+    )
 }
 
 /// Whether all constraints hold.
@@ -118,8 +109,8 @@ pub(crate) fn same_name(name: TaskName, other: TaskName) -> bool
     }
 }
 
-// Whether an object is in an ascending list.
-fn is_in(object: usize, range: &[ObjectId]) -> bool
+/// Whether an object is in an ascending list.
+pub(crate) fn is_in(object: usize, range: &[ObjectId]) -> bool
     requires { IsStrictlyIncreasing (map object_number range.now) }
     ensures { result ≡ puzzles.has object (map object_number range.now) }
 {
@@ -220,8 +211,8 @@ impl<'a> Puzzle<'a> {
         }
     }
 
-    // What the task and the children chosen say of a parameter.
-    fn bound(&self, chosen: &[usize], parameter: usize) -> Option<usize>
+    /// What the task and the children chosen say of a parameter.
+    pub(crate) fn bound(&self, chosen: &[usize], parameter: usize) -> Option<usize>
         ensures bound { parameter < length self.now.table.now.ranges.items → result ≡ puzzles.bound (puzzle_view self.now) chosen.now parameter }
         ensures other { length self.now.table.now.ranges.items ≤ parameter → result ≡ None }
     {
@@ -244,8 +235,8 @@ impl<'a> Puzzle<'a> {
         }
     }
 
-    // Whether objects may be those of terms, by what is bound.
-    fn may_all_be(&self, chosen: &[usize], terms: &[Term], objects: &[ObjectId]) -> bool
+    /// Whether objects may be those of terms, by what is bound.
+    pub(crate) fn may_all_be(&self, chosen: &[usize], terms: &[Term], objects: &[ObjectId]) -> bool
         ensures { result ≡ false → puzzles.CannotAllBe (puzzle_view self.now) chosen.now (map term_view terms.now) (map object_number objects.now) }
     {
         let mut at = 0;
@@ -258,8 +249,8 @@ impl<'a> Puzzle<'a> {
         terms.len() == objects.len()
     }
 
-    // Whether the child at a place may do what a subtask says, by what is bound.
-    fn may_do(&self, chosen: &[usize], place: usize, subtask: &Subtask) -> bool
+    /// Whether the child at a place may do what a subtask says, by what is bound.
+    pub(crate) fn may_do(&self, chosen: &[usize], place: usize, subtask: &Subtask) -> bool
         ensures { result ≡ false → puzzles.CannotDo (puzzle_view self.now) chosen.now place (subtask_view subtask.now) }
     {
         match self.child(place) {
@@ -313,56 +304,6 @@ impl Puzzle<'_> {
     {
         row_choice(self.places.row(subtask), number)
     }
-
-    /// Whether some parameter has no object that it may have; then nothing is wanted.
-    pub(crate) fn is_hopeless(&self) -> bool
-        ensures { result ≡ true → NothingBegins (search_of self.now) [] }
-    {
-        let mut at = 0;
-        while at < self.table.ranges.len() {
-            let range = self.table.ranges[at];
-            if range.is_empty() {
-                return true;
-            }
-            at += 1;
-        }
-        false
-    }
-
-    // Whether the first parameters, which have these objects, break one of the constraints of these
-    // numbers.
-    fn is_broken(&self, values: &[usize], numbers: &[usize]) -> bool
-        ensures { result ≡ true → puzzles.AreBroken values.now (puzzle_view self.now).constraints }
-    {
-        let constraints = self.table.constraints;
-        for number in numbers {
-            if *number < constraints.len() && breaks(values, constraints[*number]) {
-                return true;
-            }
-        }
-        false
-    }
-
-    // Says no only where nothing that is wanted begins with these children and objects, the last that of
-    // a parameter.
-    fn is_object_hopeful(&self, chosen: &[usize], parameter: usize) -> bool
-        requires { length self.now.table.now.subtasks.now ≤ length chosen.now }
-        ensures { result ≡ false → NothingBegins (search_of self.now) chosen.now }
-    {
-        match self.table.decided.get(parameter) {
-            Some(numbers) => !self.is_broken(&chosen[self.table.subtasks.len()..], numbers),
-            None => true,
-        }
-    }
-
-    // Says no only where nothing that is wanted begins with these children.
-    fn is_child_hopeful(&self, chosen: &[usize], last: usize) -> bool
-        requires size { length chosen.now ≡ last + 1 }
-        requires low { last < length self.now.table.now.subtasks.now }
-        ensures { result ≡ false → NothingBegins (search_of self.now) chosen.now }
-    {
-        self.may_do(chosen, chosen[last], &self.table.subtasks[last])
-    }
 }
 
 impl Rule for Puzzle<'_> {
@@ -398,7 +339,7 @@ impl Rule for Puzzle<'_> {
                 if last < self.table.subtasks.len() {
                     self.is_child_hopeful(chosen, last)
                 } else {
-                    self.is_object_hopeful(chosen, last - self.table.subtasks.len())
+                    !self.is_broken(chosen)
                 }
             }
         }

@@ -20,10 +20,10 @@ pub(crate) struct MethodTable<'w> {
     pub(crate) constraints: &'w [Constraint],
     /// For each subtask the key of the children that may do it.
     pub(crate) keys: RowKeys,
-    /// For each parameter the numbers of the constraints that are decided when it has its object.
-    pub(crate) decided: Vec<Vec<usize>>,
     /// For each parameter the place from which it has its object.
     pub(crate) sources: Vec<Option<Source>>,
+    /// For each number of choices the numbers of the constraints that so many decide.
+    pub(crate) decided: Vec<Vec<usize>>,
     /// The count, if 64 bits hold it.
     pub(crate) count: Option<u64>,
     pub(crate) ghost ascending: { AreAscending ranges.items },

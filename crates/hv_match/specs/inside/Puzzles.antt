@@ -198,14 +198,25 @@ CannotAllBe p q ts os = (B : List ℕ) → Agrees p q B → map (object_of B) ts
 abbrev pub CannotDo : Puzzle → List ℕ → ℕ → Subtask → Type 0
 CannotDo p q x s = (B : List ℕ) → Agrees p q B → Done p.children B x s → ⊥
 
--- the first objects B say what the term is
-abbrev pub IsKnown : List ℕ → Term → Type 0
-IsKnown B t = (others : List ℕ) → object_of (B ++ others) t ≡ object_of B t
+-- the object chosen for the v-th parameter
+abbrev pub IsChosen : Puzzle → List ℕ → ℕ → ℕ → Type 0
+IsChosen p q v o = slice_get q (length p.subtasks + v) ≡ Some o
 
--- the first objects B break the constraint, whatever the others are
-abbrev pub IsBroken : List ℕ → Constraint → Type 0
-IsBroken B c = (others : List ℕ) → holds (B ++ others) c ≡ false
+-- B goes on from the choices q: it has what the task and the children chosen say of parameters, the objects chosen,
+-- and for each parameter an object that it may have
+pub record GoesOn (p : Puzzle) (q B : List ℕ) : Type 0 where
+  pub agrees : Agrees p q B
+  pub chosen : (v o : ℕ) → IsChosen p q v o → slice_index B v ≡ o
+  pub typed : AllZip (λ o r. Contains r o) B p.ranges
 
--- they break one of the constraints
-abbrev pub AreBroken : List ℕ → List Constraint → Type 0
-AreBroken B cs = (others : List ℕ) → all_hold (B ++ others) cs ≡ false
+-- the v-th parameter has this object, whatever is chosen further
+abbrev pub IsValue : Puzzle → List ℕ → ℕ → ℕ → Type 0
+IsValue p q v o = (B : List ℕ) → GoesOn p q B → slice_index B v ≡ o
+
+-- the term is this object
+abbrev pub IsKnown : Puzzle → List ℕ → Term → ℕ → Type 0
+IsKnown p q t o = (B : List ℕ) → GoesOn p q B → object_of B t ≡ o
+
+-- the constraint does not hold
+abbrev pub CannotHold : Puzzle → List ℕ → Constraint → Type 0
+CannotHold p q c = (B : List ℕ) → GoesOn p q B → holds B c ≡ false

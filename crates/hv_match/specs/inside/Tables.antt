@@ -1,5 +1,5 @@
 -- What the tables of the search say.
-use Rattle.std.specs.Prelude.{◌≡◌, ◌<◌, ◌++◌, ◌||◌, ℕ, suc, Bool, true, false, List, [], ◌∷◌, map, length, Option, None, Some, option_map, slice_get, slice_index_or, if◌then◌else◌}
+use Rattle.std.specs.Prelude.{◌≡◌, ◌<◌, ◌≤◌, ◌+◌, ◌++◌, ◌||◌, ℕ, suc, nat_eq, slice_index, Bool, true, false, List, [], ◌∷◌, map, length, Option, None, Some, option_map, slice_get, slice_index_or, if◌then◌else◌}
 use Rattle.std.specs.Global.{Vec}
 use Rattle.std.specs.Str.{bytes_eq}
 use Rattle.hv_world.specs.Bindings.{object_number, object_of}
@@ -68,10 +68,28 @@ KeepNumbers old new = (k : List ℕ) (i : ℕ) → number_of k old ≡ Some i �
 abbrev pub AreNamed : List Subtask → Type 0
 AreNamed ss = (j : ℕ) (s : Subtask) → slice_get ss j ≡ Some s → is_ground s.terms ≡ false
 
--- each subtask has the number of its key, and keys with objects are looked for where there are any
+-- how often a number stands among others
+abbrev pub how_often : ℕ → List ℕ → ℕ
+how_often i [] = 0
+how_often i (n ∷ ns) = (if nat_eq n i then 1 else 0) + how_often i ns
+
+-- each number stands among others so often at least
+abbrev pub AreSizes : List ℕ → List ℕ → Type 0
+AreSizes numbers sizes = (i : ℕ) → slice_index sizes i ≤ how_often i numbers
+
+-- a number was counted once more at most, and no other
+abbrev pub CountsOnce : List ℕ → ℕ → List ℕ → Type 0
+CountsOnce old n new = (i : ℕ) → slice_index new i ≤ slice_index old i + (if nat_eq n i then 1 else 0)
+
+-- each subtask has the number of its key, and each key its size; keys with objects are looked for where there are any
 pub record AreKeys (ss : List Subtask) (k : RowKeys) : Type 0 where
   pub numbers : AreKeyNumbers k.keys.keys ss k.row_of.items
+  pub sizes : AreSizes k.row_of.items k.sizes.items
   pub named : k.is_exact ≡ false → AreNamed ss
+
+-- the size of the key of the subtask of a number
+abbrev pub size_for : RowKeys → ℕ → ℕ
+size_for k j = elim (slice_get k.row_of.items j) [ None ↦ 0 | Some i ↦ slice_index k.sizes.items i ]
 
 -- a place stands behind those of a key, and the other rows are as they were
 abbrev pub HasPut : List (Vec ℕ) → List ℕ → ℕ → List (Vec ℕ) → List (Vec ℕ) → Type 0

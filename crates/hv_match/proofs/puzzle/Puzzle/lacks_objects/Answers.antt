@@ -3,7 +3,7 @@ use Rattle.hv_world.specs.Bindings.{object_number}
 use Rattle.hv_world.specs.declared.id.ObjectId.{ObjectId}
 use Rattle.hv_match.specs.inside.PuzzleViews.{puzzle_view}
 use Rattle.hv_match.proofs.Hope.{none_wanted}
-use Rattle.hv_match.proofs.puzzle.Puzzle.is_hopeless.Goals as goal
+use Rattle.hv_match.proofs.puzzle.Puzzle.lacks_objects.Goals as goal
 
 empty : (os : List ObjectId) → length os ≡ 0 → map object_number os ≡ []
 empty [] e = refl

@@ -1,5 +1,5 @@
 use Rattle.std.proofs.Common.{◌≤◌, ◌-◌, length}
-use Rattle.hv_match.proofs.puzzle.Puzzle.is_hopeless.Given as goal
+use Rattle.hv_match.proofs.puzzle.Puzzle.lacks_objects.Given as goal
 
 abbrev pub invariant-loop-at : goal.invariant-loop-at
 invariant-loop-at l = l.at ≤ length l.self.table.now.ranges.items
