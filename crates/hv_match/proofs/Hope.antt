@@ -1,5 +1,5 @@
 -- What may still lead to a match.
-use Rattle.std.proofs.Common.{◌≡◌, ℕ, zero, suc, ◌+◌, ◌<◌, ◌≤◌, Bool, true, false, not, ◌&&◌, List, [], ◌∷◌, ◌++◌, length, map, take, drop, get_or, slice_get, refl, sym, ap, ◌∙◌, arith, subst, if◌then◌else◌, Option, Some, None, ◌⊎◌, inl, inr, Contains}
+use Rattle.std.proofs.Common.{◌≡◌, ℕ, zero, suc, ◌+◌, ◌<◌, ◌≤◌, Bool, true, false, not, ◌&&◌, List, [], ◌∷◌, ◌++◌, length, map, drop, get_or, slice_get, refl, sym, ap, ◌∙◌, arith, subst, if◌then◌else◌, Option, Some, None, ◌⊎◌, inl, inr, Contains}
 use Rattle.std.proofs.lemmas.List.{get_or_default}
 use Rattle.std.specs.Global.{Vec}
 use Rattle.std.specs.List.{AllZip}

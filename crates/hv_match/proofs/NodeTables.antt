@@ -1,5 +1,5 @@
 -- What the table of a node's method says of the node.
-use Rattle.std.proofs.Common.{◌≡◌, ◌↔◌, ◌<◌, ◌≤◌, ◌+◌, ◌++◌, ℕ, zero, suc, List, [], ◌∷◌, length, map, refl, sym, ap, ◌∙◌, subst, Option, Some, None, option_map, slice_get, MatchOption, Contains, Bor, take, get_or}
+use Rattle.std.proofs.Common.{◌≡◌, ◌<◌, ◌+◌, ◌++◌, ℕ, zero, suc, List, [], ◌∷◌, length, map, refl, subst, Option, Some, None, option_map, slice_get, MatchOption, Bor, take, get_or}
 use Rattle.std.specs.List.{AllZip}
 use Rattle.hv_text.specs.Lists.{Once}
 use Rattle.hv_world.specs.Worlds.{World, Method}

@@ -1,12 +1,11 @@
 -- Subtasks that are more than the children that may do them.
-use Rattle.std.proofs.Common.{◌≡◌, ◌≢◌, ℕ, zero, suc, ◌+◌, ◌<◌, ◌≤◌, Bool, true, false, List, [], ◌∷◌, ◌++◌, length, map, take, set, get_or, get_or-set_same, get_or-set_other, slice_get, nat_eq, eqb-true, eq-eqb, refl, sym, ap, ◌∙◌, arith, subst, if◌then◌else◌, Option, Some, None, ◌⊎◌, inl, inr, Contains}
+use Rattle.std.proofs.Common.{◌≡◌, ◌≢◌, ℕ, ◌+◌, ◌<◌, ◌≤◌, Bool, true, false, List, [], ◌∷◌, ◌++◌, length, map, take, set, get_or, get_or-set_same, get_or-set_other, nat_eq, eqb-true, eq-eqb, refl, sym, ap, ◌∙◌, arith, subst, if◌then◌else◌, Option, Some, inl, inr, Contains}
 use Rattle.std.proofs.lemmas.List.{take_more}
 use Rattle.std.specs.Global.{Vec}
 use Rattle.std.specs.List.{AllZip}
 use Rattle.hv_text.specs.Lists.{Once}
 use Rattle.hv_world.specs.Values.{Subtask}
-use Rattle.hv_world.specs.Bindings.{object_of}
-use Rattle.hv_match.specs.inside.Puzzles.{Work, work, child_at, may_do, places_where, Done}
+use Rattle.hv_match.specs.inside.Puzzles.{Work, child_at, may_do, places_where, Done}
 use Rattle.hv_match.specs.inside.Tables.{subtask_key, has_key, number_of, how_often, AreSizes, CountsOnce}
 use Rattle.hv_match.proofs.Members.{at_head, in_tail, none_in_empty, contains_cases, once_head, once_tail, once_none, once_more, at_most}
 use Rattle.hv_match.proofs.MayDo.{places_there, done_may}

@@ -1,4 +1,4 @@
-use Rattle.std.proofs.Common.{◌<◌, ◌≤◌, ◌+◌, length, get_or, arith}
+use Rattle.std.proofs.Common.{arith}
 use Rattle.hv_match.proofs.Scarce.{counted}
 use Rattle.hv_match.proofs.child_rows.count_once.Goals as goal
 

@@ -1,4 +1,4 @@
-use Rattle.std.proofs.Common.{◌≡◌, ◌<◌, Some, IfSome, length, sym, ap, ◌∙◌, subst, arith}
+use Rattle.std.proofs.Common.{◌≡◌, ◌<◌, Some, IfSome, length, sym, ◌∙◌, subst, arith}
 use Rattle.hv_match.specs.inside.Tables.{number_of, row_at}
 use Rattle.hv_match.proofs.Rows.{position_is, put_nowhere, put_there}
 use Rattle.hv_match.proofs.child_rows.put.Goals as goal

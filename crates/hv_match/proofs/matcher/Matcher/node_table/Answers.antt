@@ -1,4 +1,4 @@
-use Rattle.std.proofs.Common.{◌≡◌, List, Bor, Some, option_map, slice_get, sym, subst}
+use Rattle.std.proofs.Common.{◌≡◌, List, Bor, option_map, slice_get, sym, subst}
 use Rattle.hv_world.specs.Worlds.{World}
 use Rattle.hv_world.specs.WorldViews.{world_view}
 use Rattle.hv_plan.specs.TreeViews.{node_view}

@@ -1,4 +1,4 @@
-use Rattle.std.proofs.Common.{◌≡◌, ◌<◌, ◌∙◌, List, Bor, Some, length, map, get_or, ap, sym, refl, arith}
+use Rattle.std.proofs.Common.{◌≡◌, ◌<◌, ◌∙◌, List, Bor, Some, length, map, ap, sym, refl, arith}
 use Rattle.hv_world.specs.Bindings.{object_number}
 use Rattle.hv_world.specs.declared.id.ObjectId.{ObjectId}
 use Rattle.hv_match.specs.inside.Puzzles.{bound, has}

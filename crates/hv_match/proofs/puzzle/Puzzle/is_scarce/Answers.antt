@@ -1,9 +1,8 @@
-use Rattle.std.proofs.Common.{◌≡◌, ◌<◌, ◌∙◌, length, map, ap, subst, sym, refl, arith, ltb-true}
+use Rattle.std.proofs.Common.{◌≡◌, ◌<◌, ◌∙◌, length, ap, arith, ltb-true}
 use Rattle.std.proofs.lemmas.List.{length-map}
 use Rattle.hv_world.specs.Views.{subtask_view}
 use Rattle.hv_match.specs.inside.Puzzles.{children_for}
 use Rattle.hv_match.specs.inside.PuzzleViews.{puzzle_view}
-use Rattle.hv_match.specs.inside.Tables.{size_for}
 use Rattle.hv_match.proofs.Hope.{none_scarce}
 use Rattle.hv_match.proofs.Rows.{row_is}
 use Rattle.hv_match.proofs.puzzle.Puzzle.is_scarce.Goals as goal

@@ -1,4 +1,4 @@
-use Rattle.std.proofs.Common.{◌≡◌, ◌∙◌, true, nat_eq, eq-eqb, length, option_map, sym, arith}
+use Rattle.std.proofs.Common.{◌≡◌, true, nat_eq, eq-eqb, length, option_map, arith}
 use Rattle.std.proofs.lemmas.List.{length-map}
 use Rattle.hv_world.specs.Views.{subtask_view}
 use Rattle.hv_match.specs.inside.PuzzleViews.{puzzle_view}
