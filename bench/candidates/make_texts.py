@@ -5,7 +5,9 @@
 `late`: the same number of children and of nodes, but only constraints on the objects of all children say the order.
 `free` and `equal`: a method with three parameters that nothing binds, with SIZE objects each; `equal` has a constraint
 that the first two are one. `names`: a node of SIZE children, each of another action. `objects`: the same with one
-action, and another object for each child.
+action, and another object for each child. `typed`: as `late`, but each parameter has a type of its own instead of a
+constraint. `mixed`: 20 nodes with SIZE alike children, of which three do what no subtask wants. `chain`: SIZE nodes
+below one another, each with an action and the next node for its children.
 """
 import random
 import sys
@@ -38,7 +40,7 @@ def shuffled(count, seed):
 
 def many_nodes(size, action, arguments, subtasks, parameters, constraints, objects):
     """NODES nodes whose children do `action`, in an order of their own."""
-    method = f"(:method m :parameters (?n {sequence('?x', parameters)}) :task (t ?n)\n:ordered-subtasks (and {' '.join(subtasks)}){constraints})"
+    method = f"(:method m :parameters ({parameters} ?n) :task (t ?n)\n:ordered-subtasks (and {' '.join(subtasks)}){constraints})"
     domain = domain_of(*objects[1], "(:task t :parameters (?n))", action, method)
     actions, lines, root = [], [], []
     for node in range(NODES):
@@ -52,14 +54,34 @@ def many_nodes(size, action, arguments, subtasks, parameters, constraints, objec
 def tour(size):
     action = "(:action a :parameters (?x ?y))"
     subtasks = [f"(a ?x{k} ?x{k + 1})" for k in range(size)]
-    return many_nodes(size, action, lambda k: f"o{k} o{k + 1}", subtasks, size + 1, "", (sequence("o", size + 1), []))
+    return many_nodes(size, action, lambda k: f"o{k} o{k + 1}", subtasks, sequence("?x", size + 1), "", (sequence("o", size + 1), []))
 
 
 def late(size):
     action = "(:action a :parameters (?x))"
     subtasks = [f"(a ?x{k})" for k in range(size)]
     equal = "\n:constraints (and " + " ".join(f"(= ?x{k} o{k})" for k in range(size)) + ")"
-    return many_nodes(size, action, lambda k: f"o{k}", subtasks, size, equal, ("", [f"(:constants {sequence('o', size)})"]))
+    return many_nodes(size, action, lambda k: f"o{k}", subtasks, sequence("?x", size), equal, ("", [f"(:constants {sequence('o', size)})"]))
+
+
+def typed(size):
+    action = "(:action a :parameters (?x))"
+    subtasks = [f"(a ?x{k})" for k in range(size)]
+    parameters = " ".join(f"?x{k} - t{k}" for k in range(size))
+    return many_nodes(size, action, lambda k: f"o{k}", subtasks, parameters, "", (" ".join(f"o{k} - t{k}" for k in range(size)), [f"(:types {sequence('t', size)})"]))
+
+
+def mixed(size):
+    action = "(:action a :parameters (?x ?y))"
+    subtasks = [f"(a {'one' if k < size - 3 else 'two'} ?x{k})" for k in range(size)]
+    return many_nodes(size, action, lambda k: f"one o{k}", subtasks, sequence("?x", size), "", (sequence("o", size), ["(:constants one two)"]))
+
+
+def chain(size):
+    methods = ["(:method m :parameters (?x) :task (t ?x) :ordered-subtasks (and (a ?x) (t ?x)))", "(:method e :parameters (?x) :task (t ?x) :ordered-subtasks ())"]
+    domain = domain_of("(:task t :parameters (?x))", "(:action a :parameters (?x))", *methods)
+    lines = [f"{size + k} t o -> m {k} {size + k + 1}" for k in range(size)] + [f"{2 * size} t o -> e"]
+    return domain, problem_of("o", ["(t o)"]), plan_of([f"{k} a o" for k in range(size)], lines, [size])
 
 
 def free(size, constraint=""):
@@ -82,7 +104,7 @@ def objects(size):
 
 
 def main():
-    kinds = {"tour": tour, "late": late, "free": free, "equal": equal, "names": names, "objects": objects}
+    kinds = {"tour": tour, "late": late, "typed": typed, "mixed": mixed, "free": free, "equal": equal, "names": names, "objects": objects, "chain": chain}
     texts = kinds[sys.argv[1]](int(sys.argv[2]))
     for name, text in zip(sys.argv[3:], texts):
         with open(name, "w") as file:
