@@ -6,7 +6,7 @@ ghost use Rattle.hv_world.specs.Bindings.{object_number, object_of};
 ghost use Rattle.hv_world.specs.Views.{name_view, term_view, subtask_view};
 ghost use Rattle.hv_match.specs.inside.Puzzles as puzzles;
 ghost use Rattle.hv_match.specs.inside.Tables as tables;
-ghost use Rattle.hv_match.specs.inside.Tables.{work_view, AreChildRows, AreChildRowsBy, AreKeyNumbers, AreKeys, AreNamed, AreRows, AreSizes, CountsOnce, HasPut, HasPutChild, HasPutExact, IsKeyNumber, KeepNumbers};
+ghost use Rattle.hv_match.specs.inside.Tables.{work_view, AreChildRowsBy, AreKeyNumbers, AreKeys, AreNamed, AreOwnRows, ArePlaces, AreRows, AreSizes, CountsOnce, HasPut, HasPutChild, HasPutExact, IsKeyNumber, KeepNumbers};
 
 use crate::puzzle::{Work, are_values, same_name, value};
 use hv_text::{Lists, Memory};
@@ -232,7 +232,8 @@ fn put_child(
 ) -> Result<(), Memory>
     requires { length rows.old ≡ length keys.now.keys.keys }
     ensures size { OnOk result (length rows.new ≡ length rows.old) }
-    ensures rows { OnOk result (HasPutChild keys.now (option_map work_view child.entry) place rows.old rows.new) }
+    ensures rows { OnOk result
+        (HasPutChild keys.now (option_map work_view child.entry) place rows.old rows.new) }
 {
     if let Some(work) = child {
         write_head(key, work.name, false)?;
@@ -269,8 +270,8 @@ fn in_one(alloc: Global, rows: &[Vec<usize>]) -> Result<Lists<usize>, Memory>
     Ok(lists)
 }
 
-// Whether a child may do a subtask, by its name, and, where all terms of the subtask are objects, by
-// its objects.
+// Whether a child may do a subtask, by its name, and, where all terms of the subtask are objects,
+// by its objects.
 fn may_do(subtask: &Subtask, child: Option<Work<'_>>) -> bool
     ensures { result ≡ puzzles.may_do (subtask_view subtask.now) (option_map work_view child.entry) }
 {
@@ -289,7 +290,7 @@ fn push_row(
     subtask: &Subtask,
     children: &[Option<Work<'_>>],
 ) -> Result<(), Memory>
-    ensures { OnOk result (row.new.items ≡ row.old.items ++ tables.row_of_code (subtask_view subtask.now) children.now) }
+    ensures { OnOk result (row.new.items ≡ row.old.items ++ tables.row_of subtask.now children.now) }
 {
     for (place, child) in children.iter().enumerate() {
         if may_do(subtask, *child) {
@@ -305,7 +306,7 @@ fn rows_by_subtask(
     subtasks: &[Subtask],
     children: &[Option<Work<'_>>],
 ) -> Result<Lists<usize>, Memory>
-    ensures { IfOk result (λ ls. ls ≡ map (λ s. tables.row_of_code s children.now) (map subtask_view subtasks.now)) }
+    ensures { IfOk result (AreOwnRows subtasks.now children.now) }
 {
     let mut rows = Lists::with_capacity(alloc, subtasks.len())?;
     let mut row = Vec::with_capacity(alloc, children.len())?;
@@ -362,7 +363,7 @@ fn by_subtask<'a>(
     subtasks: &[Subtask],
     children: &[Option<Work<'_>>],
 ) -> Result<ChildRows<'a>, Memory>
-    ensures { IfOk result (AreChildRows (map subtask_view subtasks.now) (map (option_map work_view) children.now)) }
+    ensures { IfOk result (ArePlaces subtasks.now children.now) }
 {
     let rows = rows_by_subtask(alloc, subtasks, children)?;
     Ok(ChildRows {
@@ -397,7 +398,7 @@ pub(crate) fn child_rows_for<'a>(
     children: &[Option<Work<'_>>],
 ) -> Result<ChildRows<'a>, Memory>
     requires { AreKeys (map subtask_view subtasks.now) keys.now }
-    ensures { IfOk result (AreChildRows (map subtask_view subtasks.now) (map (option_map work_view) children.now)) }
+    ensures { IfOk result (ArePlaces subtasks.now children.now) }
 {
     if subtasks.len() <= FEW {
         by_subtask(alloc, keys, subtasks, children)

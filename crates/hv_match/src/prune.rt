@@ -8,8 +8,8 @@ ghost use Rattle.hv_match.specs.inside.Puzzles.{CannotHold, IsChosen, IsKnown, I
 use crate::puzzle::{Puzzle, agree, is_in};
 use hv_world::{Constraint, Term};
 
-// Where the subtasks are fewer, the search is as fast as a look at each of them; where they are more,
-// such a look may take as long as the search.
+// Where the subtasks are fewer, the search is as fast as a look at each of them; where they are
+// more, such a look may take as long as the search.
 const LEAST_LOOKED_AT: usize = 4;
 
 const MOST_LOOKED_AT: usize = 64;
@@ -47,7 +47,8 @@ impl Puzzle<'_> {
 
     // Whether a constraint is broken, whatever is chosen further.
     fn breaks(&self, chosen: &[usize], constraint: Constraint) -> bool
-        ensures { result ≡ true → CannotHold (puzzle_view self.now) chosen.now (constraint_view constraint) }
+        ensures { result ≡ true
+            → CannotHold (puzzle_view self.now) chosen.now (constraint_view constraint) }
     {
         match (
             self.known(chosen, constraint.left),
@@ -103,8 +104,8 @@ impl Puzzle<'_> {
         }
     }
 
-    // Whether one of the parameters that have their objects from these terms, those of a subtask or of
-    // the task, is bound to an object that is not of its type.
+    // Whether one of the parameters that have their objects from these terms, those of a subtask or
+    // of the task, is bound to an object that is not of its type.
     fn is_outside(&self, chosen: &[usize], subtask: Option<usize>, terms: &[Term]) -> bool
         ensures { result ≡ true → NothingBegins (search_of self.now) chosen.now }
     {
@@ -186,8 +187,8 @@ impl Puzzle<'_> {
         false
     }
 
-    // Whether the node's task is not the method's, an object of it is not of its parameter's type, or
-    // its objects break a constraint.
+    // Whether the node's task is not the method's, an object of it is not of its parameter's type,
+    // or its objects break a constraint.
     fn is_misgiven(&self) -> bool
         ensures { result ≡ true → NothingBegins (search_of self.now) [] }
     {

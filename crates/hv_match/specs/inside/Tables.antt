@@ -111,6 +111,14 @@ HasPutChild ks child place old new =
 abbrev pub row_of_code : Subtask → List (Option code_work.Work) → List ℕ
 row_of_code s cs = places_where (may_do s) 0 (map (option_map work_view) cs)
 
+-- the same with the subtask of the code
+abbrev pub row_of : code_subtask.Subtask → List (Option code_work.Work) → List ℕ
+row_of s cs = row_of_code (subtask_view s) cs
+
+-- there is a row for each subtask of the code
+abbrev pub AreOwnRows : List code_subtask.Subtask → List (Option code_work.Work) → List (List ℕ) → Type 0
+AreOwnRows ss cs rows = rows ≡ map (λ s. row_of_code s cs) (map subtask_view ss)
+
 -- the row of the subtask of a number
 abbrev pub row_for : ChildRows → ℕ → List ℕ
 row_for p j =
