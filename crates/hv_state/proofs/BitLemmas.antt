@@ -1,17 +1,14 @@
 -- What changes of bits change of the atoms that are true.
-use Rattle.std.proofs.Common.{◌≡◌, ◌≢◌, ◌<◌, ◌≤◌, ◌*◌, ◌+◌, ◌++◌, ◌/◌, ◌%◌, ◌^◌, ◌⊎◌, ◌↔◌, inl, inr, bit_and, bit_or, ℕ, List, [], ◌∷◌, refl, sym, ap, ◌∙◌, subst, arith, length, set, get_or, slice_index, get_or-set_same, get_or-set_other, w64}
+use Rattle.std.proofs.Common.{◌≡◌, ◌≢◌, ◌<◌, ◌≤◌, ◌*◌, ◌+◌, ◌-◌, ◌++◌, ◌/◌, ◌%◌, ◌^◌, ◌⊎◌, ◌↔◌, inl, inr, bit_and, bit_or, ℕ, List, [], ◌∷◌, refl, sym, ap, ◌∙◌, subst, arith, length, set, get_or, slice_index, get_or-set_same, get_or-set_other, w64}
 use Rattle.std.specs.List.{Contains}
 use Rattle.std.specs.Int.{bit_at, bit_not}
 use Rattle.std.proofs.lemmas.Bool.{cases_eq, cases_lt}
 use Rattle.std.proofs.lemmas.List.{get_or_default}
 use Rattle.std.proofs.lemmas.List.Elements.{Contains-push, Contains-push_cases, Contains-append_left}
-use Rattle.std.proofs.lemmas.Nat.Bits.{bit_at-zero, bit_at_set_same, bit_at_set_other, bit_at_clear_same, bit_at_clear_other}
+use Rattle.std.proofs.lemmas.Nat.Bits.{bit_at_ones, bit_at_set_same, bit_at_set_other, bit_at_clear_same, bit_at_clear_other}
 use Rattle.hv_state.specs.inside.Rows.{IsBelow, Ascend}
 use Rattle.hv_state.specs.inside.Bits.{Has, Bits, Lit, Knows}
 use Rattle.hv_state.proofs.RowLemmas.{below_itself, contains_cases, contains_first, contains_later, contains_none}
-
-no_bit : (k : ℕ) → bit_at 0 k ≡ 1 → ⊥
-no_bit k e = omega (arith, sym (bit_at-zero k) ∙ e)
 
 -- one word of several changes
 module _ (ws : List ℕ) (s : ℕ) (w : s / 64 < length ws) where
@@ -71,9 +68,9 @@ module _ (ws : List ℕ) (s : ℕ) (w : s / 64 < length ws) where
       from h (inl e) = absurd (at_s (subst (λ j. Has (set ws (s / 64) (bit_and (slice_index ws (s / 64)) (bit_not w64 (1 * 2 ^ (s % 64) % 2 ^ 64)))) j) e h))
       from h (inr n) = (sym (other_bit (bit_and (slice_index ws (s / 64)) (bit_not w64 (1 * 2 ^ (s % 64) % 2 ^ 64))) others i n) ∙ h, n)
 
--- words without bits
-pub none_set : (ws : List ℕ) → ((k : ℕ) → slice_index ws k ≡ 0) → (i : ℕ) → Has ws i → ⊥
-none_set ws zeros i h = no_bit (i % 64) (sym (ap (λ word. bit_at word (i % 64)) (zeros (i / 64))) ∙ h)
+-- words of which each bit is set
+pub each_set : (ws : List ℕ) (n : ℕ) → ((k : ℕ) → k < n → slice_index ws k ≡ 2 ^ 64 - 1) → (i : ℕ) → i / 64 < n → Has ws i
+each_set ws n full i lt = ap (λ word. bit_at word (i % 64)) (full (i / 64) lt) ∙ bit_at_ones 64 (i % 64) (omega arith)
 
 -- a row stands at one place
 read_at : (rows : List (List ℕ)) (r : List ℕ) (m : Contains rows r) (d : List ℕ) → get_or rows m.0 d ≡ r

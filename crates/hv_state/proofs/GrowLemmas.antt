@@ -21,7 +21,7 @@ use Rattle.hv_state.proofs.HistoryLemmas.{if_true, if_false, is_row, no_row, tai
 pub set_grows : (hs : List History) (i : ℕ) (h new : History) (c : code.Change) → i < length hs → h ≡ get_or hs i h → new.row ≡ h.row → new.changes.items ≡ h.changes.items ++ c ∷ [] → map history_view (set hs i new) ≡ grown (map history_view hs) i (change_view c)
 set_grows [] i h new c lt is row e = absurd (omega (arith, lt))
 set_grows (x ∷ hs) zero h new c lt is row e =
-    let rows : new.row.numbers.value.items ≡ x.row.numbers.value.items = ap (λ r. r.numbers.value.items) row ∙ ap (λ (y : History). y.row.numbers.value.items) is in
+    let rows : new.row.numbers.items ≡ x.row.numbers.items = ap (λ r. r.numbers.items) row ∙ ap (λ (y : History). y.row.numbers.items) is in
     let lists : map change_view new.changes.items ≡ map change_view x.changes.items ++ change_view c ∷ [] = ap (map change_view) e ∙ map_push change_view h.changes.items c ∙ ap (λ (y : History). map change_view y.changes.items ++ change_view c ∷ []) is in
     λ j. (rows j, lists j) ∷ map history_view hs
 set_grows (x ∷ hs) (suc i) h new c lt is row e = ap (λ es. history_view x ∷ es) (set_grows hs i h new c (omega (arith, lt)) is row e)
@@ -29,7 +29,7 @@ set_grows (x ∷ hs) (suc i) h new c lt is row e = ap (λ es. history_view x ∷
 pub set_same : (hs : List History) (i : ℕ) (h new : History) → i < length hs → h ≡ get_or hs i h → new.row ≡ h.row → new.changes.items ≡ h.changes.items → map history_view (set hs i new) ≡ map history_view hs
 set_same [] i h new lt is row e = absurd (omega (arith, lt))
 set_same (x ∷ hs) zero h new lt is row e =
-    let rows : new.row.numbers.value.items ≡ x.row.numbers.value.items = ap (λ r. r.numbers.value.items) row ∙ ap (λ (y : History). y.row.numbers.value.items) is in
+    let rows : new.row.numbers.items ≡ x.row.numbers.items = ap (λ r. r.numbers.items) row ∙ ap (λ (y : History). y.row.numbers.items) is in
     let lists : map change_view new.changes.items ≡ map change_view x.changes.items = ap (map change_view) e ∙ ap (λ (y : History). map change_view y.changes.items) is in
     λ j. (rows j, lists j) ∷ map history_view hs
 set_same (x ∷ hs) (suc i) h new lt is row e = ap (λ es. history_view x ∷ es) (set_same hs i h new (omega (arith, lt)) is row e)
@@ -147,8 +147,8 @@ empty_table rows ascend t e = subst IsTable (sym e) (record { rows = subst Ascen
 -- one history more, without changes
 pub empty_more : (hs : List History) (vs : List Row) (h : History) → map history_view hs ≡ map (λ r. (r, [])) (rows_in vs) → h.changes.items ≡ [] → map history_view (hs ++ h ∷ []) ≡ map (λ r. (r, [])) (rows_in (vs ++ h.row ∷ []))
 empty_more hs vs h e none =
-    let row = h.row.numbers.value.items in
-    map_push history_view hs h ∙ (λ j. e j ++ (row, ap (map change_view) none j) ∷ []) ∙ sym (ap (map (λ r. (r, []))) (map_push (λ (v : Row). v.numbers.value.items) vs h.row) ∙ map_push (λ r. (r, [])) (rows_in vs) row)
+    let row = h.row.numbers.items in
+    map_push history_view hs h ∙ (λ j. e j ++ (row, ap (map change_view) none j) ∷ []) ∙ sym (ap (map (λ r. (r, []))) (map_push (λ (v : Row). v.numbers.items) vs h.row) ∙ map_push (λ r. (r, [])) (rows_in vs) row)
 
 pub map_self : {X : Type 0} (xs : List X) → map (λ x. x) xs ≡ xs
 map_self [] = refl

@@ -15,43 +15,10 @@ use Rattle.hv_state.specs.Changes.{Change, told_from, told}
 use Rattle.hv_state.specs.inside.Histories.{Table, Rise, beside, rows_of, change_view, history_view, kept, AreFlagged}
 use Rattle.hv_state.proofs.RowLemmas.{some_of, below_itself, below_from, same_rows, step_rises, contains_cases, contains_none}
 
--- what a search finds
-module _ {X : Type 0} (f : X → List ℕ) (xs : List X) (row : List ℕ) (ascend : Ascend (map f xs)) where
-  row_at : (k : ℕ) (d : X) → k < length xs → get_or (map f xs) k [] ≡ f (get_or xs k d)
-  row_at k d lt = get_or-map f xs k d [] lt
-
-  rises : IsNonDecreasingBy (λ v. ordering_index (slice_cmp nat_cmp (f v) row)) xs
-  rises i j d le lt = by (cases_lt i j)
-    where
-      by : (i < j) ⊎ (j ≤ i) → ordering_index (slice_cmp nat_cmp (f (get_or xs i d)) row) ≤ ordering_index (slice_cmp nat_cmp (f (get_or xs j d)) row)
-      by (inl before) =
-          let at : IsBelow (get_or (map f xs) i []) (get_or (map f xs) j []) = ascend i j [] before (omega (arith, lt, length-map xs f)) in
-          step_rises _ _ row (subst (λ x. IsBelow x (f (get_or xs j d))) (row_at i d (omega (arith, before, lt))) (subst (λ y. IsBelow (get_or (map f xs) i []) y) (row_at j d lt) at))
-      by (inr behind) =
-          let same : i ≡ j = omega (arith, behind, le) in
-          subst (λ k. ordering_index (slice_cmp nat_cmp (f (get_or xs i d)) row) ≤ ordering_index (slice_cmp nat_cmp (f (get_or xs k d)) row)) same (omega arith)
-
-  pub searched : (r : Result ℕ ℕ) → IsSearchInRange r (length xs) → IsBinarySearchResult (λ v. slice_cmp nat_cmp (f v) row) xs r → IsPlace (map f xs) row r
-  searched (Ok i) in_range equal =
-      let d = some_of xs (omega (arith, in_range)) in
-      (omega (arith, in_range, length-map xs f), row_at i d in_range ∙ same_rows (f (get_or xs i d)) row (equal d))
-  searched (Err i) in_range parted = (omega (arith, in_range, length-map xs f), before, behind)
-    where
-      before : (k : ℕ) → k < i → IsBelow (get_or (map f xs) k []) row
-      before k lt =
-          let d = some_of xs (omega (arith, in_range, lt)) in
-          subst (λ x. IsBelow x row) (sym (row_at k d (omega (arith, in_range, lt)))) ((parted rises).0 k d (omega arith) lt)
-
-      behind : (k : ℕ) → i ≤ k → k < length (map f xs) → IsBelow row (get_or (map f xs) k [])
-      behind k le lt =
-          let within : k < length xs = omega (arith, lt, length-map xs f) in
-          let d = some_of xs (omega (arith, within)) in
-          subst (λ x. IsBelow row x) (sym (row_at k d within)) (below_from (f (get_or xs k d)) row ((parted rises).1 k d le within))
-
 -- the rows of histories
-pub rows_are : (hs : List History) → rows_of (map history_view hs) ≡ map (λ h. h.row.numbers.value.items) hs
+pub rows_are : (hs : List History) → rows_of (map history_view hs) ≡ map (λ h. h.row.numbers.items) hs
 rows_are [] = refl
-rows_are (h ∷ hs) = ap (λ rows. h.row.numbers.value.items ∷ rows) (rows_are hs)
+rows_are (h ∷ hs) = ap (λ rows. h.row.numbers.items ∷ rows) (rows_are hs)
 
 -- indices rise, as the code has them
 pub from_rises : (cs : List code.Change) → Rise (map change_view cs) → IsNonDecreasingBy (λ c. c.from) cs

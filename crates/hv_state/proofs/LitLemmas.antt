@@ -3,11 +3,11 @@ use Rattle.std.proofs.Common.{◌≡◌, ◌≤◌, ◌<◌, ◌*◌, ◌++◌, 
 use Rattle.std.specs.List.{Contains}
 use Rattle.hv_state.specs.declared.rows.Row.{Row}
 use Rattle.std.proofs.lemmas.List.{get_or_default, get_or-map, length-map, map_push}
-use Rattle.std.proofs.lemmas.List.Elements.{Contains-append_left, Contains-append_right}
+use Rattle.std.proofs.lemmas.List.Elements.{Contains-append_left, Contains-append_right, Contains-append_cases, Contains-push, Contains-push_cases}
 use Rattle.hv_state.specs.Atoms.{GroundAtom, Same, After}
 use Rattle.hv_state.specs.inside.Rows.{row_of, rows_in, Ascend, HasSameRows, IsGap}
-use Rattle.hv_state.specs.inside.Bits.{Has, Bits, Lit, Shown, Knows, AreBits, AreLit, AreDark, IsChanged}
-use Rattle.hv_state.proofs.RowLemmas.{gap_lacks}
+use Rattle.hv_state.specs.inside.Bits.{Has, Bits, Lit, Shown, Knows, AreBits, AreLit, AreDark, AreLacking, IsChanged}
+use Rattle.hv_state.proofs.RowLemmas.{gap_lacks, contains_cases, contains_none}
 use Rattle.hv_state.proofs.StateLemmas.{atom_listed, row_listed}
 use Rattle.hv_state.proofs.BitLemmas.{LitBelow, one_place, lit_more, dark_more}
 
@@ -29,19 +29,65 @@ changed rows old mid new deletes adds dark lit r = (from, to)
     to (inl o) = (lit r).1 (inl ((dark r).1 o))
     to (inr a) = (lit r).1 (inr a)
 
--- a table of the rows of two lists
-pub knows_first : (xs ys both sorted : List (List ℕ)) → both ≡ xs ++ ys → HasSameRows both sorted → Knows sorted xs
-knows_first xs ys both sorted e same r m = (same r).1 (subst (λ rows. Contains rows r) (sym e) (Contains-append_left xs ys r m))
+-- a table of rows, and of those of more that they lack
+module _ (lit rows more new both sorted : List (List ℕ)) (once : HasSameRows lit rows) (lack : AreLacking rows more new) (e : both ≡ rows ++ new) (same : HasSameRows both sorted) where
+  of_first : (r : List ℕ) → Contains rows r → Contains sorted r
+  of_first r m = (same r).1 (subst (λ xs. Contains xs r) (sym e) (Contains-append_left rows new r m))
 
-pub knows_second : (xs ys both sorted : List (List ℕ)) → both ≡ xs ++ ys → HasSameRows both sorted → Knows sorted ys
-knows_second xs ys both sorted e same r m = (same r).1 (subst (λ rows. Contains rows r) (sym e) (Contains-append_right xs ys r m))
+  of_second : (r : List ℕ) → Contains new r → Contains sorted r
+  of_second r m = (same r).1 (subst (λ xs. Contains xs r) (sym e) (Contains-append_right rows new r m))
+
+  pub knows_more_rows : Knows sorted more
+  knows_more_rows r m = elim (lack.all r m) [ inl l ↦ of_first r l | inr n ↦ of_second r n ]
+
+  -- all bits are set, and then those of the new rows cleared
+  pub lit_but : (old words : List ℕ) → ((i : ℕ) → i < length sorted → Has old i) → AreDark sorted old new words → (r : List ℕ) → Lit (sorted, words) r ↔ Contains lit r
+  lit_but old words set dark r = (from, to)
+    where
+      from : Lit (sorted, words) r → Contains lit r
+      from l = let o = (dark r).0 l in elim (Contains-append_cases rows new r (subst (λ xs. Contains xs r) e ((same r).0 o.0.0))) [ inl m ↦ (once r).0 m | inr n ↦ absurd (o.1 n) ]
+
+      to : Contains lit r → Lit (sorted, words) r
+      to m =
+          let there = (once r).1 m in
+          let at = of_first r there in
+          (dark r).1 ((at, set at.0 at.1), λ n. lack.apart r n there)
 
 pub knows_last : (table xs ys both : List (List ℕ)) → both ≡ xs ++ ys → Knows table both → Knows table ys
 knows_last table xs ys both e known r m = known r (subst (λ rows. Contains rows r) (sym e) (Contains-append_right xs ys r m))
 
--- set where none was
-pub lit_alone : (rows : List (List ℕ)) (old new : List ℕ) (more : List (List ℕ)) → ((i : ℕ) → Has old i → ⊥) → AreLit rows old more new → (r : List ℕ) → Lit (rows, new) r ↔ Contains more r
-lit_alone rows old new more none lit r = (λ l. elim ((lit r).0 l) [ inl o ↦ absurd (none o.0.0 o.1) | inr m ↦ m ], λ m. (lit r).1 (inr m))
+-- the rows of more that others lack, one after another
+abbrev pub IsLackingUpTo : List (List ℕ) → List (List ℕ) → List (List ℕ) → List (List ℕ) → Type 0
+IsLackingUpTo rows more new left = ((r : List ℕ) → Contains more r → (Contains rows r ⊎ Contains new r) ⊎ Contains left r) × ((r : List ℕ) → Contains new r → Contains rows r → ⊥)
+
+module _ (rows more new rest : List (List ℕ)) (row : List ℕ) (so_far : IsLackingUpTo rows more new (row ∷ rest)) where
+  pub lacks_one_more : (Contains rows row → ⊥) → IsLackingUpTo rows more (new ++ row ∷ []) rest
+  lacks_one_more lacks = (all, apart)
+    where
+      all : (r : List ℕ) → Contains more r → (Contains rows r ⊎ Contains (new ++ row ∷ []) r) ⊎ Contains rest r
+      all r m = elim (so_far.0 r m) [
+        | inl (inl there) ↦ inl (inl there)
+        | inl (inr n) ↦ inl (inr (Contains-append_left new (row ∷ []) r n))
+        | inr l ↦ elim (contains_cases r row rest l) [ inl e ↦ inl (inr (subst (λ x. Contains (new ++ x ∷ []) r) e (Contains-push new r))) | inr later ↦ inr later ]
+      ]
+
+      apart : (r : List ℕ) → Contains (new ++ row ∷ []) r → Contains rows r → ⊥
+      apart r m there = elim (Contains-push_cases new row r m) [ inl old ↦ so_far.1 r old there | inr e ↦ lacks (subst (Contains rows) (sym e) there) ]
+
+  pub has_one_more : Contains rows row → IsLackingUpTo rows more new rest
+  has_one_more has = (all, so_far.1)
+    where
+      all : (r : List ℕ) → Contains more r → (Contains rows r ⊎ Contains new r) ⊎ Contains rest r
+      all r m = elim (so_far.0 r m) [
+        | inl known ↦ inl known
+        | inr l ↦ elim (contains_cases r row rest l) [ inl e ↦ inl (inl (subst (Contains rows) (sym e) has)) | inr later ↦ inr later ]
+      ]
+
+pub lacks_all : (rows more new left : List (List ℕ)) → left ≡ [] → IsLackingUpTo rows more new left → AreLacking rows more new
+lacks_all rows more new left none so_far = record {
+  all = λ r m. elim (so_far.0 r m) [ inl known ↦ known | inr l ↦ absurd (contains_none r (subst (λ xs. Contains xs r) none l)) ];
+  apart = so_far.1;
+}
 
 -- all rows that are lit
 pub lit_of_all : (b : Bits) (n : ℕ) (lit : List (List ℕ)) → length b.0 ≤ n → ((r : List ℕ) → Contains lit r ↔ LitBelow b n r) → (r : List ℕ) → Contains lit r ↔ Lit b r
@@ -49,13 +95,13 @@ lit_of_all b n lit le before r = (λ m. (let l = (before r).0 m in (l.0, l.2)), 
 
 module _ (rows : List Row) (words : List ℕ) (n : ℕ) (lt : n < length rows) (lit : List Row) (before : (r : List ℕ) → Contains (rows_in lit) r ↔ LitBelow (rows_in rows, words) n r) where
   within : n < length (rows_in rows)
-  within = omega (arith, lt, length-map rows (λ (u : Row). u.numbers.value.items))
+  within = omega (arith, lt, length-map rows (λ (u : Row). u.numbers.items))
 
-  pub push_lit : (v u : Row) (new : List Row) → v ≡ get_or rows n v → new ≡ lit ++ u ∷ [] → u.numbers.value.items ≡ v.numbers.value.items → Has words n → (r : List ℕ) → Contains (rows_in new) r ↔ LitBelow (rows_in rows, words) (n + 1) r
+  pub push_lit : (v u : Row) (new : List Row) → v ≡ get_or rows n v → new ≡ lit ++ u ∷ [] → u.numbers.items ≡ v.numbers.items → Has words n → (r : List ℕ) → Contains (rows_in new) r ↔ LitBelow (rows_in rows, words) (n + 1) r
   push_lit v u new is pushed same h =
-      let at : get_or (rows_in rows) n [] ≡ u.numbers.value.items = get_or-map (λ (u : Row). u.numbers.value.items) rows n v [] lt ∙ ap (λ (u : Row). u.numbers.value.items) (sym is) ∙ sym same in
-      let seen : rows_in new ≡ rows_in lit ++ u.numbers.value.items ∷ [] = ap rows_in pushed ∙ map_push (λ (u : Row). u.numbers.value.items) lit u in
-      subst (λ xs. (r : List ℕ) → Contains xs r ↔ LitBelow (rows_in rows, words) (n + 1) r) (sym seen) (lit_more (rows_in rows, words) n u.numbers.value.items within at (rows_in lit) before h)
+      let at : get_or (rows_in rows) n [] ≡ u.numbers.items = get_or-map (λ (u : Row). u.numbers.items) rows n v [] lt ∙ ap (λ (u : Row). u.numbers.items) (sym is) ∙ sym same in
+      let seen : rows_in new ≡ rows_in lit ++ u.numbers.items ∷ [] = ap rows_in pushed ∙ map_push (λ (u : Row). u.numbers.items) lit u in
+      subst (λ xs. (r : List ℕ) → Contains xs r ↔ LitBelow (rows_in rows, words) (n + 1) r) (sym seen) (lit_more (rows_in rows, words) n u.numbers.items within at (rows_in lit) before h)
 
   pub skip_dark : (new : List Row) → new ≡ lit → (Has words n → ⊥) → (r : List ℕ) → Contains (rows_in new) r ↔ LitBelow (rows_in rows, words) (n + 1) r
   skip_dark new same dark =

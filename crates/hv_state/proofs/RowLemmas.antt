@@ -54,37 +54,37 @@ some_of [] lt = absurd (omega arith)
 some_of (x ∷ xs) lt = x
 
 -- what a search finds
-module _ (vs : List Row) (row : List ℕ) (ascend : Ascend (rows_in vs)) where
-  row_at : (k : ℕ) (d : Row) → k < length vs → get_or (rows_in vs) k [] ≡ (get_or vs k d).numbers.value.items
-  row_at k d lt = get_or-map (λ v. v.numbers.value.items) vs k d [] lt
+module _ {X : Type 0} (f : X → List ℕ) (xs : List X) (row : List ℕ) (ascend : Ascend (map f xs)) where
+  row_at : (k : ℕ) (d : X) → k < length xs → get_or (map f xs) k [] ≡ f (get_or xs k d)
+  row_at k d lt = get_or-map f xs k d [] lt
 
-  rises : IsNonDecreasingBy (λ v. ordering_index (slice_cmp nat_cmp v.numbers.value.items row)) vs
+  rises : IsNonDecreasingBy (λ v. ordering_index (slice_cmp nat_cmp (f v) row)) xs
   rises i j d le lt = by (cases_lt i j)
     where
-      by : (i < j) ⊎ (j ≤ i) → ordering_index (slice_cmp nat_cmp (get_or vs i d).numbers.value.items row) ≤ ordering_index (slice_cmp nat_cmp (get_or vs j d).numbers.value.items row)
+      by : (i < j) ⊎ (j ≤ i) → ordering_index (slice_cmp nat_cmp (f (get_or xs i d)) row) ≤ ordering_index (slice_cmp nat_cmp (f (get_or xs j d)) row)
       by (inl before) =
-          let at : IsBelow (get_or (rows_in vs) i []) (get_or (rows_in vs) j []) = ascend i j [] before (omega (arith, length-map vs (λ v. v.numbers.value.items))) in
-          step_rises _ _ row (subst (λ x. IsBelow x (get_or vs j d).numbers.value.items) (row_at i d (omega arith)) (subst (λ y. IsBelow (get_or (rows_in vs) i []) y) (row_at j d lt) at))
+          let at : IsBelow (get_or (map f xs) i []) (get_or (map f xs) j []) = ascend i j [] before (omega (arith, lt, length-map xs f)) in
+          step_rises _ _ row (subst (λ x. IsBelow x (f (get_or xs j d))) (row_at i d (omega (arith, before, lt))) (subst (λ y. IsBelow (get_or (map f xs) i []) y) (row_at j d lt) at))
       by (inr behind) =
-          let same : i ≡ j = omega arith in
-          subst (λ k. ordering_index (slice_cmp nat_cmp (get_or vs i d).numbers.value.items row) ≤ ordering_index (slice_cmp nat_cmp (get_or vs k d).numbers.value.items row)) same (omega arith)
+          let same : i ≡ j = omega (arith, behind, le) in
+          subst (λ k. ordering_index (slice_cmp nat_cmp (f (get_or xs i d)) row) ≤ ordering_index (slice_cmp nat_cmp (f (get_or xs k d)) row)) same (omega arith)
 
-  pub searched : (r : Result ℕ ℕ) → IsSearchInRange r (length vs) → IsBinarySearchResult (λ v. slice_cmp nat_cmp v.numbers.value.items row) vs r → IsPlace (rows_in vs) row r
+  pub searched : (r : Result ℕ ℕ) → IsSearchInRange r (length xs) → IsBinarySearchResult (λ v. slice_cmp nat_cmp (f v) row) xs r → IsPlace (map f xs) row r
   searched (Ok i) in_range equal =
-      let d = some_of vs (omega (arith, in_range)) in
-      (omega (arith, in_range, length-map vs (λ v. v.numbers.value.items)), row_at i d in_range ∙ same_rows (get_or vs i d).numbers.value.items row (equal d))
-  searched (Err i) in_range parted = (omega (arith, in_range, length-map vs (λ v. v.numbers.value.items)), before, behind)
+      let d = some_of xs (omega (arith, in_range)) in
+      (omega (arith, in_range, length-map xs f), row_at i d in_range ∙ same_rows (f (get_or xs i d)) row (equal d))
+  searched (Err i) in_range parted = (omega (arith, in_range, length-map xs f), before, behind)
     where
-      before : (k : ℕ) → k < i → IsBelow (get_or (rows_in vs) k []) row
+      before : (k : ℕ) → k < i → IsBelow (get_or (map f xs) k []) row
       before k lt =
-          let d = some_of vs (omega (arith, in_range, lt)) in
+          let d = some_of xs (omega (arith, in_range, lt)) in
           subst (λ x. IsBelow x row) (sym (row_at k d (omega (arith, in_range, lt)))) ((parted rises).0 k d (omega arith) lt)
 
-      behind : (k : ℕ) → i ≤ k → k < length (rows_in vs) → IsBelow row (get_or (rows_in vs) k [])
+      behind : (k : ℕ) → i ≤ k → k < length (map f xs) → IsBelow row (get_or (map f xs) k [])
       behind k le lt =
-          let within : k < length vs = omega (arith, lt, length-map vs (λ v. v.numbers.value.items)) in
-          let d = some_of vs (omega (arith, within)) in
-          subst (λ x. IsBelow row x) (sym (row_at k d within)) (below_from (get_or vs k d).numbers.value.items row ((parted rises).1 k d le within))
+          let within : k < length xs = omega (arith, lt, length-map xs f) in
+          let d = some_of xs (omega (arith, within)) in
+          subst (λ x. IsBelow row x) (sym (row_at k d within)) (below_from (f (get_or xs k d)) row ((parted rises).1 k d le within))
 
 -- a row taken out
 module _ (rows : List (List ℕ)) (i : ℕ) (row : List ℕ) (ascend : Ascend rows) (within : i < length rows) (is : get_or rows i [] ≡ row) where
@@ -216,25 +216,25 @@ map-insert f xs i x = map-append f (take i xs) (x ∷ drop i xs) ∙ (λ j. map-
 pub map-remove : {X Y : Type 0} (f : X → Y) (xs : List X) (i : ℕ) → map f (remove xs i) ≡ remove (map f xs) i
 map-remove f xs i = map-append f (take i xs) (drop (suc i) xs) ∙ (λ j. map-take f i xs j ++ map-drop f (suc i) xs j)
 
-module _ (vs new : List Row) (i : ℕ) (row : List ℕ) (ascend : Ascend (rows_in vs)) (within : i < length (rows_in vs)) (is : get_or (rows_in vs) i [] ≡ row) (e : new ≡ remove vs i) where
-  seen_removed : rows_in new ≡ remove (rows_in vs) i
-  seen_removed = ap rows_in e ∙ map-remove (λ v. v.numbers.value.items) vs i
+module _ {X : Type 0} (f : X → List ℕ) (vs new : List X) (i : ℕ) (row : List ℕ) (ascend : Ascend (map f vs)) (within : i < length (map f vs)) (is : get_or (map f vs) i [] ≡ row) (e : new ≡ remove vs i) where
+  seen_removed : map f new ≡ remove (map f vs) i
+  seen_removed = ap (map f) e ∙ map-remove f vs i
 
-  pub remove_ascends : Ascend (rows_in new)
-  remove_ascends = rw seen_removed (removed_ascends (rows_in vs) i row ascend within is)
+  pub remove_ascends : Ascend (map f new)
+  remove_ascends = rw seen_removed (removed_ascends (map f vs) i row ascend within is)
 
-  pub remove_without : IsWithout (rows_in vs) row (rows_in new)
-  remove_without = rw seen_removed (removed (rows_in vs) i row ascend within is)
+  pub remove_without : IsWithout (map f vs) row (map f new)
+  remove_without = rw seen_removed (removed (map f vs) i row ascend within is)
 
-module _ (vs new : List Row) (i : ℕ) (v : Row) (gap : IsGap (rows_in vs) v.numbers.value.items i) (e : new ≡ insert vs i v) where
-  seen_inserted : rows_in new ≡ insert (rows_in vs) i v.numbers.value.items
-  seen_inserted = ap rows_in e ∙ map-insert (λ u. u.numbers.value.items) vs i v
+module _ {X : Type 0} (f : X → List ℕ) (vs new : List X) (i : ℕ) (v : X) (gap : IsGap (map f vs) (f v) i) (e : new ≡ insert vs i v) where
+  seen_inserted : map f new ≡ insert (map f vs) i (f v)
+  seen_inserted = ap (map f) e ∙ map-insert f vs i v
 
-  pub insert_ascends : Ascend (rows_in vs) → Ascend (rows_in new)
-  insert_ascends ascend = rw seen_inserted (inserted_ascends (rows_in vs) i v.numbers.value.items gap ascend)
+  pub insert_ascends : Ascend (map f vs) → Ascend (map f new)
+  insert_ascends ascend = rw seen_inserted (inserted_ascends (map f vs) i (f v) gap ascend)
 
-  pub insert_with : IsWith (rows_in vs) v.numbers.value.items (rows_in new)
-  insert_with = rw seen_inserted (inserted (rows_in vs) i v.numbers.value.items gap)
+  pub insert_with : IsWith (map f vs) (f v) (map f new)
+  insert_with = rw seen_inserted (inserted (map f vs) i (f v) gap)
 
 -- one row less to take out, one less to put in
 pub contains_first : {X : Type 0} (x : X) (xs : List X) → Contains (x ∷ xs) x
@@ -259,26 +259,26 @@ take_out_more now new rest row Q without before r = (from, to)
         let old = (before r).1 q in
         ((without r).1 (old.0, λ e. old.1 (subst (λ x. Contains (x ∷ rest) r) e (contains_first r rest))), λ l. old.1 (contains_later r row rest l))
 
-pub put_in_more : (now new : List (List ℕ)) (left : List Row) (all : List (List ℕ)) (v : Row) (Q : List ℕ → Type 0) → IsWith now v.numbers.value.items new → all ≡ rows_in (left ++ v ∷ [])
-    → ((r : List ℕ) → (Contains now r ⊎ Contains all r) ↔ Q r) → (r : List ℕ) → (Contains new r ⊎ Contains (rows_in left) r) ↔ Q r
-put_in_more now new left all v Q with e before r = (from, to)
+pub put_in_more : {X : Type 0} (f : X → List ℕ) (now new : List (List ℕ)) (left : List X) (all : List (List ℕ)) (v : X) (Q : List ℕ → Type 0) → IsWith now (f v) new → all ≡ map f (left ++ v ∷ [])
+    → ((r : List ℕ) → (Contains now r ⊎ Contains all r) ↔ Q r) → (r : List ℕ) → (Contains new r ⊎ Contains (map f left) r) ↔ Q r
+put_in_more f now new left all v Q with e before r = (from, to)
   where
-    seen : all ≡ rows_in left ++ v.numbers.value.items ∷ []
-    seen = e ∙ map_push (λ u. u.numbers.value.items) left v
+    seen : all ≡ map f left ++ f v ∷ []
+    seen = e ∙ map_push f left v
 
-    last : r ≡ v.numbers.value.items → Contains all r
-    last same = rw (seen) (subst (λ x. Contains (rows_in left ++ x ∷ []) r) same (Contains-push (rows_in left) r))
+    last : r ≡ f v → Contains all r
+    last same = rw (seen) (subst (λ x. Contains (map f left ++ x ∷ []) r) same (Contains-push (map f left) r))
 
-    from : Contains new r ⊎ Contains (rows_in left) r → Q r
+    from : Contains new r ⊎ Contains (map f left) r → Q r
     from (inl m) = elim ((with r).0 m) [ inl old ↦ (before r).0 (inl old) | inr same ↦ (before r).0 (inr (last same)) ]
-    from (inr m) = (before r).0 (inr (rw seen (Contains-append_left (rows_in left) (v.numbers.value.items ∷ []) r m)))
+    from (inr m) = (before r).0 (inr (rw seen (Contains-append_left (map f left) (f v ∷ []) r m)))
 
-    to : Q r → Contains new r ⊎ Contains (rows_in left) r
+    to : Q r → Contains new r ⊎ Contains (map f left) r
     to q = by ((before r).1 q)
       where
-        by : Contains now r ⊎ Contains all r → Contains new r ⊎ Contains (rows_in left) r
+        by : Contains now r ⊎ Contains all r → Contains new r ⊎ Contains (map f left) r
         by (inl m) = inl ((with r).1 (inl m))
-        by (inr m) = elim (Contains-push_cases (rows_in left) v.numbers.value.items r (subst (λ xs. Contains xs r) seen m)) [ inl old ↦ inr old | inr same ↦ inl ((with r).1 (inr (sym same))) ]
+        by (inr m) = elim (Contains-push_cases (map f left) (f v) r (subst (λ xs. Contains xs r) seen m)) [ inl old ↦ inr old | inr same ↦ inl ((with r).1 (inr (sym same))) ]
 
 -- what was done where it could not fail
 pub put_there : {A B X : Type 0} (r : Result A B) (there old new : X) → IsOk r → new ≡ (if is_ok r then there else old) → new ≡ there
@@ -305,8 +305,8 @@ none_left (x ∷ xs) e = absurd (omega arith)
 
 -- the rows that are left
 module _ (rows : List Row) (i : ℕ) where
-  pub rows_left : (v : Row) → i < length rows → v ≡ get_or rows i v → rows_in (drop i rows) ≡ v.numbers.value.items ∷ rows_in (drop (i + 1) rows)
-  rows_left v lt is = at_drop_more rows_in rows i v lt ∙ ap (λ (u : Row). u.numbers.value.items ∷ rows_in (drop (i + 1) rows)) (sym is)
+  pub rows_left : (v : Row) → i < length rows → v ≡ get_or rows i v → rows_in (drop i rows) ≡ v.numbers.items ∷ rows_in (drop (i + 1) rows)
+  rows_left v lt is = at_drop_more rows_in rows i v lt ∙ ap (λ (u : Row). u.numbers.items ∷ rows_in (drop (i + 1) rows)) (sym is)
 
   pub no_rows_left : length rows ≤ i → rows_in (drop i rows) ≡ []
   no_rows_left le = at_drop_all rows_in rows i le

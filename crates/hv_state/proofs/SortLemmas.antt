@@ -13,7 +13,7 @@ use Rattle.hv_state.specs.inside.Rows.{rows_in, Ascend, HasSameRows}
 use Rattle.hv_state.proofs.RowLemmas.{some_of}
 
 abbrev numbers_of : Row → List ℕ
-numbers_of v = v.numbers.value.items
+numbers_of v = v.numbers.items
 
 abbrev pub same_numbers : Row → Row → Bool
 same_numbers u v = pointwise nat_eq (numbers_of u) (numbers_of v)

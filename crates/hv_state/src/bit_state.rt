@@ -8,8 +8,8 @@ ghost use Rattle.hv_state.specs.inside.Bits.{Lit, Shown, Knows, AreBits, IsChang
 use crate::atom::AtomView;
 use crate::bits::has_bit;
 use crate::ground::GroundAtoms;
-use crate::lit::{clear_all, dark, knows_all, lit_rows, set_all};
-use crate::rows::{Row, copy_of, find, push_copies, sort_distinct};
+use crate::lit::{bright, clear_all, knows_all, lacking, lit_rows, set_all};
+use crate::rows::{Row, copy_of, find, push_copies, rows_of, sort_distinct};
 use crate::state::State;
 use crate::touched::touched;
 use hv_text::Memory;
@@ -51,15 +51,18 @@ fn change(table: &[Row], words: &mut Vec<u64>, deletes: &[Row], adds: &[Row])
 }
 
 impl BitState {
-    // A state whose table has these rows and others, and in which the atoms of the others are true.
-    fn over(alloc: Global, mut rows: Vec<Row>, lit: &[Row]) -> Result<BitState, Memory>
-        ensures known { IfOk result (λ s. Knows s.0 (rows_in rows.items)) }
-        ensures lit { IfOk result (λ s. (r : List ℕ) → Lit s r ↔ Contains (rows_in lit.now) r) }
+    // A state in which the atoms of rows are true, and whose table has more rows.
+    fn over(alloc: Global, lit: Vec<Row>, more: &[Row]) -> Result<BitState, Memory>
+        ensures known { IfOk result (λ s. Knows s.0 (rows_in more.now)) }
+        ensures lit { IfOk result (λ s. (r : List ℕ) → Lit s r ↔ Contains (rows_in lit.items) r) }
     {
-        push_copies(&mut rows, lit)?;
+        let mut rows = lit;
         sort_distinct(&mut rows);
-        let mut words = dark(alloc, rows.len())?;
-        set_all(&rows, &mut words, lit);
+        let dark = lacking(alloc, &rows, more)?;
+        push_copies(&mut rows, &dark)?;
+        sort_distinct(&mut rows);
+        let mut words = bright(alloc, rows.len())?;
+        clear_all(&rows, &mut words, &dark);
         let table = Rc::new(alloc, rows)?;
         Ok(BitState { table, words })
     }
@@ -72,7 +75,7 @@ impl BitState {
         let lit = lit_rows(alloc, &self.table, &self.words)?;
         let mut rows = copy_of(alloc, &self.table)?;
         push_copies(&mut rows, more)?;
-        BitState::over(alloc, rows, &lit)
+        BitState::over(alloc, lit, &rows)
     }
 
     // Sees to it that the table has these rows. The same atoms are true as before.
@@ -91,8 +94,8 @@ impl State for BitState {
     ghost atoms = { λ s. Shown s };
 
     fn initial(alloc: Global, world: &World<'_>) -> Result<BitState, Memory> {
-        let begun = GroundAtoms::of(alloc, world.init(), &Binding::Given(&[]))?;
-        BitState::over(alloc, Vec::new(alloc), begun.rows())
+        let begun = rows_of(alloc, world.init(), &Binding::Given(&[]))?;
+        BitState::over(alloc, begun, &[])
     }
 
     fn initial_for(
@@ -100,8 +103,9 @@ impl State for BitState {
         world: &World<'_>,
         actions: &GroundActions,
     ) -> Result<BitState, Memory> {
-        let begun = GroundAtoms::of(alloc, world.init(), &Binding::Given(&[]))?;
-        BitState::over(alloc, touched(alloc, world, actions)?, begun.rows())
+        let begun = rows_of(alloc, world.init(), &Binding::Given(&[]))?;
+        let touched = touched(alloc, world, actions)?;
+        BitState::over(alloc, begun, &touched)
     }
 
     fn copy(&self, alloc: Global) -> Result<BitState, Memory> {

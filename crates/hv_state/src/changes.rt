@@ -57,7 +57,7 @@ fn find_history(list: &[History], atom: &AtomView<'_>) -> Result<usize, usize>
     requires { Ascend (rows_of (map history_view list.now)) }
     ensures { IsPlace (rows_of (map history_view list.now)) (row_of (atom_read atom.now)) result }
 {
-    list.binary_search_by(|history| compare(&history.row.numbers, atom))
+    list.binary_search_by(|history| compare(history.row.as_slice(), atom))
 }
 
 // What the last change up to an index says: by halving.

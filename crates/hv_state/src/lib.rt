@@ -15,6 +15,7 @@ mod lit;
 mod next;
 mod pass;
 mod rows;
+mod shared;
 mod sorted;
 mod state;
 mod touched;

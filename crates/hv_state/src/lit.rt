@@ -1,24 +1,39 @@
 //! Rows with a bit each: that of a row's place.
 
-ghost use Rattle.std.specs.Prelude.{◌≡◌, ℕ, ◌↔◌, ◌≤◌, ◌*◌, length, IsTrue, IfOk};
+ghost use Rattle.std.specs.Prelude.{◌≡◌, ℕ, ◌↔◌, ◌<◌, ◌≤◌, ◌*◌, length, IsTrue, IfOk};
 ghost use Rattle.std.specs.List.{Contains};
 ghost use Rattle.hv_state.specs.inside.Rows.{rows_in, Ascend};
 ghost use Rattle.hv_state.specs.inside.Bits.{Has, Knows, AreBits, AreThoseLit};
-ghost use Rattle.hv_state.specs.inside.Bits.{IsLit, IsDark, AreLit, AreDark};
+ghost use Rattle.hv_state.specs.inside.Bits.{IsLit, IsDark, AreLit, AreDark, AreLacking};
 
 use crate::bits::{clear_bit, has_bit, set_bit};
 use crate::rows::{Row, place};
 use hv_text::Memory;
 use std::alloc::Global;
 
-/// Words for the bits of so many rows, of which none is set.
-pub(crate) fn dark(alloc: Global, count: usize) -> Result<Vec<u64>, Memory>
+/// Words for the bits of so many rows, each of which is set.
+pub(crate) fn bright(alloc: Global, count: usize) -> Result<Vec<u64>, Memory>
     ensures room { IfOk result (λ words. count ≤ 64 * length words.items) }
-    ensures none { IfOk result (λ words. (i : ℕ) → Has words.items i → ⊥) }
+    ensures all { IfOk result (λ words. (i : ℕ) → i < count → Has words.items i) }
 {
     let mut words = Vec::new(alloc);
-    words.resize(count / 64 + 1, 0)?;
+    words.resize(count / 64 + 1, u64::MAX)?;
     Ok(words)
+}
+
+/// The rows of a list that others lack.
+pub(crate) fn lacking(alloc: Global, rows: &[Row], more: &[Row]) -> Result<Vec<Row>, Memory>
+    requires { Ascend (rows_in rows.now) }
+    ensures { IfOk result (λ new. AreLacking (rows_in rows.now) (rows_in more.now)
+        (rows_in new.items)) }
+{
+    let mut new = Vec::new(alloc);
+    for row in more {
+        if !has_row(rows, row.as_slice()) {
+            new.push(row.copy()?)?;
+        }
+    }
+    Ok(new)
 }
 
 // Sets the bit of a row.
@@ -74,7 +89,7 @@ pub(crate) fn lit_rows(alloc: Global, rows: &[Row], words: &[u64]) -> Result<Vec
     let mut lit = Vec::new(alloc);
     for number in 0..rows.len() {
         if has_bit(words, number) {
-            lit.push(rows[number].shared()?)?;
+            lit.push(rows[number].copy()?)?;
         }
     }
     Ok(lit)

@@ -1,48 +1,46 @@
 //! Sorted lists of atoms, each as a row of numbers: its predicate's, and then its objects'.
 
-ghost use Rattle.std.specs.Prelude.{◌≡◌, ◌+◌, ◌<◌, ◌≤◌, ◌++◌, ◌∷◌, length, IfOk};
+ghost use Rattle.std.specs.Prelude.{◌≡◌, ◌++◌, ◌∷◌, IfOk};
 ghost use Rattle.std.specs.Ordering.{nat_cmp};
 ghost use Rattle.std.specs.Cmp.Lexicographic.{slice_cmp};
-ghost use Rattle.std.specs.Vec.{vec_len, vec_capacity};
 ghost use Rattle.hv_state.specs.Atoms.{objects_read, atom_read};
 ghost use Rattle.hv_state.specs.inside.Rows.{row_of, atom_of, rows_in, rows_with};
 ghost use Rattle.hv_state.specs.inside.Rows.{objects_with, HaveCome};
 ghost use Rattle.hv_state.specs.inside.Rows.{Ascend, IsPlace, HasSameRows};
-ghost use Rattle.hv_state.specs.inside.Rows.{IsWithout, IsWith, IsWithoutAll, IsWithAll};
 
 use crate::atom::{AtomView, Objects, object_of};
 use hv_text::Memory;
 use hv_world::{Atom, Binding, PredicateId, Term};
+use smallvec::SmallVec;
 use std::alloc::Global;
 use std::cmp::Ordering;
-use std::rc::Rc;
 
-/// The row of an atom. States and lists share it.
+/// The row of an atom. Up to four numbers, as those of an atom of three objects, take no allocation.
 #[derive(PartialEq, Eq, PartialOrd, Ord, Drop)]
 pub(crate) struct Row {
-    pub(crate) numbers: Rc<Vec<usize>>,
+    pub(crate) numbers: SmallVec<usize, 4>,
 }
 
 impl Row {
     /// The atom of the row.
     pub(crate) fn atom(&self) -> AtomView<'_>
-        ensures { atom_read result ≡ atom_of self.now.numbers.value.items }
+        ensures { atom_read result ≡ atom_of self.now.numbers.items }
     {
-        atom_in(&self.numbers)
+        atom_in(self.numbers.as_slice())
     }
 
     /// The numbers of the row.
     pub(crate) fn as_slice(&self) -> &[usize]
-        ensures { result.now ≡ self.now.numbers.value.items }
+        ensures { result.now ≡ self.now.numbers.items }
     {
-        &self.numbers
+        self.numbers.as_slice()
     }
 
-    /// The same row once more, shared.
-    pub(crate) fn shared(&self) -> Result<Row, Memory>
-        ensures { IfOk result (λ row. row.numbers.value.items ≡ self.now.numbers.value.items) }
+    /// The same row once more.
+    pub(crate) fn copy(&self) -> Result<Row, Memory>
+        ensures { IfOk result (λ row. row.numbers.items ≡ self.now.numbers.items) }
     {
-        let numbers = self.numbers.clone()?;
+        let numbers = SmallVec::from_slice(*self.numbers.allocator(), self.numbers.as_slice())?;
         Ok(Row { numbers })
     }
 }
@@ -112,7 +110,7 @@ pub(crate) fn find(rows: &[Row], atom: &AtomView<'_>) -> Result<usize, usize>
     requires { Ascend (rows_in rows.now) }
     ensures { IsPlace (rows_in rows.now) (row_of (atom_read atom.now)) result }
 {
-    rows.binary_search_by(|row| compare(&row.numbers, atom))
+    rows.binary_search_by(|row| compare(row.as_slice(), atom))
 }
 
 /// Where a row stands, or where it would.
@@ -120,66 +118,15 @@ pub(crate) fn place(rows: &[Row], row: &[usize]) -> Result<usize, usize>
     requires { Ascend (rows_in rows.now) }
     ensures { IsPlace (rows_in rows.now) row.now result }
 {
-    rows.binary_search_by(|other| other.numbers.as_slice().cmp(&row))
-}
-
-// Takes a row out.
-fn remove(rows: &mut Vec<Row>, row: &[usize])
-    requires { Ascend (rows_in rows.old.items) }
-    ensures ascend { Ascend (rows_in rows.new.items) }
-    ensures exact { IsWithout (rows_in rows.old.items) row.now (rows_in rows.new.items) }
-    ensures fewer { vec_len rows.new ≤ vec_len rows.old }
-    ensures capacity { vec_capacity rows.new ≡ vec_capacity rows.old }
-{
-    if let Ok(place) = place(rows, row) {
-        rows.remove(place);
-    }
-}
-
-/// Takes rows out.
-pub(crate) fn remove_all(rows: &mut Vec<Row>, gone: &[Row])
-    requires { Ascend (rows_in rows.old.items) }
-    ensures ascend { Ascend (rows_in rows.new.items) }
-    ensures exact { IsWithoutAll
-        (rows_in rows.old.items) (rows_in gone.now) (rows_in rows.new.items) }
-    ensures fewer { vec_len rows.new ≤ vec_len rows.old }
-    ensures capacity { vec_capacity rows.new ≡ vec_capacity rows.old }
-{
-    for row in gone {
-        remove(rows, &row.numbers);
-    }
-}
-
-// Puts a row in, unless it stands there.
-fn put(rows: &mut Vec<Row>, row: Row)
-    requires ascend { Ascend (rows_in rows.old.items) }
-    requires room { vec_len rows.old < vec_capacity rows.old }
-    ensures ascend { Ascend (rows_in rows.new.items) }
-    ensures exact { IsWith
-        (rows_in rows.old.items) row.numbers.value.items (rows_in rows.new.items) }
-    ensures more { vec_len rows.new ≤ vec_len rows.old + 1 }
-    ensures capacity { vec_capacity rows.old ≤ vec_capacity rows.new }
-{
-    if let Err(place) = place(rows, &row.numbers) {
-        let _put = rows.insert(place, row);
-    }
-}
-
-/// Puts rows in, each unless it stands there.
-pub(crate) fn put_all(rows: &mut Vec<Row>, mut new: Vec<Row>)
-    requires ascend { Ascend (rows_in rows.old.items) }
-    requires room { vec_len rows.old + vec_len new ≤ vec_capacity rows.old }
-    ensures ascend { Ascend (rows_in rows.new.items) }
-    ensures exact { IsWithAll
-        (rows_in rows.old.items) (rows_in new.items) (rows_in rows.new.items) }
-{
-    'puts: while let Some(row) = new.pop() {
-        put(rows, row);
-    }
+    rows.binary_search_by(|other| other.as_slice().cmp(&row))
 }
 
 // Puts the objects of terms behind other numbers.
-fn push_objects(row: &mut Vec<usize>, terms: &[Term], binding: &Binding<'_>) -> Result<(), Memory>
+fn push_objects(
+    row: &mut SmallVec<usize, 4>,
+    terms: &[Term],
+    binding: &Binding<'_>,
+) -> Result<(), Memory>
     ensures { IfOk result
         (λ _. row.new.items ≡ row.old.items ++ objects_with binding.now terms.now) }
 {
@@ -191,10 +138,10 @@ fn push_objects(row: &mut Vec<usize>, terms: &[Term], binding: &Binding<'_>) -> 
 }
 
 // The numbers of an atom's row.
-fn numbers_of(alloc: Global, atom: &AtomView<'_>) -> Result<Vec<usize>, Memory>
+fn numbers_of(alloc: Global, atom: &AtomView<'_>) -> Result<SmallVec<usize, 4>, Memory>
     ensures { IfOk result (λ row. row.items ≡ row_of (atom_read atom.now)) }
 {
-    let mut row = Vec::new(alloc);
+    let mut row = SmallVec::new(alloc);
     row.push(atom.predicate.0)?;
     match atom.objects {
         Objects::OfTerms(terms, binding) => push_objects(&mut row, terms, binding)?,
@@ -205,9 +152,9 @@ fn numbers_of(alloc: Global, atom: &AtomView<'_>) -> Result<Vec<usize>, Memory>
 
 /// The row of an atom.
 pub(crate) fn row_of(alloc: Global, atom: &AtomView<'_>) -> Result<Row, Memory>
-    ensures { IfOk result (λ row. row.numbers.value.items ≡ row_of (atom_read atom.now)) }
+    ensures { IfOk result (λ row. row.numbers.items ≡ row_of (atom_read atom.now)) }
 {
-    let numbers = Rc::new(alloc, numbers_of(alloc, atom)?)?;
+    let numbers = numbers_of(alloc, atom)?;
     Ok(Row { numbers })
 }
 
@@ -235,7 +182,7 @@ pub(crate) fn rows_of(
 ) -> Result<Vec<Row>, Memory>
     ensures { IfOk result (λ rows. rows_in rows.items ≡ rows_with binding.now atoms.now) }
 {
-    let mut rows = Vec::new(alloc);
+    let mut rows = Vec::with_capacity(alloc, atoms.len())?;
     push_rows(alloc, &mut rows, atoms, binding)?;
     Ok(rows)
 }
@@ -249,18 +196,18 @@ pub(crate) fn sort_distinct(rows: &mut Vec<Row>)
     rows.dedup();
 }
 
-/// Puts rows behind others once more, shared.
+/// Puts copies of rows behind others. They get room for these and no more.
 pub(crate) fn push_copies(rows: &mut Vec<Row>, more: &[Row]) -> Result<(), Memory>
     ensures { IfOk result (λ _. HaveCome rows.old.items (rows_in more.now) rows.new.items) }
 {
-    rows.reserve(more.len())?;
+    rows.reserve_exact(more.len())?;
     for row in more {
-        rows.push(row.shared()?)?;
+        rows.push(row.copy()?)?;
     }
     Ok(())
 }
 
-/// The same rows once more, shared.
+/// The same rows once more.
 pub(crate) fn copy_of(alloc: Global, rows: &[Row]) -> Result<Vec<Row>, Memory>
     ensures { IfOk result (λ copy. rows_in copy.items ≡ rows_in rows.now) }
 {

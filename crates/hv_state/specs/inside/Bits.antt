@@ -41,6 +41,11 @@ AreDark rows old gone new = (r : List ℕ) → Lit (rows, new) r ↔ (Lit (rows,
 abbrev pub IsChanged : List (List ℕ) → List ℕ → List (List ℕ) → List (List ℕ) → List ℕ → Type 0
 IsChanged rows old deletes adds new = (r : List ℕ) → Lit (rows, new) r ↔ ((Lit (rows, old) r × (Contains deletes r → ⊥)) ⊎ Contains adds r)
 
+-- new are the rows of more that others lack
+pub record AreLacking (rows more new : List (List ℕ)) : Type 0 where
+  pub all : (r : List ℕ) → Contains more r → Contains rows r ⊎ Contains new r
+  pub apart : (r : List ℕ) → Contains new r → Contains rows r → ⊥
+
 -- each of these rows has a bit
 abbrev pub Knows : List (List ℕ) → List (List ℕ) → Type 0
 Knows rows more = (r : List ℕ) → Contains more r → Contains rows r

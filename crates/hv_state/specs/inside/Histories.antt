@@ -35,7 +35,7 @@ abbrev pub change_view : code_change.Change → Change
 change_view c = (c.from, c.is_true)
 
 abbrev pub history_view : code_history.History → List ℕ × List Change
-history_view h = (h.row.numbers.value.items, map change_view h.changes.items)
+history_view h = (h.row.numbers.items, map change_view h.changes.items)
 
 -- each predicate of these rows has its bit
 abbrev pub AreFlagged : List ℕ → List (List ℕ) → Type 0

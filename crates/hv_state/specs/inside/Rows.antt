@@ -11,6 +11,7 @@ use Rattle.hv_world.specs.declared.binding.Binding.{Binding}
 use Rattle.hv_world.specs.declared.formula.Atom as code_atom
 use Rattle.hv_world.specs.declared.formula.Term as code_term
 use Rattle.hv_state.specs.declared.rows.Row.{Row}
+use Rattle.hv_state.specs.declared.shared.SharedRow.{SharedRow}
 use Rattle.hv_state.specs.Atoms.{GroundAtom, ground_atom, Atoms, atoms_under}
 
 -- an atom as a row: its predicate, and then its objects
@@ -27,7 +28,13 @@ rows_under env xs = map row_of (atoms_under env xs)
 
 -- the rows that the code keeps
 abbrev pub rows_in : List Row → List (List ℕ)
-rows_in rs = map (λ r. r.numbers.value.items) rs
+rows_in rs = map (λ r. r.numbers.items) rs
+
+abbrev pub shared_numbers : SharedRow → List ℕ
+shared_numbers r = r.row.value.numbers.items
+
+abbrev pub rows_shared : List SharedRow → List (List ℕ)
+rows_shared rs = map shared_numbers rs
 
 -- these rows have come behind the old ones
 abbrev pub HaveCome : List Row → List (List ℕ) → List Row → Type 0

@@ -12,7 +12,7 @@ loop-row-preserved g c = λ t m.
     let from = c.args.from in
     let rows = c.args.rows.now in
     let i = c.loop-row.row-index in
-    let first = atom_of c.row-item.result.numbers.value.items in
+    let first = atom_of c.row-item.result.numbers.items in
     let one = subst (λ x. AreNoted start now from (x ∷ []) c.loop-row.changes c.note.new.self) c.atom.ensures c.in_ok-note.ensures in
     let both = noted_both start now from (first ∷ []) (map atom_of (rows_in (drop (i + 1) rows))) c.loop-row.changes c.note.new.self t one m in
     c.loop-row.invariant t (subst (λ xs. AreNoted start now from (map atom_of xs) c.loop-row.changes t) (sym (rows_left rows i c.row-item.result c.loop-row-test.true c.row-item.is)) both)

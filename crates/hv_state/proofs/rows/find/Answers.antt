@@ -12,5 +12,5 @@ pub returns : goal.returns
 returns c =
     let facts = c.binary_search_by.ensures in
     let row = row_of (atom_read c.args.atom.now) in
-    let compared = facts.position (λ v. slice_cmp nat_cmp v.numbers.value.items row) (answers_by _ _ (λ f. f.0.now ≡ c.args.atom.now) (λ f a r g called i. search rules) _ (search rules)) in
-    searched c.args.rows.now row c.requires _ facts.bound compared
+    let compared = facts.position (λ v. slice_cmp nat_cmp v.numbers.items row) (answers_by _ _ (λ f. f.0.now ≡ c.args.atom.now) (λ f a r g called i. search rules) _ (search rules)) in
+    searched (λ v. v.numbers.items) c.args.rows.now row c.requires _ facts.bound compared

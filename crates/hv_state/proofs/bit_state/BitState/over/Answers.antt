@@ -1,22 +1,35 @@
-use Rattle.std.proofs.Common.{◌↔◌, List, ℕ, sym, subst, ap, ◌∙◌}
+use Rattle.std.proofs.Common.{rules, ◌≡◌, ◌++◌, ◌↔◌, List, ℕ, length, sym, subst, ap, ◌∙◌, arith}
 use Rattle.std.specs.List.{Contains}
+use Rattle.std.specs.Vec.{vec_len}
+use Rattle.std.proofs.lemmas.List.{length-map}
+use Rattle.hv_state.specs.declared.rows.Row.{Row}
 use Rattle.hv_state.specs.inside.Rows.{rows_in}
-use Rattle.hv_state.specs.inside.Bits.{Lit, Knows}
-use Rattle.hv_state.proofs.LitLemmas.{knows_first, knows_second, lit_alone}
+use Rattle.hv_state.specs.inside.Bits.{Lit, Knows, AreDark, AreLacking}
+use Rattle.hv_state.proofs.LitLemmas.{knows_more_rows, lit_but}
 use Rattle.hv_state.proofs.bit_state.BitState.over.Goals as goal
-
-pub set_all-requires-clause-known : goal.set_all-requires-clause-known
-set_all-requires-clause-known c =
-    let known = knows_second (rows_in c.args.rows.items) (rows_in c.args.lit.now) (rows_in c.push_copies.new.rows.items) (rows_in c.sort_distinct.new.rows.items) c.in_ok-push_copies.ensures c.sort_distinct.ensures.exact in
-    subst (λ vs. Knows (rows_in vs) (rows_in c.args.lit.now)) (sym c.deref.ensures.value) known
 
 pub returns-clause-known : goal.returns-clause-known
 returns-clause-known c =
-    let known = knows_first (rows_in c.args.rows.items) (rows_in c.args.lit.now) (rows_in c.push_copies.new.rows.items) (rows_in c.sort_distinct.new.rows.items) c.in_ok-push_copies.ensures c.sort_distinct.ensures.exact in
-    subst (λ vs. Knows (rows_in vs) (rows_in c.args.rows.items)) (sym (ap (λ v. v.items) c.in_ok-table.ensures.ok)) known
+    let rows = rows_in c.sort_distinct.new.rows.items in
+    let more = rows_in c.args.more.now in
+    let new = rows_in c.in_ok-dark.dark.items in
+    let lack = subst (λ vs. AreLacking (rows_in vs) more new) c.deref.ensures.value c.in_ok-dark.ensures in
+    let both = c.in_ok-push_copies.ensures ∙ ap (λ vs. rows ++ rows_in vs) c.deref-2.ensures.value in
+    let known = knows_more_rows (rows_in c.args.lit.items) rows more new (rows_in c.push_copies.new.rows.items) (rows_in c.sort_distinct-2.new.rows.items) c.sort_distinct.ensures.exact lack both c.sort_distinct-2.ensures.exact in
+    subst (λ vs. Knows (rows_in vs) more) (sym (ap (λ v. v.items) c.in_ok-table.ensures.ok)) known
 
 pub returns-clause-lit : goal.returns-clause-lit
 returns-clause-lit c =
-    let more = rows_in c.args.lit.now in
-    let lit = lit_alone (rows_in c.deref.result.now) c.in_ok-words.words.items c.set_all.new.words.items more c.in_ok-words.ensures.none c.set_all.ensures.lit in
-    subst (λ vs. (r : List ℕ) → Lit (rows_in vs, c.set_all.new.words.items) r ↔ Contains more r) (c.deref.ensures.value ∙ sym (ap (λ v. v.items) c.in_ok-table.ensures.ok)) lit
+    let rows = rows_in c.sort_distinct.new.rows.items in
+    let more = rows_in c.args.more.now in
+    let new = rows_in c.in_ok-dark.dark.items in
+    let sorted = rows_in c.sort_distinct-2.new.rows.items in
+    let old = c.in_ok-words.words.items in
+    let words = c.clear_all.new.words.items in
+    let lack = subst (λ vs. AreLacking (rows_in vs) more new) c.deref.ensures.value c.in_ok-dark.ensures in
+    let both = c.in_ok-push_copies.ensures ∙ ap (λ vs. rows ++ rows_in vs) c.deref-2.ensures.value in
+    let size : vec_len c.sort_distinct-2.new.rows ≡ length c.sort_distinct-2.new.rows.items = search rules in
+    let long = length-map c.sort_distinct-2.new.rows.items (λ (u : Row). u.numbers.items) in
+    let dark = subst (λ vs. AreDark (rows_in vs) old new words) c.deref-3.ensures.value (subst (λ vs. AreDark (rows_in c.deref-3.result.now) old (rows_in vs) words) c.deref-4.ensures.value c.clear_all.ensures.dark) in
+    let lit = lit_but (rows_in c.args.lit.items) rows more new (rows_in c.push_copies.new.rows.items) sorted c.sort_distinct.ensures.exact lack both c.sort_distinct-2.ensures.exact old words (λ i lt. c.in_ok-words.ensures.all i (omega (arith, lt, long, size, c.len.ensures))) dark in
+    subst (λ vs. (r : List ℕ) → Lit (rows_in vs, words) r ↔ Contains (rows_in c.args.lit.items) r) (sym (ap (λ v. v.items) c.in_ok-table.ensures.ok)) lit
