@@ -1,19 +1,18 @@
 -- Histories in the order of their rows.
-use Rattle.std.proofs.Common.{◌≡◌, ◌<◌, ◌≤◌, ◌-◌, ◌⊎◌, inl, inr, ℕ, zero, suc, Bool, true, false, nat_le, List, [], ◌∷◌, length, map, get_or, Option, Some, None, if◌then◌else◌, Result, Ok, Err, refl, sym, ap, ◌∙◌, subst, arith, bytes_eq}
+use Rattle.std.proofs.Common.{◌≡◌, ◌<◌, ◌≤◌, ◌-◌, ◌⊎◌, inl, inr, ℕ, zero, suc, Bool, true, false, nat_le, List, [], ◌∷◌, length, map, get_or, Option, Some, None, if◌then◌else◌, refl, sym, ap, ◌∙◌, subst, arith, bytes_eq}
 use Rattle.std.specs.List.{All, Contains}
-use Rattle.std.specs.List.Sorted.{IsNonDecreasingBy, IsSearchInRange, IsBinarySearchResult, IsPartitionPoint}
-use Rattle.std.specs.Ordering.{nat_cmp, ordering_index}
-use Rattle.std.specs.Cmp.Lexicographic.{slice_cmp, bytes_decides}
+use Rattle.std.specs.List.Sorted.{IsNonDecreasingBy, IsPartitionPoint}
+use Rattle.std.specs.Cmp.Lexicographic.{bytes_decides}
 use Rattle.std.proofs.lemmas.Bool.{cases_lt}
 use Rattle.std.proofs.lemmas.List.{get_or-map, get_or_default, length-map}
 use Rattle.hv_state.specs.declared.changes.Change as code
 use Rattle.hv_state.specs.declared.changes.History.{History}
 use Rattle.hv_state.specs.Atoms.{GroundAtom}
 use Rattle.hv_state.specs.inside.Bits.{Has}
-use Rattle.hv_state.specs.inside.Rows.{row_of, atom_of, IsBelow, Ascend, IsGap, IsPlace}
+use Rattle.hv_state.specs.inside.Rows.{row_of, atom_of, IsBelow, Ascend, IsGap}
 use Rattle.hv_state.specs.Changes.{Change, told_from, told}
 use Rattle.hv_state.specs.inside.Histories.{Table, Rise, beside, rows_of, change_view, history_view, kept, AreFlagged}
-use Rattle.hv_state.proofs.RowLemmas.{some_of, below_itself, below_from, same_rows, step_rises, contains_cases, contains_none}
+use Rattle.hv_state.proofs.RowLemmas.{below_itself, contains_cases, contains_none}
 
 -- the rows of histories
 pub rows_are : (hs : List History) → rows_of (map history_view hs) ≡ map (λ h. h.row.numbers.items) hs

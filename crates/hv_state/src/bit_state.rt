@@ -103,8 +103,8 @@ impl State for BitState {
         world: &World<'_>,
         actions: &GroundActions,
     ) -> Result<BitState, Memory> {
-        let begun = rows_of(alloc, world.init(), &Binding::Given(&[]))?;
         let touched = touched(alloc, world, actions)?;
+        let begun = rows_of(alloc, world.init(), &Binding::Given(&[]))?;
         BitState::over(alloc, begun, &touched)
     }
 

@@ -182,7 +182,7 @@ impl Changes {
         ensures { IfOk result (λ c. c ≡ map (λ row. (row, [])) (rows_in rows.items)) }
     {
         let flags = flags_of(alloc, &rows)?;
-        let mut list = Vec::new(alloc);
+        let mut list = Vec::with_capacity(alloc, rows.len())?;
         for row in rows {
             list.push(History {
                 row,

@@ -130,7 +130,7 @@ fn push_objects(
     ensures { IfOk result
         (λ _. row.new.items ≡ row.old.items ++ objects_with binding.now terms.now) }
 {
-    row.reserve(terms.len())?;
+    row.reserve_exact(terms.len())?;
     for term in terms {
         row.push(object_of(binding, *term).0)?;
     }

@@ -4,7 +4,7 @@ ghost use Rattle.std.specs.Prelude.{IfOk};
 ghost use Rattle.hv_state.specs.inside.Rows.{rows_in, HaveCome, Ascend, HasSameRows};
 ghost use Rattle.hv_state.specs.inside.Notes.{rows_touched_by, rows_touched_in};
 
-use crate::rows::{Row, push_rows, sort_distinct};
+use crate::rows::{Row, push_rows};
 use hv_text::Memory;
 use hv_world::{Binding, GroundAction, GroundActions, World};
 use std::alloc::Global;
@@ -27,8 +27,21 @@ fn push_touched(
     Ok(())
 }
 
+// Puts rows in order, and keeps each once. Where a part of them is in order, the others are sorted
+// and merged with it; that takes room for all of them once more.
+fn merge_distinct(rows: &mut Vec<Row>) -> Result<(), Memory>
+    ensures ascend { IfOk result (λ _. Ascend (rows_in rows.new.items)) }
+    ensures exact { IfOk result (λ _. HasSameRows (rows_in rows.old.items)
+        (rows_in rows.new.items)) }
+{
+    rows.sort()?;
+    rows.dedup();
+    Ok(())
+}
+
 /// The rows of all atoms that some of these actions deletes or adds, in order and each once. What
-/// is kept on the way is at most twice as long, and what one action touches.
+/// is kept on the way is at most twice as long, with what one action touches, and takes as much
+/// room again while it is put in order.
 pub(crate) fn touched(
     alloc: Global,
     world: &World<'_>,
@@ -43,10 +56,10 @@ pub(crate) fn touched(
     for number in 0..actions.len() {
         push_touched(alloc, &mut rows, world, &actions.at(number))?;
         if rows.len() / 2 > distinct {
-            sort_distinct(&mut rows);
+            merge_distinct(&mut rows)?;
             distinct = rows.len();
         }
     }
-    sort_distinct(&mut rows);
+    merge_distinct(&mut rows)?;
     Ok(rows)
 }

@@ -1,4 +1,4 @@
-use Rattle.std.proofs.Common.{◌≡◌, ◌↔◌, List, ℕ, subst, ap, arith, ◌∙◌}
+use Rattle.std.proofs.Common.{◌↔◌, List, ℕ, subst, arith, ◌∙◌}
 use Rattle.std.specs.List.{Contains}
 use Rattle.hv_state.specs.inside.Rows.{rows_in, rows_shared, IsWithout}
 use Rattle.hv_state.proofs.RowLemmas.{rows_left, no_rows_left, take_out_more, taken_out}

@@ -7,7 +7,7 @@ use Rattle.hv_state.specs.inside.Rows.{row_of, rows_in, HasSameRows}
 use Rattle.hv_state.specs.inside.Notes.{touched_in}
 use Rattle.hv_state.proofs.RowLemmas.{put_in}
 use Rattle.hv_state.proofs.NoteLemmas.{actions_left, touched_more}
-use Rattle.hv_state.proofs.touched.touched.Goals.{then-len-distinct, else-len-distinct}
+use Rattle.hv_state.proofs.touched.touched.Goals.{then-len-distinct+in_ok-merge_distinct, else-len-distinct}
 use Rattle.hv_state.proofs.touched.touched.Goals as goal
 
 pub loop-number-preserved : goal.loop-number-preserved
@@ -19,7 +19,7 @@ loop-number-preserved c =
     let pushed = rows_in c.push_touched.new.rows.items in
     let now = rows_in c.if-len-distinct.rows.items in
     let Q = λ (r : List ℕ). Contains (map row_of (touched_in w actions)) r in
-    let same : HasSameRows pushed now = elim c.if-len-distinct.branch [ then-len-distinct b ↦ subst (λ v. HasSameRows pushed (rows_in v.items)) (sym b.rows-is) b.sort_distinct.ensures.exact | else-len-distinct b ↦ subst (λ v. HasSameRows pushed (rows_in v.items)) (sym b.rows-is) (λ r. (λ m. m, λ m. m)) ] in
+    let same : HasSameRows pushed now = elim c.if-len-distinct.branch [ then-len-distinct+in_ok-merge_distinct b ↦ subst (λ v. HasSameRows pushed (rows_in v.items)) (sym b.rows-is) b.in_ok-merge_distinct.ensures.exact | else-len-distinct b ↦ subst (λ v. HasSameRows pushed (rows_in v.items)) (sym b.rows-is) (λ r. (λ m. m, λ m. m)) ] in
     let before = subst (λ xs. (r : List ℕ) → (Contains old r ⊎ Contains (map row_of (touched_in w xs)) r) ↔ Q r) (actions_left actions i (ground_action_view c.at.result) c.at.ensures) c.loop-number.invariant in
     touched_more w old pushed now (ground_action_view c.at.result) (drop (i + 1) actions) Q c.in_ok-push_touched.ensures same before
 
@@ -30,5 +30,5 @@ returns-clause-exact c = λ r.
     let Q = λ (x : List ℕ). Contains (map row_of (touched_in w actions)) x in
     let none : map row_of (touched_in w (drop c.loop-number.number actions)) ≡ [] = at_drop_all (λ xs. map row_of (touched_in w xs)) actions c.loop-number.number (omega (arith, c.loop-number-test.false, c.len-number-end.ensures)) in
     let whole = put_in (rows_in c.loop-number.rows.items) _ Q none c.loop-number.invariant r in
-    let same = c.sort_distinct-2.ensures.exact r in
+    let same = c.in_ok-merge_distinct-2.ensures.exact r in
     (λ m. whole.0 (same.0 m), λ m. same.1 (whole.1 m))
