@@ -1,7 +1,14 @@
--- A plan for which there is a certificate is solved: by the choice of the certificate.
-use Rattle.hv_plan.specs.PlanTrees.{root_number}
-use Rattle.hv_order.specs.Certified.{CertifiedPlans}
+-- A plan for which there is a certificate is solved: by the choice of the certificate. Each of its
+-- nodes has a candidate.
+use Rattle.std.proofs.Common.{◌≡◌, ℕ, ◌<◌, ◌⊎◌, inl, inr, List, sym, subst, arith}
+use Rattle.hv_plan.specs.PlanTrees.{IsTreeIn, root_number}
+use Rattle.hv_plan.proofs.FitLemmas.{less_or_same}
+use Rattle.hv_order.specs.Meanings.{Meaning}
+use Rattle.hv_order.specs.Settings.{Setting, AmountsTo, HasCandidate, HaveCandidates}
+use Rattle.hv_order.specs.Certified.{Certifies, CertifiedPlans}
+use Rattle.hv_order.proofs.NodeParts.{is_candidate_at}
 use Rattle.hv_order.proofs.TreeLines.{below_root}
+use Rattle.hv_certificate.specs.declared.certificate.Certificate.{Certificate}
 
 pub certified_plans : CertifiedPlans
 certified_plans q c is certified =
@@ -21,3 +28,22 @@ certified_plans q c is certified =
       };
       has_sequence = certified.sequence.found;
     }
+
+-- what amounts to something is a candidate
+has_one : (q : Setting) (v : ℕ) (M B : List ℕ) (c : Meaning) → AmountsTo q v M B c → HasCandidate q v
+has_one q v M B c a = record {
+  matching = M;
+  binding = B;
+  candidate =
+      is_candidate_at q v M B
+      (record { node = a.node; has_node = a.has_node; method = a.method; has_method = a.has_method; candidate = a.candidate });
+}
+
+pub have_candidates : (q : Setting) (c : Certificate) → IsTreeIn q.plan.world q.tree → Certifies q c → HaveCandidates q
+have_candidates q c is certified v lt = by_side (less_or_same v (root_number q.tree) (omega (arith, lt, is.is_tree.last)))
+  where
+    by_side : (v < root_number q.tree) ⊎ (v ≡ root_number q.tree) → HasCandidate q v
+    by_side (inl below) = has_one q v (certified.matching v) (certified.binding v) (certified.choice.line v) (certified.nodes v below)
+    by_side (inr root) =
+        subst (HasCandidate q) (sym root)
+        (has_one q (root_number q.tree) (certified.matching (root_number q.tree)) (certified.binding (root_number q.tree)) certified.choice.root certified.root)

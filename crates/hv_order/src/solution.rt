@@ -105,11 +105,11 @@ pub fn solution<'s>(
         (Certifies (setting (tree_view tree.now) trace.now is_with))) }
     ensures fault { IfErr result (IsRowFault (setting (tree_view tree.now) trace.now is_with)) }
 {
-    match first_without(alloc, matcher, tree)? {
-        Some(line) => Err(RowFault::NoBinding(line)),
-        None => {
-            let certificate = find_certificate(alloc, world, matcher, tree, trace, is_with)?;
-            Ok(certificate)
-        }
+    match find_certificate(alloc, world, matcher, tree, trace, is_with)? {
+        Some(certificate) => Ok(Some(certificate)),
+        None => match first_without(alloc, matcher, tree)? {
+            Some(line) => Err(RowFault::NoBinding(line)),
+            None => Ok(None),
+        },
     }
 }
