@@ -1,11 +1,21 @@
 -- What is learned is right, and less is left to be learned.
-use Rattle.std.proofs.Common.{◌≡◌, ℕ, zero, suc, ◌+◌, ◌<◌, ◌≤◌, ◌⊎◌, inl, inr, true, false, refl, sym, subst, arith, Option, Some, None, is_some, if◌then◌else◌}
+use Rattle.std.proofs.Common.{◌≡◌, ℕ, zero, suc, ◌+◌, ◌<◌, ◌≤◌, ◌⊎◌, inl, inr, ◌∙◌, true, false, length, length-set, slice_get, refl, sym, ap, subst, arith, Option, Some, None, is_some, if◌then◌else◌}
+use Rattle.std.specs.Global.{Vec}
+use Rattle.std.specs.List.{slice_set}
+use Rattle.std.specs.BTreeMap.{BTreeMap, get}
 use Rattle.hv_order.proofs.Members.{SameNumber, equal_numbers, other_numbers, number_cases}
 use Rattle.hv_order.specs.inside.Facts.{Facts, IsNodeRun}
-use Rattle.hv_order.specs.inside.Memos.{found, as_finish, AreKnown, Keeps, LiesIn, total, to_learn}
+use Rattle.hv_order.specs.inside.Memos.{pair_cmp, spanned, or_else, found, as_finish, AreKnown, SameRuns, IsRemembered, OnlyTaken, IsTakenRun, Keeps, LiesIn, total, to_learn}
+use Rattle.hv_order.specs.inside.Nodes.{IsSettled}
+use Rattle.hv_order.specs.inside.Walks.{said_of}
 use Rattle.hv_order.specs.declared.trial.Finish.TheVariants as finishes
 use Rattle.hv_order.specs.declared.trial.Run.{Run}
 use Rattle.hv_order.specs.declared.memo.Memo.{Memo}
+use Rattle.hv_order.specs.declared.memo.Pair.{Pair}
+use Rattle.hv_order.specs.declared.memo.Span.{Span}
+use Rattle.hv_order.specs.declared.memo.Won.{Won}
+use Rattle.hv_order.specs.declared.settle.Settled.{Settled}
+use Rattle.hv_order.proofs.Visiting.{said_here, said_else, not_said, same_said}
 
 -- a run is one from each of its starts on
 later_run : (q : Facts) (v s : ℕ) (r : Run) → IsNodeRun q v s r → (w x : ℕ) (u : Run) → LiesIn v s r w x → u ≡ r → IsNodeRun q w x u
@@ -15,10 +25,12 @@ later_run q v s r is w x u lies same = subst (λ k. IsNodeRun q k x u) (sym lies
   least = λ y late early. is.least y (omega (arith, late, lies.late)) early;
 }))
 
-pub learned : (q : Facts) (size : ℕ) (m m' : Memo) (v s : ℕ) (r : Run) → AreKnown q size m → Keeps m m' v s r → IsNodeRun q v s r → AreKnown q size m'
-learned q size m m' v s r are keeps is = record {
+pub learned : (q : Facts) (size : ℕ) (m m' : Memo) (v s : ℕ) (r : Run) → AreKnown q size m → Keeps m m' v s r → m'.won ≡ m.won → IsNodeRun q v s r → AreKnown q size m'
+learned q size m m' v s r are keeps same is = record {
   room = subst (λ k. size ≤ k) (sym keeps.room) are.room;
   right = λ w x u e. tell w x u (keeps.only w x u e);
+  places = ap (λ (k : Vec (Option Won)). length k.items) same ∙ are.places ∙ sym keeps.room;
+  won = λ w x e. are.won w x (let P : Vec (Option Won) → Type 0 = λ k. said_of k.items w ≡ Some x in subst P same e);
 }
   where
     tell : (w x : ℕ) (u : Run) → (found m w x ≡ Some u) ⊎ (LiesIn v s r w x × (u ≡ r)) → IsNodeRun q w x u
@@ -81,3 +93,78 @@ known_run q size m are v s r e = are.right v s r (tell (found m v s) e)
     tell : (o : Option Run) → as_finish o ≡ finishes.Known r → o ≡ Some r
     tell None k = absurd cc
     tell (Some u) k = cc
+
+-- what is known of all starts is what was
+same_found : (m m' : Memo) → SameRuns m m' → (v s : ℕ) → found m' v s ≡ found m v s
+same_found m m' same v s =
+    let p : Pair = record { node = v; start = s } in
+    ap (λ (k : Vec Span). or_else (spanned (slice_get k.items v) s) (get pair_cmp m'.more p)) same.spans
+    ∙ ap (λ (k : BTreeMap Pair Run). or_else (spanned (slice_get m.spans.items v) s) (get pair_cmp k p)) same.more
+
+still_right : (q : Facts) (size : ℕ) (m m' : Memo) → AreKnown q size m → SameRuns m m' → length m'.won.items ≡ length m.won.items → ((v : ℕ) (w : Won) → said_of m'.won.items v ≡ Some w → IsSettled q v w.start w.settled) → AreKnown q size m'
+still_right q size m m' are same places won =
+    let as_many : length m'.spans.items ≡ length m.spans.items = ap (λ (k : Vec Span). length k.items) same.spans in
+    record {
+      room = subst (λ k. size ≤ k) (sym as_many) are.room;
+      right = λ v s r e. are.right v s r (sym (same_found m m' same v s) ∙ e);
+      places = places ∙ are.places ∙ sym as_many;
+      won = won;
+    }
+
+-- there is a place for the winner of each node
+pub has_place : (q : Facts) (size : ℕ) (m : Memo) → AreKnown q size m → (v : ℕ) → v < size → v < length m.won.items
+has_place q size m are v lt = let room = are.room in let places = are.places in omega (arith, lt, room, places)
+
+abbrev as_won : ℕ → Settled → Won
+as_won s r = record { start = s; settled = r }
+
+-- a winner is kept
+pub remembered : (q : Facts) (size : ℕ) (m m' : Memo) (v s : ℕ) (r : Settled) → AreKnown q size m → SameRuns m m' → IsRemembered m m' v s r → v < size → IsSettled q v s r → AreKnown q size m'
+remembered q size m m' v s r are same kept lt is =
+    still_right q size m m' are same (ap length kept ∙ length-set m.won.items v (Some (as_won s r))) (λ w x e. by w x (number_cases w v) (sym (ap (λ k. said_of k w) kept) ∙ e))
+  where
+    by : (w : ℕ) (x : Won) → SameNumber w v → said_of (slice_set m.won.items v (Some (as_won s r))) w ≡ Some x → IsSettled q w x.start x.settled
+    by w x (equal_numbers e t) said =
+        let P : ℕ → Type 0 = λ k. said_of (slice_set m.won.items v (Some (as_won s r))) k ≡ Some x in
+        let one : as_won s r ≡ x = same_said (as_won s r) x (sym (said_here m.won.items v (Some (as_won s r)) (has_place q size m are v lt)) ∙ subst P e said) in
+        let Q : Won → Type 0 = λ y. IsSettled q v y.start y.settled in
+        let R : ℕ → Type 0 = λ k. IsSettled q k x.start x.settled in
+        subst R (sym e) (subst Q one is)
+    by w x (other_numbers e t) said = are.won w x (sym (said_else m.won.items v w (Some (as_won s r)) e) ∙ said)
+
+-- one may be taken
+pub still_known : (q : Facts) (size : ℕ) (m m' : Memo) → AreKnown q size m → SameRuns m m' → OnlyTaken m m' → AreKnown q size m'
+still_known q size m m' are same only = still_right q size m m' are same only.places (λ v w e. are.won v w (only.won v w e))
+
+pub only_taken : (m m' : Memo) (v : ℕ) → v < length m.won.items → m'.won.items ≡ slice_set m.won.items v None → OnlyTaken m m'
+only_taken m m' v lt is = record {
+  places = ap length is ∙ length-set m.won.items v None;
+  won = λ w x said. by w x (number_cases w v) (sym (ap (λ k. said_of k w) is) ∙ said);
+}
+  where
+    by : (w : ℕ) (x : Won) → SameNumber w v → said_of (slice_set m.won.items v None) w ≡ Some x → said_of m.won.items w ≡ Some x
+    by w x (equal_numbers e t) said =
+        let P : ℕ → Type 0 = λ k. said_of (slice_set m.won.items v None) k ≡ Some x in
+        absurd (not_said x (sym (said_here m.won.items v None lt) ∙ subst P e said))
+    by w x (other_numbers e t) said = sym (said_else m.won.items v w None e) ∙ said
+
+-- and the one that was taken is a run from a start on that lies in it
+pub taken_settled : (q : Facts) (size : ℕ) (m : Memo) → AreKnown q size m → (v s : ℕ) (r : Settled) → IsTakenRun m v s r → IsSettled q v s r
+taken_settled q size m are v s r taken =
+    let is = are.won v (record { start = taken.start; settled = r }) taken.kept in
+    let late = taken.late in
+    record {
+      run = record { begun = taken.early; within = is.run.within; least = λ x a b. is.run.least x (omega (arith, a, late)) b };
+      winner = is.winner;
+    }
+
+-- where only winners are kept or taken, as much is known as before
+pub keeps_still : (m m' m'' : Memo) (v s : ℕ) (r : Run) → Keeps m m' v s r → SameRuns m' m'' → Keeps m m'' v s r
+keeps_still m m' m'' v s r keeps same = record {
+  room = ap (λ (k : Vec Span). length k.items) same.spans ∙ keeps.room;
+  kept = λ w x e. ap is_some (same_found m' m'' same w x) ∙ keeps.kept w x e;
+  only = λ w x u e. keeps.only w x u (sym (same_found m' m'' same w x) ∙ e);
+}
+
+pub known_still : (m m' : Memo) → SameRuns m m' → (v s : ℕ) → is_some (found m v s) ≡ true → is_some (found m' v s) ≡ true
+known_still m m' same v s e = ap is_some (same_found m m' same v s) ∙ e

@@ -30,7 +30,7 @@ map_twice f g h each (x ∷ xs) = let here = each x in let rest = map_twice f g 
 
 module _ (q : Setting) (is : IsSetting q) (v : ℕ) (l : Lister) (lists : ListsAll q.plan.world q.tree v l) where
   abbrev arranged : List ℕ × List ℕ → Arrangement
-  arranged = arranged_by l.node l.children.now l.order.now (lists_of l.direct.items)
+  arranged = arranged_by l.node l.children.now l.sequencing.value
 
   -- a candidate of the node is one of the lister's node and method
   same_node : (n : Node) → slice_get q.tree.nodes v ≡ Some n → n ≡ lists.node
@@ -66,9 +66,9 @@ module _ (q : Setting) (is : IsSetting q) (v : ℕ) (l : Lister) (lists : ListsA
         matching = M;
         candidate = candidate;
         children = places_are M;
-        order = row_allowed lists.method.network.order sound.arrangeable (length (map (child_at l.children.now) M)) l.order.now len lists.order;
-        as_many = lists.direct.as_many ∙ len;
-        direct = λ j lt. direct_allowed lists.method.network.order sound.arrangeable (length (map (child_at l.children.now) M)) j (listed_before (lists_of l.direct.items) j) len (lists.direct.direct j (subst (λ n. j < n) (sym len) lt));
+        order = row_allowed lists.method.network.order sound.arrangeable (length (map (child_at l.children.now) M)) l.sequencing.value.order.items len lists.sequencing.order;
+        as_many = lists.sequencing.direct.as_many ∙ len;
+        direct = λ j lt. direct_allowed lists.method.network.order sound.arrangeable (length (map (child_at l.children.now) M)) j (listed_before (lists_of l.sequencing.value.direct.items) j) len (lists.sequencing.direct.direct j (subst (λ n. j < n) (sym len) lt));
       }
 
   -- each that is listed is a candidate

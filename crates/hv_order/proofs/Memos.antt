@@ -1,5 +1,5 @@
 -- What is learned is kept, and nothing is forgotten.
-use Rattle.std.proofs.Common.{◌≡◌, ℕ, zero, suc, ◌<◌, ◌≤◌, ◌⊎◌, inl, inr, ◌∙◌, List, [], ◌∷◌, Bool, true, false, cond, length, length-set, refl, sym, ap, subst, arith, Option, Some, None, is_some, slice_get, slice_set, leb, if◌then◌else◌}
+use Rattle.std.proofs.Common.{◌≡◌, ℕ, zero, suc, ◌+◌, ◌<◌, ◌≤◌, ◌⊎◌, inl, inr, ◌∙◌, List, [], ◌∷◌, ◌++◌, Bool, true, false, cond, length, length-set, refl, sym, ap, subst, arith, Option, Some, None, is_some, slice_get, slice_set, leb, if◌then◌else◌}
 use Rattle.std.proofs.lemmas.Bool.Decides.{leb_tells}
 use Rattle.std.proofs.lemmas.Map.Lookups.{CmpEqualImpliesEq, exact_pairs, exact_unsigned}
 use Rattle.std.specs.declared.cmp.Ordering.{Ordering}
@@ -8,11 +8,13 @@ use Rattle.std.specs.Ordering.{nat_cmp, is_eq}
 use Rattle.std.specs.BTreeMap.{BTreeMap, get, is_at}
 use Rattle.std.specs.Vec.{with_item}
 use Rattle.hv_order.proofs.Members.{SameNumber, equal_numbers, other_numbers, number_cases}
-use Rattle.hv_order.specs.inside.Memos.{pair_cmp, finish_from, in_span, spanned, or_else, found, Keeps, LiesIn}
+use Rattle.hv_order.specs.inside.Memos.{pair_cmp, finish_from, in_span, spanned, or_else, found, IsEmptyList, Keeps, LiesIn}
+use Rattle.hv_order.specs.inside.Walks.{said_of}
 use Rattle.hv_order.specs.declared.trial.Run.{Run}
 use Rattle.hv_order.specs.declared.memo.Memo.{Memo}
 use Rattle.hv_order.specs.declared.memo.Pair.{Pair}
 use Rattle.hv_order.specs.declared.memo.Span.{Span}
+use Rattle.hv_order.specs.declared.memo.Won.{Won}
 
 same_place : {X : Type 0} (xs : List X) (i : ℕ) (x : X) → i < length xs → slice_get (slice_set xs i x) i ≡ Some x
 same_place [] i x lt = absurd (omega (arith, lt))
@@ -87,7 +89,7 @@ else_some (Some k) g r e = refl
 module _ (m : Memo) (more : BTreeMap Pair Run) (v s : ℕ) (r : Run) (le : s ≤ r.last)
     (updates : (q : Pair) → get pair_cmp more q ≡ cond (is_at (pair_cmp (record { node = v; start = s })) q) (Some r) (get pair_cmp m.more q)) where
   abbrev with_more : Memo
-  with_more = record { spans = m.spans; more = more }
+  with_more = record { spans = m.spans; more = more; won = m.won }
 
   pub put_keeps : Keeps m with_more v s r
   put_keeps = keeps_from m with_more v s r refl each
@@ -112,7 +114,7 @@ module _ (m : Memo) (v s : ℕ) (r : Run) (p : Span) (f : ℕ) (lt : v < length 
   span = record { first = s; last = r.last; finish = f }
 
   abbrev with_span : Memo
-  with_span = record { spans = with_item m.spans v span; more = m.more }
+  with_span = record { spans = with_item m.spans v span; more = m.more; won = m.won }
 
   abbrev at_pair : ℕ → ℕ → Option Run
   at_pair w x = get pair_cmp m.more (record { node = w; start = x })
@@ -150,3 +152,20 @@ module _ (m : Memo) (v s : ℕ) (r : Run) (p : Span) (f : ℕ) (lt : v < length 
 
   pub span_known : is_some (found with_span v s) ≡ true
   span_known = ap is_some (after s ∙ ap (λ o. or_else o (at_pair v s)) (within s (omega arith) le))
+
+-- a list that says nothing
+pub none_said : IsEmptyList 0 []
+none_said = record { as_many = refl; none = λ v. refl }
+
+pub one_none_more : (n : ℕ) (won : List (Option Won)) → IsEmptyList n won → IsEmptyList (n + 1) (won ++ None ∷ [])
+one_none_more n won is = record { as_many = more won ∙ ap (λ k. k + 1) is.as_many; none = none won is.none }
+  where
+    more : (xs : List (Option Won)) → length (xs ++ None ∷ []) ≡ length xs + 1
+    more [] = refl
+    more (x ∷ xs) = let rest = more xs in omega (arith, rest)
+
+    none : (xs : List (Option Won)) → ((v : ℕ) → said_of xs v ≡ None) → (v : ℕ) → said_of (xs ++ None ∷ []) v ≡ None
+    none [] h zero = refl
+    none [] h (suc v) = refl
+    none (x ∷ xs) h zero = h zero
+    none (x ∷ xs) h (suc v) = none xs (λ u. h (suc u)) v

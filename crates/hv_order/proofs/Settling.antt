@@ -1,6 +1,6 @@
 -- What the best of a node's candidates comes to.
 use Rattle.std.proofs.Common.{◌≡◌, ℕ, ◌≤◌, ◌∙◌, List, refl, sym, subst, arith, Option, Some, None}
-use Rattle.std.specs.Prelude.{MatchOption, Contains}
+use Rattle.std.specs.Prelude.{max, MatchOption, Contains}
 use Rattle.hv_order.proofs.Members.{at_head}
 use Rattle.hv_order.specs.inside.Choosing.{newer, Gives}
 use Rattle.hv_order.specs.inside.Arrangements.{Arrangement, arrangement_of}
@@ -15,8 +15,8 @@ use Rattle.hv_order.specs.declared.winner.Winner.{Winner}
 use Rattle.hv_order.proofs.Choosing.{none_tried}
 
 -- no candidate finishes before the start
-pub from_start : (q : Facts) (s : ℕ) → IsEarliest q s s
-from_start q s c g w = let a = w.late in let b = w.early in omega arith
+pub from_start : (q : Facts) (s : ℕ) (all : List Arrangement) → IsEarliest q s all s
+from_start q s all c g m w = let a = w.late in let b = w.early in omega arith
 
 -- at first nothing was tried
 pub nothing_tried : (q : Facts) (s : ℕ) (all : List Arrangement) → IsBest q s all all None
@@ -46,6 +46,13 @@ pub gives_by : (q : Facts) → AreNodes q → (v s f : ℕ) (all : List Arrangem
 gives_by q are v s f all whole is =
     let (with_one, by_one) = are.by_one v s f in
     whole.with_one s f (with_one is)
+
+-- no candidate of a node finishes before the start, nor before the node can be over
+pub from_both : (q : Facts) → AreNodes q → (v s e low : ℕ) (all : List Arrangement) → AreAllOf q v all → ((s f : ℕ) → q.fits v s f → e ≤ f) → low ≡ max s e → IsEarliest q s all low
+from_both q are v s e low all whole behind is c g m w =
+    let a = from_start q s all c g m w in
+    let b = behind s g (fits_by q are v s g all whole (record { candidate = c; listed = m; gives = w })) in
+    omega (arith, a, b, is)
 
 -- all candidates of a node are arranged
 pub all_arranged : (q : Facts) → AreNodes q → (v : ℕ) (all : List Arrangement) → AreAllOf q v all → AreArranged q v all

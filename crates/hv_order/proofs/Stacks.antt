@@ -1,6 +1,6 @@
 -- Nodes that wait for one another: each is before the one below it, and of none but the first is it known
 -- what it comes to.
-use Rattle.std.proofs.Common.{◌≡◌, ℕ, ◌+◌, ◌<◌, ◌≤◌, ◌⊎◌, inl, inr, ◌∙◌, List, [], ◌∷◌, ◌++◌, refl, sym, ap, subst, arith, Option, Some, None, is_some, true}
+use Rattle.std.proofs.Common.{◌≡◌, ℕ, ◌+◌, ◌<◌, ◌⊎◌, inl, inr, ◌∙◌, List, [], ◌∷◌, ◌++◌, refl, sym, subst, arith, Option, Some, None, is_some, true}
 use Rattle.hv_order.specs.inside.Arrangements.{Arrangement}
 use Rattle.hv_order.specs.inside.Facts.{Facts, IsNodeRun}
 use Rattle.hv_order.specs.inside.Memos.{found, IsSmall, Keeps, LiesIn, IsWanted, to_learn}

@@ -1,9 +1,9 @@
 -- A node that is worked out, from its beginning to its end.
-use Rattle.std.proofs.Common.{◌≡◌, ℕ, ◌<◌, ◌≤◌, ◌∙◌, List, ◌∷◌, refl, sym, subst, Some, None, Result, Ok, Err, IfOk}
+use Rattle.std.proofs.Common.{◌≡◌, ℕ, ◌<◌, ◌≤◌, List, ◌∷◌, refl, sym, subst, Some, None, Result, Ok, Err, IfOk}
 use Rattle.hv_order.specs.inside.Arrangements.{Arrangement, arrangement_of}
-use Rattle.hv_order.specs.inside.Facts.{Facts}
+use Rattle.hv_order.specs.inside.Facts.{Facts, FitsWith}
 use Rattle.hv_order.specs.inside.Trials.{IfWants}
-use Rattle.hv_order.specs.inside.Frames.{IsFrame, IsBest, IsNext, IsTurn, EndsLeast, EndsWon, StaysFrame, StaysTried}
+use Rattle.hv_order.specs.inside.Frames.{IsEarliest, IsFrame, IsBest, IsNext, IsTurn, EndsLeast, EndsWon, StaysFrame, StaysTried}
 use Rattle.hv_order.specs.inside.Winners.{StaysListed, as_winner}
 use Rattle.hv_order.specs.inside.Nodes.{AreNodes, AreAllOf, IsSettled, settled_by}
 use Rattle.hv_order.specs.inside.Tasks.{IsWorking, IsTaskFrom, Settles}
@@ -13,6 +13,7 @@ use Rattle.hv_order.specs.declared.trial.Progress.{Progress}
 use Rattle.hv_order.specs.declared.trial.Progress.TheVariants as progress
 use Rattle.hv_order.specs.declared.frame.Frame.{Frame}
 use Rattle.hv_order.specs.declared.frame.Turn.{Turn}
+use Rattle.hv_order.proofs.Members.{in_tail}
 use Rattle.hv_order.proofs.Settling.{nothing_tried, winner_is, settled_is}
 
 -- what follows from three facts of a result
@@ -28,15 +29,14 @@ pub none_begun : (q : Facts) → AreNodes q → (v s : ℕ) (all left : List Arr
 none_begun q are v s all left whole le next = settled_is q are v s all whole le None (next all (nothing_tried q s all))
 
 -- the first that can be
-pub one_begun : {L : Type 0} (of : L → List Arrangement) (q : Facts) (size v s : ℕ) (all : List Arrangement) (left : L) (w : Arranged) (t : Turn) → v < size → AreAllOf q v all → s ≤ q.last → IsNext q s None all (of left) (Some t) → IsTurn q v s None t all (of left)
-    → IsTaskFrom of q size v s (record { node = v; left = left; frame = record { start = s; earliest = s; best = None; winner = w; candidate = t.candidate; trial = t.trial } })
-one_begun of q size v s all left w t lt whole le next turn = record {
+pub one_begun : {L : Type 0} (of : L → List Arrangement) (q : Facts) (size v s : ℕ) (all : List Arrangement) (left : L) (w : Arranged) (t : Turn) (e : ℕ) → v < size → AreAllOf q v all → s ≤ q.last → IsEarliest q s all e → IsNext q s None all (of left) (Some t) → IsTurn q v s None t all (of left)
+    → IsTaskFrom of q size v s (record { node = v; left = left; frame = record { start = s; earliest = e; best = None; winner = w; candidate = t.candidate; trial = t.trial } })
+one_begun of q size v s all left w t e lt whole le early next turn = record {
   node = refl;
   start = refl;
   task = record {
     within = lt;
     start = le;
-    earliest = refl;
     frame = record {
       trying = turn.trying;
       cap = turn.cap;
@@ -47,6 +47,7 @@ one_begun of q size v s all left w t lt whole le next turn = record {
     };
     all = all;
     whole = whole;
+    earliest = early;
     tried = next all (nothing_tried q s all);
     listed = record { sub = turn.sub; winner = λ b e. absurd (no_best b e) };
   };
@@ -65,10 +66,14 @@ task_stays q size v f f' left left' t begun early (progress.Over best) frame tri
 task_stays q size v f f' left left' t begun early (progress.Wants w x) frame tried listed = record {
   within = t.within;
   start = subst (λ k. k ≤ q.last) (sym begun) t.start;
-  earliest = early ∙ t.earliest ∙ sym begun;
   frame = subst (λ k. IsFrame q v k f' left') (sym begun) frame;
   all = t.all;
   whole = t.whole;
+  earliest = λ d g m w. subst (λ k. k ≤ g) (sym early) (t.earliest d g m (subst (λ k. FitsWith q k d g) begun w));
   tried = subst (λ k. IsBest q k t.all (arrangement_of f'.candidate ∷ left') f'.best) (sym begun) (tried t.all t.tried);
   listed = listed t.all t.listed;
 }
+
+-- none of the candidates that are left finishes before the earliest
+pub none_earlier : (q : Facts) (size v : ℕ) (f : Frame) (left : List Arrangement) → IsWorking q size v f left → IsEarliest q f.start left f.earliest
+none_earlier q size v f left t d g m w = t.earliest d g (t.listed.sub d (in_tail (arrangement_of f.candidate) left d m)) w

@@ -26,16 +26,16 @@ pub record IsWalkedFrom (q : Facts) (count : ℕ) (i : ℕ) (starts : List (Opti
   pub each : (v : ℕ) (t : Stand) → i ≤ v → said_of stands v ≡ Some t → IsPlaced q starts v t
 
 -- what is said of one node more
-said_here : {X : Type 0} (xs : List (Option X)) (v : ℕ) (o : Option X) → v < length xs → said_of (slice_set xs v o) v ≡ o
+pub said_here : {X : Type 0} (xs : List (Option X)) (v : ℕ) (o : Option X) → v < length xs → said_of (slice_set xs v o) v ≡ o
 said_here xs v o lt = get_or-set_same xs v o None lt
 
-said_else : {X : Type 0} (xs : List (Option X)) (v u : ℕ) (o : Option X) → u ≢ v → said_of (slice_set xs v o) u ≡ said_of xs u
+pub said_else : {X : Type 0} (xs : List (Option X)) (v u : ℕ) (o : Option X) → u ≢ v → said_of (slice_set xs v o) u ≡ said_of xs u
 said_else xs v u o other = get_or-set_other xs v u o None other
 
-same_said : {X : Type 0} (x y : X) → Some x ≡ Some y → x ≡ y
+pub same_said : {X : Type 0} (x y : X) → Some x ≡ Some y → x ≡ y
 same_said x y e = cc
 
-not_said : {X : Type 0} (x : X) → None ≡ Some x → ⊥
+pub not_said : {X : Type 0} (x : X) → None ≡ Some x → ⊥
 not_said x e = cc
 
 module _ (q : Facts) (count : ℕ) (are : AreNodes q) (parents : HaveOneParent q) where

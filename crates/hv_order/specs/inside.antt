@@ -3,6 +3,7 @@ pub mod Children
 pub mod Layouts
 pub mod Choosing
 pub mod Arrangements
+pub mod Sequencings
 pub mod Facts
 pub mod Trials
 pub mod Frames
@@ -18,5 +19,6 @@ pub mod Writings
 pub mod Chosen
 pub mod PlanFacts
 pub mod Listers
+pub mod Ends
 pub mod PlanNodes
 pub mod Checks

@@ -32,7 +32,7 @@ pub fn child_ids(alloc: Global, tree: &Tree<'_, '_>, children: &[Child]) -> Resu
     requires { All (HasId (tree_view tree.now)) (map child_view children.now) }
     ensures { IfOk result (λ ids. AreIdsOf (tree_view tree.now) children.now ids.items) }
 {
-    let mut ids = Vec::new(alloc);
+    let mut ids = Vec::with_capacity(alloc, children.len())?;
     for child in children {
         ids.push(child_id(tree, *child))?;
     }
@@ -48,7 +48,7 @@ pub fn names_of<'s>(
     requires { All (IsObjectOf (world_view world.now)) (map object_number objects.now) }
     ensures { IfOk result (λ names. AreNamesOf (world_view world.now) objects.now names.items) }
 {
-    let mut names = Vec::new(alloc);
+    let mut names = Vec::with_capacity(alloc, objects.len())?;
     for object in objects {
         match world.object_name(*object) {
             Some(name) => names.push(name)?,
@@ -108,7 +108,7 @@ pub fn write_lines<'s>(
     ensures { IfOk result
         (λ lines. AreLinesOf (world_view world.now) (tree_view tree.now) chosen.now lines.items) }
 {
-    let mut lines = Vec::new(alloc);
+    let mut lines = Vec::with_capacity(alloc, tree.node_count() as usize)?;
     for place in 1..tree.node_count() as usize {
         let line = write_line(alloc, world, tree, chosen, number_at(tree, place))?;
         lines.push(line)?;

@@ -24,7 +24,7 @@ pub fn choose(alloc: Global, stands: &[Option<Stand>]) -> Result<Vec<Chosen<'_>>
     requires { DoAllStand stands.now }
     ensures { IfOk result (λ chosen. AreChosenBy stands.now chosen.items) }
 {
-    let mut chosen = Vec::new(alloc);
+    let mut chosen = Vec::with_capacity(alloc, stands.len())?;
     for stand in stands {
         match stand {
             Some(stand) => chosen.push(chosen_by(stand))?,

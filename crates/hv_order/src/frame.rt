@@ -11,6 +11,7 @@ ghost use Rattle.hv_order.specs.declared.trial.Best.{Best};
 
 use crate::children::latest_start;
 use crate::memory::Memory;
+use crate::sequencing::Sequencing;
 use crate::trial::{Arranged, Best, Progress, Table, Trial, go_on};
 use std::alloc::Global;
 use std::mem::swap;
@@ -105,7 +106,7 @@ pub fn next_turn<T: Table, C: Candidates>(
     requires last { last ≡ (T.facts table.now).last }
     requires fits { AreFits (T.facts table.now).fits }
     requires within { (b : Best) → best ≡ Some b → b.finish ≤ last }
-    requires earliest { IsEarliest (T.facts table.now) start earliest }
+    requires earliest { IsEarliest (T.facts table.now) start (C.left left.old) earliest }
     requires arranged { AreArranged (T.facts table.now) (T.size table.now) (C.left left.old) }
     ensures next { IfOk result
         (IsNext (T.facts table.now) start best (C.left left.old) (C.left left.new)) }
@@ -141,7 +142,8 @@ pub fn advance<T: Table, C: Candidates>(
     requires last { last ≡ (T.facts table.now).last }
     requires fits { AreFits (T.facts table.now).fits }
     requires sound { T.sound table.now }
-    requires earliest { IsEarliest (T.facts table.now) frame.old.start frame.old.earliest }
+    requires earliest { IsEarliest (T.facts table.now) frame.old.start (C.left left.old)
+        frame.old.earliest }
     requires frame { IsFrame (T.facts table.now) (T.size table.now) frame.old.start frame.old
         (C.left left.old) }
     ensures over { IfOk result (EndsLeast (T.facts table.now) frame.old (C.left left.old)) }
@@ -158,11 +160,12 @@ pub fn advance<T: Table, C: Candidates>(
 {
     loop {
         let candidate = &frame.candidate;
+        let sequencing: &Sequencing = &candidate.sequencing;
         match go_on(
             table,
             &candidate.children,
-            &candidate.order,
-            &candidate.direct,
+            &sequencing.order,
+            &sequencing.direct,
             last,
             &mut frame.trial,
         ) {

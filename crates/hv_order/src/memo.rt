@@ -1,11 +1,13 @@
 //! What is known of the least finishes of a plan's nodes, while they are worked out on demand.
 ghost use Rattle.std.specs.Prelude.{◌≡◌, ◌<◌, ◌≤◌, length, IfOk, OnOk, is_some, true};
-ghost use Rattle.hv_order.specs.inside.Memos.{found, as_finish, finish_from, IsSmall, KnowsNothing, Keeps};
+ghost use Rattle.hv_order.specs.inside.Memos.{found, as_finish, finish_from, IsSmall, IsEmptyList, KnowsNothing, Keeps, SameRuns, IsRemembered, IsTaken, OnlyTaken};
 
 use crate::memory::Memory;
+use crate::settle::Settled;
 use crate::trial::{Finish, Run};
 use std::alloc::Global;
 use std::collections::BTreeMap;
+use std::mem::replace;
 
 /// A node and a start.
 #[derive(Clone, Copy, PartialEq, Eq, PartialOrd, Ord, Drop)]
@@ -23,13 +25,21 @@ pub struct Span {
     pub finish: u32,
 }
 
+/// A run that a node has from a start on, with its winner.
+#[derive(Drop)]
+pub struct Won {
+    pub start: u32,
+    pub settled: Settled,
+}
+
 /// What is known of the least finishes of a plan's nodes: for each node one interval of starts, and
-/// further starts one by one. Nothing is ever forgotten. The table is one in order, so no plan can
-/// make it slow.
+/// further starts one by one. Nothing of that is ever forgotten. The table is one in order, so no
+/// plan can make it slow. For each node one run is kept with its winner until that is taken.
 #[derive(Drop)]
 pub struct Memo {
     pub spans: Vec<Span>,
     pub more: BTreeMap<Pair, Run>,
+    pub won: Vec<Option<Won>>,
 }
 
 /// The finish that a number stands for.
@@ -51,6 +61,17 @@ pub fn number_of(finish: Option<u32>) -> u32
     finish.unwrap_or(u32::MAX)
 }
 
+// A list of so many nodes, of which none has a winner.
+fn none_won(alloc: Global, count: usize) -> Result<Vec<Option<Won>>, Memory>
+    ensures { IfOk result (λ won. IsEmptyList count won.items) }
+{
+    let mut won = Vec::with_capacity(alloc, count)?;
+    for _ in 0..count {
+        won.push(None)?;
+    }
+    Ok(won)
+}
+
 impl Memo {
     /// A memory with room for so many nodes, which knows nothing.
     pub fn new(alloc: Global, count: usize) -> Result<Memo, Memory>
@@ -65,6 +86,7 @@ impl Memo {
         Ok(Memo {
             spans,
             more: BTreeMap::new(alloc),
+            won: none_won(alloc, count)?,
         })
     }
 
@@ -92,6 +114,7 @@ impl Memo {
         requires begun { start ≤ run.last }
         requires small { IsSmall run.finish }
         ensures keeps { Keeps self.old self.new node start run }
+        ensures won { self.new.won ≡ self.old.won }
         ensures known { OnOk result (is_some (found self.new node start) ≡ true) }
     {
         let span = self.spans[node as usize];
@@ -105,5 +128,29 @@ impl Memo {
         }
         self.more.insert(Pair { node, start }, run)?;
         Ok(())
+    }
+
+    /// Keeps a run that a node has from a start on, with its winner.
+    pub fn remember(&mut self, node: u32, start: u32, settled: Settled)
+        requires node { node < length self.old.won.items }
+        ensures same { SameRuns self.old self.new }
+        ensures won { IsRemembered self.old self.new node start settled }
+    {
+        self.won[node as usize] = Some(Won { start, settled });
+    }
+
+    /// Hands out the run that is kept of a node, where a start lies in it.
+    pub fn take_won(&mut self, node: u32, start: u32) -> Option<Settled>
+        requires node { node < length self.old.won.items }
+        ensures same { SameRuns self.old self.new }
+        ensures left { OnlyTaken self.old self.new }
+        ensures taken { IsTaken self.old node start result }
+    {
+        let won = replace(&mut self.won[node as usize], None)?;
+        if won.start <= start && start <= won.settled.run.last {
+            Some(won.settled)
+        } else {
+            None
+        }
     }
 }

@@ -28,6 +28,11 @@ pub trait Nodes {
         requires node { node < size self.now }
         ensures { IfOk result (λ all. AreAllOf (facts self.now) node (Self.Left.left all)) };
 
+    /// A state that a node is over no earlier than, whatever its start.
+    fn earliest(&self, node: u32) -> u32
+        requires node { node < size self.now }
+        ensures { (s f : ℕ) → (facts self.now).fits node s f → result ≤ f };
+
     /// The first index from `from` to `upto` at which a candidate's precondition is true, and one
     /// up to which it stays true.
     fn first_true(&self, candidate: &Arranged, from: u32, upto: u32) -> Option<Stretch>

@@ -1,5 +1,5 @@
 //! The nodes of a plan's tree, with their candidates.
-ghost use Rattle.std.specs.Prelude.{◌≡◌, ◌<◌, ◌≤◌, ◌↔◌, ℕ, length, None};
+ghost use Rattle.std.specs.Prelude.{◌≡◌, ◌<◌, ◌≤◌, ◌↔◌, ℕ, length, None, IfOk};
 ghost use Rattle.hv_world.specs.WorldViews.{world_view};
 ghost use Rattle.hv_state.specs.Plans.{plan};
 ghost use Rattle.hv_plan.specs.BuiltTrees.{tree_view};
@@ -11,10 +11,12 @@ ghost use Rattle.hv_order.specs.inside.Nodes.{AreNodes};
 ghost use Rattle.hv_order.specs.inside.PlanFacts.{FitsNode, plan_facts};
 ghost use Rattle.hv_order.specs.inside.PlanNodes.{IsRange};
 
+use crate::ends::{end_at, ends_of};
 use crate::lister::{Lister, candidates_of};
 use crate::memory::Memory;
 use crate::node_methods::method_if;
 use crate::nodes::Nodes;
+use crate::sequencing::{Sequencings, make_sequencings, sequencing_of};
 use crate::trial::{Arranged, Stretch};
 use hv_match::Matcher;
 use hv_plan::Tree;
@@ -32,6 +34,8 @@ pub struct PlanNodes<'a, 's, 'm, 'p, 't, 'c, 'd> {
     tree: &'a Tree<'p, 't>,
     trace: &'a Trace<'c, 'd, BitState>,
     is_with: bool,
+    sequencings: Sequencings,
+    ends: Vec<u32>,
 }
 
 impl<'a, 's, 'm, 'p, 't, 'c, 'd> Model for PlanNodes<'a, 's, 'm, 'p, 't, 'c, 'd> {
@@ -47,8 +51,8 @@ impl<'a, 's, 'm, 'p, 't, 'c, 'd> Model for PlanNodes<'a, 's, 'm, 'p, 't, 'c, 'd>
 
     ghost view = { λ s. setting (tree_view s.tree.now) s.trace.now s.is_with };
 
-    ghost invariant = { λ s. ArePlanNodes s.world.now s.matcher.now
-        (setting (tree_view s.tree.now) s.trace.now s.is_with) };
+    ghost invariant = { λ s. ArePlanNodes s.world.now s.matcher.now s.sequencings
+        s.ends.items (setting (tree_view s.tree.now) s.trace.now s.is_with) };
 }
 
 // All indices of a range.
@@ -68,27 +72,32 @@ fn whole(from: u32, upto: u32) -> Option<Stretch>
 impl<'a, 's, 'm, 'p, 't, 'c, 'd> PlanNodes<'a, 's, 'm, 'p, 't, 'c, 'd> {
     /// The nodes of a tree of a world.
     pub fn new(
+        alloc: Global,
         world: &'a World<'s>,
         matcher: &'a Matcher<'m, 's>,
         tree: &'a Tree<'p, 't>,
         trace: &'a Trace<'c, 'd, BitState>,
         is_with: bool,
-    ) -> PlanNodes<'a, 's, 'm, 'p, 't, 'c, 'd>
+    ) -> Result<PlanNodes<'a, 's, 'm, 'p, 't, 'c, 'd>, Memory>
         requires world { matcher.now ≡ world_view world.now }
         requires top { HasNoPrecondition (world_view world.now) }
         requires tree { IsTreeIn (world_view world.now) (tree_view tree.now) }
         requires trace { trace.now ≡ plan (world_view world.now) (tree_view tree.now).actions }
         requires small { length (tree_view tree.now).actions < 4294967295 }
-        ensures { result ≡ setting (tree_view tree.now) trace.now is_with }
+        ensures { IfOk result (λ nodes. nodes ≡ setting (tree_view tree.now) trace.now is_with) }
     {
         world.is_sound();
-        PlanNodes {
+        let sequencings = make_sequencings(alloc, world)?;
+        let ends = ends_of(alloc, tree)?;
+        Ok(PlanNodes {
             world,
             matcher,
             tree,
             trace,
             is_with,
-        }
+            sequencings,
+            ends,
+        })
     }
 
     /// The world of the plan.
@@ -146,7 +155,13 @@ impl<'a, 's, 'm, 'p, 't, 'c, 'd> Nodes for PlanNodes<'a, 's, 'm, 'p, 't, 'c, 'd>
 
     fn candidates(&self, alloc: Global, node: usize) -> Result<Lister<'a>, Memory> {
         let _count = self.tree.node_count();
-        candidates_of(alloc, self.world, self.matcher, self.tree, node as u32)
+        let number = node as u32;
+        let shared = sequencing_of(self.world, &self.sequencings, self.tree, number).clone()?;
+        candidates_of(alloc, self.matcher, self.tree, number, shared)
+    }
+
+    fn earliest(&self, node: u32) -> u32 {
+        end_at(&self.ends, node)
     }
 
     fn first_true(&self, candidate: &Arranged, from: u32, upto: u32) -> Option<Stretch> {

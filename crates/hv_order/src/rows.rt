@@ -95,7 +95,7 @@ impl<'a, 's, 'm, 'p, 't, 'c, 'd> Rows<'a, 's, 'm, 'p, 't, 'c, 'd> {
             Some(line) => Err(RowFault::NoBinding(line)),
             None => {
                 world.is_sound();
-                let nodes = PlanNodes::new(world, matcher, tree, trace, is_with);
+                let nodes = PlanNodes::new(alloc, world, matcher, tree, trace, is_with)?;
                 let rows = rows_of(alloc, &nodes, tree.node_count() as usize)?;
                 Ok(Rows { nodes, rows })
             }

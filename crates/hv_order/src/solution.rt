@@ -74,7 +74,7 @@ pub fn find_certificate<'s>(
         (Certifies (setting (tree_view tree.now) trace.now is_with))) }
 {
     world.is_sound();
-    let nodes = PlanNodes::new(world, matcher, tree, trace, is_with);
+    let nodes = PlanNodes::new(alloc, world, matcher, tree, trace, is_with)?;
     certificate_of(alloc, &nodes)
 }
 

@@ -72,10 +72,10 @@ pub enum Pending<L> {
     Begun(Box<Task<L>>),
 }
 
-/// What a node came to: a child's finish is wanted, or all candidates are over.
+/// What a node came to: it waits for the finish of a child, or all candidates are over.
 #[derive(Drop)]
 pub enum Outcome<L> {
-    Wants(Task<L>, Pair),
+    Wants(Pending<L>, Pair),
     Over(Settled),
 }
 
@@ -109,14 +109,23 @@ pub fn open<N: Nodes>(
 {
     let mut left = nodes.candidates(alloc, node as usize)?;
     let table = Below { nodes, memo, node };
-    match next_turn(alloc, &table, &mut left, None, start, start, nodes.last())? {
+    let earliest = start.max(nodes.earliest(node));
+    match next_turn(
+        alloc,
+        &table,
+        &mut left,
+        None,
+        start,
+        earliest,
+        nodes.last(),
+    )? {
         None => Ok(None),
         Some(turn) => {
             let frame = Frame {
                 start,
-                earliest: start,
+                earliest,
                 best: None,
-                winner: no_candidate(alloc),
+                winner: no_candidate(alloc, &turn.candidate)?,
                 candidate: turn.candidate,
                 trial: turn.trial,
             };
@@ -159,23 +168,27 @@ pub fn close<L: Drop>(task: Task<L>, best: Option<Best>, last: u32) -> Settled
     run_of(with_candidate(best, frame.winner), last)
 }
 
-/// Takes in a run that a node has from a start on.
+/// Takes in a run that a node has from a start on, with its winner.
 pub fn keep<N: Nodes>(
-    nodes: &N,
+    _nodes: &N,
     memo: &mut Memo,
     node: u32,
     start: u32,
-    run: Run,
+    settled: Settled,
 ) -> Result<(), Memory>
-    requires memo { AreKnown (N.facts nodes.now) (N.size nodes.now) memo.old }
-    requires node { node < N.size nodes.now }
-    requires run { IsNodeRun (N.facts nodes.now) node start run }
-    requires small { IsSmall run.finish }
-    ensures memo { AreKnown (N.facts nodes.now) (N.size nodes.now) memo.new }
-    ensures keeps { Keeps memo.old memo.new node start run }
+    requires memo { AreKnown (N.facts _nodes.now) (N.size _nodes.now) memo.old }
+    requires node { node < N.size _nodes.now }
+    requires settled { IsSettled (N.facts _nodes.now) node start settled }
+    requires small { IsSmall settled.run.finish }
+    ensures memo { AreKnown (N.facts _nodes.now) (N.size _nodes.now) memo.new }
+    ensures keeps { Keeps memo.old memo.new node start settled.run }
     ensures known { OnOk result (is_some (found memo.new node start) ≡ true) }
 {
-    memo.learn(node, start, run)
+    memo.learn(node, start, settled.run)?;
+    if settled.winner.is_some() {
+        memo.remember(node, start, settled);
+    }
+    Ok(())
 }
 
 /// Works on a task up to the next finish that it wants, or to its end.
@@ -184,6 +197,7 @@ pub fn work<N: Nodes>(
     nodes: &N,
     memo: &Memo,
     task: Task<N::Left>,
+    far: bool,
 ) -> Result<Outcome<N::Left>, Memory>
     requires nodes { AreNodes (N.facts nodes.now) }
     requires memo { AreKnown (N.facts nodes.now) (N.size nodes.now) memo.now }
@@ -193,17 +207,46 @@ pub fn work<N: Nodes>(
 {
     let mut task = task;
     match step(alloc, nodes, memo, &mut task)? {
-        Progress::Wants(node, start) => Ok(Outcome::Wants(task, Pair { node, start })),
+        Progress::Wants(node, start) => {
+            let waits = wait(alloc, nodes, task, far)?;
+            Ok(Outcome::Wants(waits, Pair { node, start }))
+        }
         Progress::Over(best) => Ok(Outcome::Over(close(task, best, nodes.last()))),
     }
 }
 
-/// Goes on with a node that waited, which is begun where it is not yet.
+/// Works on a task that waited, up to the next finish that it wants, or to its end.
+pub fn work_on<N: Nodes>(
+    alloc: Global,
+    nodes: &N,
+    memo: &Memo,
+    task: Box<Task<N::Left>>,
+) -> Result<Outcome<N::Left>, Memory>
+    requires nodes { AreNodes (N.facts nodes.now) }
+    requires memo { AreKnown (N.facts nodes.now) (N.size nodes.now) memo.now }
+    requires task { IsTask N.Left.left (N.facts nodes.now) (N.size nodes.now) task.value }
+    ensures { IfOk result (IsOutcome N.Left.left (N.facts nodes.now) (N.size nodes.now) memo.now
+        (task_pair task.value)) }
+{
+    let mut task = task;
+    match step(alloc, nodes, memo, &mut task)? {
+        Progress::Wants(node, start) => {
+            Ok(Outcome::Wants(Pending::Begun(task), Pair { node, start }))
+        }
+        Progress::Over(best) => {
+            Ok(Outcome::Over(close(Box::into_inner(task), best, nodes.last())))
+        }
+    }
+}
+
+/// Goes on with a node that waited, which is begun where it is not yet. Where it waits again `far`
+/// down, it may be let go.
 pub fn resume<N: Nodes>(
     alloc: Global,
     nodes: &N,
     memo: &Memo,
     pending: Pending<N::Left>,
+    far: bool,
 ) -> Result<Outcome<N::Left>, Memory>
     requires nodes { AreNodes (N.facts nodes.now) }
     requires memo { AreKnown (N.facts nodes.now) (N.size nodes.now) memo.now }
@@ -212,10 +255,10 @@ pub fn resume<N: Nodes>(
         (pair_of pending)) }
 {
     match pending {
-        Pending::Begun(task) => work(alloc, nodes, memo, Box::into_inner(task)),
+        Pending::Begun(task) => work_on(alloc, nodes, memo, task),
         Pending::Asked(pair) => match open(alloc, nodes, memo, pair.node, pair.start)? {
             None => Ok(Outcome::Over(run_of(None, nodes.last()))),
-            Some(task) => work(alloc, nodes, memo, task),
+            Some(task) => work(alloc, nodes, memo, task, far),
         },
     }
 }
@@ -261,16 +304,16 @@ pub fn solve<N: Nodes>(
     let mut top: Pending<N::Left> = Pending::Asked(Pair { node, start });
     loop {
         let pair = top.pair();
-        match resume(alloc, nodes, memo, top)? {
-            Outcome::Wants(task, child) => {
-                let far = NEAR <= below.len();
-                below.push(wait(alloc, nodes, task, far)?)?;
+        let far = NEAR <= below.len();
+        match resume(alloc, nodes, memo, top, far)? {
+            Outcome::Wants(waits, child) => {
+                below.push(waits)?;
                 top = Pending::Asked(child);
             }
             Outcome::Over(settled) => match below.pop() {
                 None => return Ok(settled),
                 Some(waiting) => {
-                    keep(nodes, memo, pair.node, pair.start, settled.run)?;
+                    keep(nodes, memo, pair.node, pair.start, settled)?;
                     top = waiting;
                 }
             },
@@ -297,8 +340,30 @@ pub fn run_for<N: Nodes>(
         Finish::Known(run) => Ok(run),
         Finish::Unknown => {
             let settled = solve(alloc, nodes, memo, node, start)?;
-            keep(nodes, memo, node, start, settled.run)?;
-            Ok(settled.run)
+            let run = settled.run;
+            keep(nodes, memo, node, start, settled)?;
+            Ok(run)
         }
+    }
+}
+
+/// A run of a node from a start on, with its winner: as it was kept, or else worked out.
+pub fn settled_from<N: Nodes>(
+    alloc: Global,
+    nodes: &N,
+    memo: &mut Memo,
+    node: u32,
+    start: u32,
+) -> Result<Settled, Memory>
+    requires nodes { AreNodes (N.facts nodes.now) }
+    requires memo { AreKnown (N.facts nodes.now) (N.size nodes.now) memo.old }
+    requires node { node < N.size nodes.now }
+    requires start { start ≤ (N.facts nodes.now).last }
+    ensures settled { IfOk result (IsSettled (N.facts nodes.now) node start) }
+    ensures memo { AreKnown (N.facts nodes.now) (N.size nodes.now) memo.new }
+{
+    match memo.take_won(node, start) {
+        Some(settled) => Ok(settled),
+        None => solve(alloc, nodes, memo, node, start),
     }
 }

@@ -13,7 +13,8 @@ use crate::children::run_of_action;
 use crate::memo::Memo;
 use crate::memory::Memory;
 use crate::nodes::Nodes;
-use crate::solve::{run_for, solve};
+use crate::sequencing::Sequencing;
+use crate::solve::{run_for, settled_from};
 use crate::trial::{Arranged, direct_before, start_of};
 use hv_plan::Child;
 use std::alloc::Global;
@@ -81,8 +82,9 @@ pub fn lay_out<N: Nodes>(
     let count = candidate.children.len();
     let mut starts = vec![in alloc; 0; count]?;
     let mut finishes = vec![in alloc; 0; count]?;
-    for subtask in &candidate.order {
-        let start = start_of(&finishes, direct_before(&candidate.direct, *subtask), at);
+    let sequencing: &Sequencing = &candidate.sequencing;
+    for subtask in &sequencing.order {
+        let start = start_of(&finishes, direct_before(&sequencing.direct, *subtask), at);
         match finish_of_child(alloc, nodes, memo, candidate.children[*subtask], start)? {
             None => unreachable!(),
             Some(finish) => {
@@ -124,7 +126,7 @@ pub fn stand_from<N: Nodes>(
     ensures stand { IfOk result (IsStandFrom (N.facts nodes.now) node start) }
     ensures memo { AreKnown (N.facts nodes.now) (N.size nodes.now) memo.new }
 {
-    let settled = solve(alloc, nodes, memo, node, start)?;
+    let settled = settled_from(alloc, nodes, memo, node, start)?;
     let finish = match settled.run.finish {
         None => unreachable!(),
         Some(finish) => finish,
@@ -198,7 +200,7 @@ pub fn visit<N: Nodes>(
 pub fn none_stands(alloc: Global, count: u32) -> Result<Vec<Option<Stand>>, Memory>
     ensures { IfOk result (λ stands. length stands.items ≡ count) }
 {
-    let mut stands = Vec::new(alloc);
+    let mut stands = Vec::with_capacity(alloc, count as usize)?;
     for _ in 0..count {
         stands.push(None)?;
     }

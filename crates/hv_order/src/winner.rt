@@ -17,17 +17,17 @@ pub struct Winner {
     pub candidate: Arranged,
 }
 
-/// A candidate without subtasks, which stands where there is none yet.
-pub fn no_candidate(alloc: Global) -> Arranged
-    ensures { result.children.items ≡ [] }
+/// A candidate of the same node without subtasks, which stands where none has won yet. It takes no
+/// memory.
+pub fn no_candidate(alloc: Global, candidate: &Arranged) -> Result<Arranged, Memory>
+    ensures { IfOk result (λ none. none.children.items ≡ []) }
 {
-    Arranged {
-        node: 0,
+    Ok(Arranged {
+        node: candidate.node,
         objects: Vec::new(alloc),
         children: Vec::new(alloc),
-        order: Vec::new(alloc),
-        direct: Vec::new(alloc),
-    }
+        sequencing: candidate.sequencing.clone()?,
+    })
 }
 
 /// A best with its candidate.
@@ -64,7 +64,7 @@ pub fn best_of<T: Table, C: Candidates>(
         start,
         earliest: start,
         best: None,
-        winner: no_candidate(alloc),
+        winner: no_candidate(alloc, &turn.candidate)?,
         candidate: turn.candidate,
         trial: turn.trial,
     };

@@ -30,6 +30,6 @@ arrangement_of c =
       node = c.node;
       objects = map object_number c.objects.items;
       children = c.children.items;
-      order = c.order.items;
-      direct = lists_of c.direct.items;
+      order = c.sequencing.value.order.items;
+      direct = lists_of c.sequencing.value.direct.items;
     }

@@ -32,9 +32,9 @@ AreArranged q n cs = (c : Arrangement) → Contains cs c → IsArranged q c × A
 abbrev pub IsHead : List Arrangement → List Arrangement → Option Arranged → Type 0
 IsHead left left' o = MatchOption o (left ≡ []) (λ c. left ≡ arrangement_of c ∷ left')
 
--- no candidate of the node finishes before this
-abbrev pub IsEarliest : Facts → ℕ → ℕ → Type 0
-IsEarliest q s earliest = (c : Arrangement) (g : ℕ) → FitsWith q s c g → earliest ≤ g
+-- none of these candidates finishes before this
+abbrev pub IsEarliest : Facts → ℕ → List Arrangement → ℕ → Type 0
+IsEarliest q s all earliest = (c : Arrangement) (g : ℕ) → Contains all c → FitsWith q s c g → earliest ≤ g
 
 -- the least finish of the node from s with this candidate, if it is no later than n
 abbrev pub IsLeastWith : Facts → ℕ → Arrangement → ℕ → Option ℕ → Type 0
@@ -85,9 +85,9 @@ pub record IsTrying (q : Facts) (s : ℕ) (c : Arranged) (t : Trial) : Type 0 wh
   pub holds : (k : ℕ) → t.at ≤ k → k ≤ t.last → q.holds (arrangement_of c) k
   pub zeros : List ℕ
   pub room : length t.finishes.items ≡ length c.children.items
-  pub trial : IsTrialOf q t.cap c.children.items c.order.items c.direct.items zeros t
+  pub trial : IsTrialOf q t.cap c.children.items c.sequencing.value.order.items c.sequencing.value.direct.items zeros t
   pub gives :
-      (o : Option ℕ) → LaysOut q t.cap c.children.items c.order.items c.direct.items t.at zeros o
+      (o : Option ℕ) → LaysOut q t.cap c.children.items c.sequencing.value.order.items c.sequencing.value.direct.items t.at zeros o
       → IsLeastWith q s (arrangement_of c) t.cap o
 
 -- what begins a candidate: its precondition is true nowhere under the cap, or it is being laid out

@@ -1,15 +1,20 @@
 -- What is known of the least finishes of a plan's nodes, while they are worked out on demand.
-use Rattle.std.specs.Prelude.{◌≡◌, ℕ, zero, suc, ◌+◌, ◌<◌, ◌≤◌, ◌⊎◌, if◌then◌else◌, nat_eq, nat_le, true, length, Option, Some, None, slice_get, is_some}
+use Rattle.std.specs.Prelude.{◌≡◌, ℕ, zero, suc, ◌+◌, ◌<◌, ◌≤◌, ◌⊎◌, if◌then◌else◌, nat_eq, nat_le, true, List, length, Option, Some, None, MatchOption, slice_get, is_some}
+use Rattle.std.specs.List.{slice_set}
 use Rattle.std.specs.declared.cmp.Ordering.{Ordering}
 use Rattle.std.specs.Ordering.{nat_cmp, ordering_then}
 use Rattle.std.specs.BTreeMap.{get}
 use Rattle.hv_order.specs.inside.Facts.{Facts, IsNodeRun}
+use Rattle.hv_order.specs.inside.Nodes.{IsSettled}
+use Rattle.hv_order.specs.inside.Walks.{said_of}
 use Rattle.hv_order.specs.declared.trial.Run.{Run}
 use Rattle.hv_order.specs.declared.trial.Finish.{Finish}
 use Rattle.hv_order.specs.declared.trial.Finish.TheVariants as finishes
 use Rattle.hv_order.specs.declared.memo.Memo.{Memo}
 use Rattle.hv_order.specs.declared.memo.Pair.{Pair}
 use Rattle.hv_order.specs.declared.memo.Span.{Span}
+use Rattle.hv_order.specs.declared.memo.Won.{Won}
+use Rattle.hv_order.specs.declared.settle.Settled.{Settled}
 
 -- by node, and then by start
 abbrev pub pair_cmp : Pair → Pair → Ordering
@@ -55,16 +60,48 @@ as_finish (Some r) = finishes.Known r
 pub record AreKnown (q : Facts) (size : ℕ) (m : Memo) : Type 0 where
   pub room : size ≤ length m.spans.items
   pub right : (v s : ℕ) (r : Run) → found m v s ≡ Some r → IsNodeRun q v s r
+  pub places : length m.won.items ≡ length m.spans.items
+  pub won : (v : ℕ) (w : Won) → said_of m.won.items v ≡ Some w → IsSettled q v w.start w.settled
 
 -- what it keeps is right, and it may be asked for the nodes before one
 pub record IsBelow (q : Facts) (size : ℕ) (m : Memo) (v : ℕ) : Type 0 where
   pub known : AreKnown q size m
   pub node : v < size
 
+-- nothing is said of any of so many nodes
+pub record IsEmptyList (size : ℕ) (won : List (Option Won)) : Type 0 where
+  pub as_many : length won ≡ size
+  pub none : (v : ℕ) → said_of won v ≡ None
+
 -- it has room for so many nodes, and knows nothing of any
 pub record KnowsNothing (size : ℕ) (m : Memo) : Type 0 where
-  pub room : size ≤ length m.spans.items
+  pub room : length m.spans.items ≡ size
   pub nothing : (v s : ℕ) → found m v s ≡ None
+  pub won : IsEmptyList size m.won.items
+
+-- the same is known of all starts
+pub record SameRuns (m m' : Memo) : Type 0 where
+  pub spans : m'.spans ≡ m.spans
+  pub more : m'.more ≡ m.more
+
+-- a run of a node from a start on is kept with its winner
+abbrev pub IsRemembered : Memo → Memo → ℕ → ℕ → Settled → Type 0
+IsRemembered m m' v s r = m'.won.items ≡ slice_set m.won.items v (Some (record { start = s; settled = r }))
+
+-- there are no other winners than before
+pub record OnlyTaken (m m' : Memo) : Type 0 where
+  pub places : length m'.won.items ≡ length m.won.items
+  pub won : (v : ℕ) (w : Won) → said_of m'.won.items v ≡ Some w → said_of m.won.items v ≡ Some w
+
+-- the run was kept, and the start lies in it
+pub record IsTakenRun (m : Memo) (v s : ℕ) (r : Settled) : Type 0 where
+  pub start : ℕ
+  pub kept : said_of m.won.items v ≡ Some (record { start = start; settled = r })
+  pub late : start ≤ s
+  pub early : s ≤ r.run.last
+
+abbrev pub IsTaken : Memo → ℕ → ℕ → Option Settled → Type 0
+IsTaken m v s o = MatchOption o (Unit {0}) (IsTakenRun m v s)
 
 -- a start lies in a run of a node from a start on
 pub record LiesIn (v s : ℕ) (r : Run) (w x : ℕ) : Type 0 where

@@ -4,7 +4,7 @@ use Rattle.hv_order.specs.inside.Arrangements.{Arrangement, arrangement_of}
 use Rattle.hv_order.specs.inside.Facts.{Facts}
 use Rattle.hv_order.specs.inside.Memos.{IsSmall, IsWanted}
 use Rattle.hv_order.specs.inside.Trials.{IfOver}
-use Rattle.hv_order.specs.inside.Frames.{IsFrame, IsBest}
+use Rattle.hv_order.specs.inside.Frames.{IsEarliest, IsFrame, IsBest}
 use Rattle.hv_order.specs.inside.Winners.{AreListed, as_winner}
 use Rattle.hv_order.specs.inside.Nodes.{AreAllOf, IsSettled, settled_by}
 use Rattle.hv_order.specs.declared.frame.Frame.{Frame}
@@ -24,10 +24,10 @@ use Rattle.hv_order.specs.declared.trial.Progress.{Progress}
 pub record IsWorking (q : Facts) (size v : ℕ) (f : Frame) (left : List Arrangement) : Type 0 where
   pub within : v < size
   pub start : f.start ≤ q.last
-  pub earliest : f.earliest ≡ f.start
   pub frame : IsFrame q v f.start f left
   pub all : List Arrangement
   pub whole : AreAllOf q v all
+  pub earliest : IsEarliest q f.start all f.earliest
   pub tried : IsBest q f.start all (arrangement_of f.candidate ∷ left) f.best
   pub listed : AreListed all f left
 
@@ -80,12 +80,11 @@ pub record Waits
   pub same : pair_of w ≡ p
   pub pending : IsPending left q size w
 
--- a task goes on when this child's finish is known
+-- a node goes on when this child's finish is known
 pub record IsWaitingFor
     {L : Type 0} (left : L → List Arrangement) (q : Facts) (size : ℕ) (m : Memo) (p : Pair)
-    (t : Task L) (child : Pair) : Type 0 where
-  pub same : task_pair t ≡ p
-  pub task : IsTask left q size t
+    (w : Pending L) (child : Pair) : Type 0 where
+  pub waits : Waits left q size p w
   pub wanted : IsWanted q m p.node child.node child.start
 
 -- a run of this node from this start on, with its winner
@@ -96,5 +95,5 @@ pub record IsOverWith (q : Facts) (p : Pair) (r : Settled) : Type 0 where
 -- what a node came to that is worked out from a start on
 abbrev pub IsOutcome :
     {L : Type 0} → (L → List Arrangement) → Facts → ℕ → Memo → Pair → Outcome L → Type 0
-IsOutcome left q size m p (outcome.Wants t child) = IsWaitingFor left q size m p t child
+IsOutcome left q size m p (outcome.Wants w child) = IsWaitingFor left q size m p w child
 IsOutcome left q size m p (outcome.Over r) = IsOverWith q p r

@@ -12,7 +12,7 @@ pub returns-then-found-earliest-clause-next : goal.returns-then-found-earliest-c
 returns-then-found-earliest-clause-next g c =
     let q = g.T.Table.facts c.args.table.now in
     let e = c.requires.last in
-    λ all tried. rw c.in-Some.is (kept q c.args.start all (g.C.Candidates.left c.args.left.now) (Some c.in-Some.found) (rw c.in-Some.is at tried) (none_of_use all (FitsWith q c.args.start) q.last (g.C.Candidates.left c.args.left.now) c.in-Some.found.finish c.args.earliest (rw c.in-Some.is at tried.tried) (λ d f m b. c.requires.earliest d f b) c.if-found-earliest.true))
+    λ all tried. rw c.in-Some.is (kept q c.args.start all (g.C.Candidates.left c.args.left.now) (Some c.in-Some.found) (rw c.in-Some.is at tried) (none_of_use all (FitsWith q c.args.start) q.last (g.C.Candidates.left c.args.left.now) c.in-Some.found.finish c.args.earliest (rw c.in-Some.is at tried.tried) c.requires.earliest c.if-found-earliest.true))
 
 pub begin-requires-clause-arranged : goal.begin-requires-clause-arranged
 begin-requires-clause-arranged g c =

@@ -1,7 +1,7 @@
-use Rattle.std.proofs.Common.{◌≡◌, refl}
+use Rattle.std.proofs.Common.{refl}
 use Rattle.hv_order.specs.declared.memo.Pair.{Pair}
 use Rattle.hv_order.specs.declared.solve.Pending.TheVariants as pending
-use Rattle.hv_order.specs.inside.Tasks.{pair_of, IsWaitingFor, Waits}
+use Rattle.hv_order.specs.inside.Tasks.{pair_of, IsWaitingFor}
 use Rattle.hv_order.specs.inside.Memos.{Keeps}
 use Rattle.hv_order.proofs.Stacks.{IsFirst, pair_is, top_pending, asked_stack, asked_less, over_stack, over_less}
 use Rattle.hv_order.proofs.solve.solve.Goals as goal
@@ -34,9 +34,8 @@ loop-below-smaller-in-Wants g c =
     let a : Pair = record { node = c.args.node; start = c.args.start } in
     let m = c.loop-below.memo in
     let t = c.loop-below.top in
-    let is : IsWaitingFor left q size m (pair_of t) c.in-Wants.task c.in-Wants.child = rw c.in-Wants.is at c.in_ok-task.ensures in
-    let waits : Waits left q size (pair_of t) c.in_ok-wait-in-Wants.field-0 = rw is.same at c.in_ok-wait-in-Wants.ensures in
-    asked_less left q size m a c.loop-below.below.items t c.in_ok-wait-in-Wants.field-0 c.in-Wants.child c.loop-below.invariant.1 waits is.wanted
+    let is : IsWaitingFor left q size m (pair_of t) c.in-Wants.waits c.in-Wants.child = rw c.in-Wants.is at c.in_ok-waits.ensures in
+    asked_less left q size m a c.loop-below.below.items t c.in-Wants.waits c.in-Wants.child c.loop-below.invariant.1 is.waits is.wanted
 
 pub loop-below-preserved-in-Wants : goal.loop-below-preserved-in-Wants
 loop-below-preserved-in-Wants g c =
@@ -46,10 +45,9 @@ loop-below-preserved-in-Wants g c =
     let a : Pair = record { node = c.args.node; start = c.args.start } in
     let m = c.loop-below.memo in
     let t = c.loop-below.top in
-    let is : IsWaitingFor left q size m (pair_of t) c.in-Wants.task c.in-Wants.child = rw c.in-Wants.is at c.in_ok-task.ensures in
-    let waits : Waits left q size (pair_of t) c.in_ok-wait-in-Wants.field-0 = rw is.same at c.in_ok-wait-in-Wants.ensures in (
+    let is : IsWaitingFor left q size m (pair_of t) c.in-Wants.waits c.in-Wants.child = rw c.in-Wants.is at c.in_ok-waits.ensures in (
       c.loop-below.invariant.0,
-      rw c.in_ok-push-in-Wants.ensures.items (asked_stack left q size m a c.loop-below.below.items t c.in_ok-wait-in-Wants.field-0 c.in-Wants.child c.loop-below.invariant.1 waits is.wanted),
+      rw c.in_ok-push-in-Wants.ensures.items (asked_stack left q size m a c.loop-below.below.items t c.in-Wants.waits c.in-Wants.child c.loop-below.invariant.1 is.waits is.wanted),
     )
 
 -- where the one on top is over
@@ -62,36 +60,6 @@ keep-requires-clause-node g c =
     let t = c.loop-below.top in
     rw c.pair-pair.ensures (pair_is left q size t (top_pending left q size c.loop-below.memo a c.loop-below.below.items t c.loop-below.invariant.1)).node
 
-pub loop-below-smaller-in_ok-keep-in-Some : goal.loop-below-smaller-in_ok-keep-in-Some
-loop-below-smaller-in_ok-keep-in-Some g c =
-    let q = g.N.Nodes.facts c.args.nodes.now in
-    let size = g.N.Nodes.size c.args.nodes.now in
-    let left = g.N.Left.Candidates.left in
-    let a : Pair = record { node = c.args.node; start = c.args.start } in
-    let m = c.loop-below.memo in
-    let t = c.loop-below.top in
-    let m' = c.keep.new.memo in
-    let r = c.in-Over.settled.run in
-    let keeps : Keeps m m' (pair_of t).node (pair_of t).start r = rw c.pair-pair.ensures at c.in_ok-keep-in-Some.ensures.keeps in
-    over_less left q size m m' a c.loop-below.below.items c.pop.new.self.items t c.in-Some.waiting r c.loop-below.invariant.1 c.in-Some.ensures.items keeps
-    (rw c.pair-pair.ensures at c.in_ok-keep-in-Some.ensures.known)
-
-pub loop-below-preserved-in_ok-keep-in-Some : goal.loop-below-preserved-in_ok-keep-in-Some
-loop-below-preserved-in_ok-keep-in-Some g c =
-    let q = g.N.Nodes.facts c.args.nodes.now in
-    let size = g.N.Nodes.size c.args.nodes.now in
-    let left = g.N.Left.Candidates.left in
-    let a : Pair = record { node = c.args.node; start = c.args.start } in
-    let m = c.loop-below.memo in
-    let t = c.loop-below.top in
-    let m' = c.keep.new.memo in
-    let r = c.in-Over.settled.run in
-    let keeps : Keeps m m' (pair_of t).node (pair_of t).start r = rw c.pair-pair.ensures at c.in_ok-keep-in-Some.ensures.keeps in (
-      c.in_ok-keep-in-Some.ensures.memo,
-      over_stack left q size m m' a c.loop-below.below.items c.pop.new.self.items t c.in-Some.waiting r c.loop-below.invariant.1 c.in-Some.ensures.items keeps,
-    )
-
--- where nothing of what it came to is left to be let go
 pub loop-below-smaller : goal.loop-below-smaller
 loop-below-smaller g c =
     let q = g.N.Nodes.facts c.args.nodes.now in

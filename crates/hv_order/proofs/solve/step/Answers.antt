@@ -2,8 +2,12 @@ use Rattle.hv_order.specs.inside.Trials.{IfWants}
 use Rattle.hv_order.specs.inside.Frames.{EndsLeast, EndsWon, StaysFrame, StaysTried}
 use Rattle.hv_order.specs.inside.Winners.{StaysListed}
 use Rattle.hv_order.specs.inside.Tasks.{IsWorking, Settles}
-use Rattle.hv_order.proofs.Tasks.{if_ok, task_over, task_stays}
+use Rattle.hv_order.proofs.Tasks.{if_ok, none_earlier, task_over, task_stays}
 use Rattle.hv_order.proofs.solve.step.Goals as goal
+
+pub advance-requires-clause-earliest : goal.advance-requires-clause-earliest
+advance-requires-clause-earliest g c =
+    none_earlier (g.N.Nodes.facts c.args.nodes.now) (g.N.Nodes.size c.args.nodes.now) c.args.task.now.node c.args.task.now.frame (g.N.Left.Candidates.left c.args.task.now.left) c.requires.task
 
 pub returns-clause-over : goal.returns-clause-over
 returns-clause-over g c =

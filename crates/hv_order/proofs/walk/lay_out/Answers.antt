@@ -27,9 +27,9 @@ finish_of_child-requires-clause-start g c =
     let i = c.loop-subtask.subtask-index in
     let ss = c.loop-subtask.starts.items in
     let fs = c.loop-subtask.finishes.items in
-    let lt : i < length a.order = rw c.deref-subtask-items.ensures.value at c.loop-subtask-test.true in
+    let lt : i < length a.order = rw (c.deref-subtask-items.ensures.value, c.deref-sequencing.ensures) at c.loop-subtask-test.true in
     let start : c.start_of-start.result ≡ start_behind fs c.args.at (listed_before a.direct (slice_index a.order i)) =
-    rw (c.deref.ensures.value, c.direct_before.ensures, c.deref-in-loop-subtask.ensures.value, c.deref-subtask-items.ensures.value) at c.start_of-start.ensures
+    rw (c.deref.ensures.value, c.direct_before.ensures, c.deref-in-loop-subtask.ensures.value, c.deref-subtask-items.ensures.value, c.deref-sequencing.ensures) at c.start_of-start.ensures
     in
     rw start (start_small q a c.requires.nodes.fits c.requires.arranged c.args.at c.args._finish i lt ss fs c.loop-subtask.invariant.0 c.requires.over)
 
@@ -40,14 +40,14 @@ unreachable-requires g c =
     let i = c.loop-subtask.subtask-index in
     let ss = c.loop-subtask.starts.items in
     let fs = c.loop-subtask.finishes.items in
-    let lt : i < length a.order = rw c.deref-subtask-items.ensures.value at c.loop-subtask-test.true in
+    let lt : i < length a.order = rw (c.deref-subtask-items.ensures.value, c.deref-sequencing.ensures) at c.loop-subtask-test.true in
     let next = slice_index a.order i in
     let within = is_next q a c.requires.nodes.fits c.requires.arranged c.args.at c.args._finish i lt ss fs c.loop-subtask.invariant.0 in
     let start : c.start_of-start.result ≡ start_behind fs c.args.at (listed_before a.direct next) =
-    rw (c.deref.ensures.value, c.direct_before.ensures, c.deref-in-loop-subtask.ensures.value, c.deref-subtask-items.ensures.value) at c.start_of-start.ensures
+    rw (c.deref.ensures.value, c.direct_before.ensures, c.deref-in-loop-subtask.ensures.value, c.deref-subtask-items.ensures.value, c.deref-sequencing.ensures) at c.start_of-start.ensures
     in
     let child : c.index.result.now ≡ child_at a.children next =
-    (rw c.deref-subtask-items.ensures.value at c.index.ensures) ∙ same_or a.children next c.index.result.now (children.Action 0) within
+    (rw (c.deref-subtask-items.ensures.value, c.deref-sequencing.ensures) at c.index.ensures) ∙ same_or a.children next c.index.result.now (children.Action 0) within
     in
     some_finish q a c.requires.nodes.fits c.requires.arranged c.args.at c.args._finish i lt ss fs c.loop-subtask.invariant.0 c.requires.over
     (rw (c.in-None.is, start, child) at c.in_ok-finish_of_child.ensures.finish)
@@ -59,16 +59,16 @@ loop-subtask-preserved g c =
     let i = c.loop-subtask.subtask-index in
     let ss = c.loop-subtask.starts.items in
     let fs = c.loop-subtask.finishes.items in
-    let lt : i < length a.order = rw c.deref-subtask-items.ensures.value at c.loop-subtask-test.true in
+    let lt : i < length a.order = rw (c.deref-subtask-items.ensures.value, c.deref-sequencing.ensures) at c.loop-subtask-test.true in
     let next = slice_index a.order i in
     let within = is_next q a c.requires.nodes.fits c.requires.arranged c.args.at c.args._finish i lt ss fs c.loop-subtask.invariant.0 in
     let start : c.start_of-start.result ≡ start_behind fs c.args.at (listed_before a.direct next) =
-    rw (c.deref.ensures.value, c.direct_before.ensures, c.deref-in-loop-subtask.ensures.value, c.deref-subtask-items.ensures.value) at c.start_of-start.ensures
+    rw (c.deref.ensures.value, c.direct_before.ensures, c.deref-in-loop-subtask.ensures.value, c.deref-subtask-items.ensures.value, c.deref-sequencing.ensures) at c.start_of-start.ensures
     in
     let child : c.index.result.now ≡ child_at a.children next =
-    (rw c.deref-subtask-items.ensures.value at c.index.ensures) ∙ same_or a.children next c.index.result.now (children.Action 0) within
+    (rw (c.deref-subtask-items.ensures.value, c.deref-sequencing.ensures) at c.index.ensures) ∙ same_or a.children next c.index.result.now (children.Action 0) within
     in (
-      rw (c.deref-subtask-items.ensures.value, start)
+      rw (c.deref-subtask-items.ensures.value, c.deref-sequencing.ensures, start)
           (more_part q a c.requires.nodes.fits c.requires.arranged c.args.at c.args._finish i lt ss fs c.loop-subtask.invariant.0 c.in-Some.finish
           (rw (c.in-Some.is, start, child) at c.in_ok-finish_of_child.ensures.finish)),
       c.in_ok-finish_of_child.ensures.memo,
@@ -78,5 +78,5 @@ pub returns-clause-laid : goal.returns-clause-laid
 returns-clause-laid g c =
     let q = g.N.Nodes.facts c.args.nodes.now in
     let a = arrangement_of c.args.candidate.now in
-    let all : length a.order ≤ c.loop-subtask.subtask-index = rw c.deref-subtask-items.ensures.value at c.loop-subtask-test.false in
+    let all : length a.order ≤ c.loop-subtask.subtask-index = rw (c.deref-subtask-items.ensures.value, c.deref-sequencing.ensures) at c.loop-subtask-test.false in
     whole_part q a c.requires.nodes.fits c.requires.arranged c.args.at c.args._finish c.loop-subtask.subtask-index c.loop-subtask.starts.items c.loop-subtask.finishes.items c.loop-subtask.invariant.0 all c.requires.over

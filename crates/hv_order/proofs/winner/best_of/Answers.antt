@@ -13,7 +13,7 @@ pub next_turn-requires-clause-within : goal.next_turn-requires-clause-within
 next_turn-requires-clause-within g c = λ b e. absurd (no_best b e)
 
 pub next_turn-requires-clause-earliest : goal.next_turn-requires-clause-earliest
-next_turn-requires-clause-earliest g c = from_start (g.T.Table.facts c.args.table.now) c.args.start
+next_turn-requires-clause-earliest g c = from_start (g.T.Table.facts c.args.table.now) c.args.start _
 
 pub returns-in-None : goal.returns-in-None
 returns-in-None g c =
@@ -23,7 +23,7 @@ returns-in-None g c =
     next all (nothing_tried q c.args.start all)
 
 pub advance-requires-clause-earliest : goal.advance-requires-clause-earliest
-advance-requires-clause-earliest g c = from_start (g.T.Table.facts c.args.table.now) c.args.start
+advance-requires-clause-earliest g c = from_start (g.T.Table.facts c.args.table.now) c.args.start _
 
 pub advance-requires-clause-frame : goal.advance-requires-clause-frame
 advance-requires-clause-frame g c =

@@ -1,4 +1,4 @@
-use Rattle.std.proofs.Common.{sym, subst, Ok, Err, IfOk}
+use Rattle.std.proofs.Common.{sym, ◌∙◌, subst, Ok, Err, IfOk}
 use Rattle.std.specs.Prelude.{Result}
 use Rattle.hv_world.specs.Worlds.{World}
 use Rattle.hv_plan.specs.BuiltTrees.{tree_view}
@@ -20,7 +20,7 @@ returns c =
     let q : Setting = setting (tree_view c.self.inside.tree.now) c.self.inside.trace.now c.self.inside.is_with in
     let known = c.self.invariant in
     let all : (w : World) → Type 0 = λ w. IfOk c.candidates_of.result (ListsAll w q.tree c.args.node) in
-    let here = subst all (sym known.world_is) c.candidates_of.ensures in
+    let here = subst all (known.matcher_is ∙ sym known.world_is) c.candidates_of.ensures in
     let P : Setting → Type 0 = λ q. IfOk c.candidates_of.result (λ l. AreAllOf (plan_facts q) c.args.node (still_listed l)) in
     subst P c.self.view_is
     (if_listed c.candidates_of.result (ListsAll q.plan.world q.tree c.args.node) (λ l. AreAllOf (plan_facts q) c.args.node (still_listed l)) (λ l lists. all_listed q known.is_setting c.args.node l lists) here)

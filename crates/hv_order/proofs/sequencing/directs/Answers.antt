@@ -4,7 +4,7 @@ use Rattle.std.proofs.Math.Seq.{get_or-append_seam}
 use Rattle.std.specs.Global.{Vec}
 use Rattle.hv_world.specs.Orders.{Written, AreDirect}
 use Rattle.hv_order.specs.inside.Arrangements.{lists_of, listed_before}
-use Rattle.hv_order.proofs.lister.directs.Goals as goal
+use Rattle.hv_order.proofs.sequencing.directs.Goals as goal
 
 lists_more : (vs : List (Vec ℕ)) (v : Vec ℕ) → lists_of (vs ++ v ∷ []) ≡ lists_of vs ++ v.items ∷ []
 lists_more [] v = refl

@@ -1,7 +1,7 @@
 use Rattle.std.proofs.Common.{◌≡◌, ℕ, ◌<◌, length}
 use Rattle.hv_world.specs.Orders.{AreDirect}
 use Rattle.hv_order.specs.inside.Arrangements.{lists_of, listed_before}
-use Rattle.hv_order.proofs.lister.directs.Given as goal
+use Rattle.hv_order.proofs.sequencing.directs.Given as goal
 
 -- the lists so far are of the first subtasks
 abbrev pub invariant-loop-subtask : goal.invariant-loop-subtask
