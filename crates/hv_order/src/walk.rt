@@ -1,5 +1,5 @@
 //! Where each node of a plan begins and is over in a certificate, found with parents first.
-ghost use Rattle.std.specs.Prelude.{◌≡◌, ◌<◌, ◌≤◌, ◌-◌, length, IfOk, Some, option_map};
+ghost use Rattle.std.specs.Prelude.{◌≡◌, ◌<◌, ◌≤◌, ◌-◌, length, IfOk, OnOk, Some, option_map};
 ghost use Rattle.hv_order.specs.Tables.{IsLeast};
 ghost use Rattle.hv_order.specs.inside.Children.{ChildFits, IsNodeBelow, AreNodesBelow};
 ghost use Rattle.hv_order.specs.inside.Arrangements.{arrangement_of};
@@ -7,7 +7,7 @@ ghost use Rattle.hv_order.specs.inside.Frames.{IsArranged};
 ghost use Rattle.hv_order.specs.inside.Memos.{AreKnown};
 ghost use Rattle.hv_order.specs.inside.Nodes.{AreNodes};
 ghost use Rattle.hv_order.specs.inside.Walks.{said_of, root_of, AreApartNodes, HaveOneParent, AreWalked, IsWalk};
-ghost use Rattle.hv_order.specs.inside.Begun.{CanBeOver, IsLaidOut, HasFinish, HaveFinishes, IsStandFrom, AreSet, IsVisited, IsVisit};
+ghost use Rattle.hv_order.specs.inside.Begun.{CanBeOver, IsNewLayout, IsLaidOut, HasFinish, HaveFinishes, IsStandFrom, AreSet, IsVisited, IsVisit};
 
 use crate::children::run_of_action;
 use crate::memo::Memo;
@@ -29,11 +29,25 @@ pub struct Stand {
     pub winner: Arranged,
 }
 
-/// Where each subtask of a candidate begins, and where it is over.
+/// Where each subtask of a candidate begins, and where it is over. One layout serves all nodes, one
+/// after another.
 #[derive(Drop)]
 pub struct Layout {
     pub starts: Vec<u32>,
     pub finishes: Vec<u32>,
+}
+
+impl Layout {
+    /// Begins anew, with so many subtasks.
+    pub fn renew(&mut self, count: usize) -> Result<(), Memory>
+        ensures { OnOk result (IsNewLayout count self.new) }
+    {
+        self.starts.clear();
+        self.starts.resize(count, 0)?;
+        self.finishes.clear();
+        self.finishes.resize(count, 0)?;
+        Ok(())
+    }
 }
 
 /// The least finish of a child for a start.
@@ -69,31 +83,34 @@ pub fn lay_out<N: Nodes>(
     candidate: &Arranged,
     at: u32,
     _finish: u32,
-) -> Result<Layout, Memory>
+    layout: &mut Layout,
+) -> Result<(), Memory>
     requires nodes { AreNodes (N.facts nodes.now) }
     requires memo { AreKnown (N.facts nodes.now) (N.size nodes.now) memo.old }
     requires arranged { IsArranged (N.facts nodes.now) (arrangement_of candidate.now) }
     requires below { AreNodesBelow (N.size nodes.now) candidate.now.children.items }
     requires over { CanBeOver (N.facts nodes.now) (arrangement_of candidate.now) at _finish }
-    ensures laid { IfOk result
-        (IsLaidOut (N.facts nodes.now) (arrangement_of candidate.now) at _finish) }
+    ensures laid { OnOk result
+        (IsLaidOut (N.facts nodes.now) (arrangement_of candidate.now) at _finish layout.new) }
     ensures memo { AreKnown (N.facts nodes.now) (N.size nodes.now) memo.new }
 {
-    let count = candidate.children.len();
-    let mut starts = vec![in alloc; 0; count]?;
-    let mut finishes = vec![in alloc; 0; count]?;
+    layout.renew(candidate.children.len())?;
     let sequencing: &Sequencing = &candidate.sequencing;
     for subtask in &sequencing.order {
-        let start = start_of(&finishes, direct_before(&sequencing.direct, *subtask), at);
+        let start = start_of(
+            &layout.finishes,
+            direct_before(&sequencing.direct, *subtask),
+            at,
+        );
         match finish_of_child(alloc, nodes, memo, candidate.children[*subtask], start)? {
             None => unreachable!(),
             Some(finish) => {
-                starts[*subtask] = start;
-                finishes[*subtask] = finish;
+                layout.starts[*subtask] = start;
+                layout.finishes[*subtask] = finish;
             }
         }
     }
-    Ok(Layout { starts, finishes })
+    Ok(())
 }
 
 /// Begins the nodes among some children, each where its subtask does.
@@ -153,6 +170,7 @@ pub fn place_node<N: Nodes>(
     nodes: &N,
     memo: &mut Memo,
     starts: &mut [Option<u32>],
+    layout: &mut Layout,
     node: u32,
     start: u32,
 ) -> Result<Stand, Memory>
@@ -167,7 +185,15 @@ pub fn place_node<N: Nodes>(
     ensures memo { AreKnown (N.facts nodes.now) (N.size nodes.now) memo.new }
 {
     let stand = stand_from(alloc, nodes, memo, node, start)?;
-    let layout = lay_out(alloc, nodes, memo, &stand.winner, stand.at, stand.finish)?;
+    lay_out(
+        alloc,
+        nodes,
+        memo,
+        &stand.winner,
+        stand.at,
+        stand.finish,
+        layout,
+    )?;
     begin_children(starts, &stand.winner.children, &layout.starts);
     Ok(stand)
 }
@@ -178,6 +204,7 @@ pub fn visit<N: Nodes>(
     nodes: &N,
     memo: &mut Memo,
     starts: &mut [Option<u32>],
+    layout: &mut Layout,
     node: u32,
 ) -> Result<Option<Stand>, Memory>
     requires nodes { AreNodes (N.facts nodes.now) }
@@ -192,7 +219,7 @@ pub fn visit<N: Nodes>(
 {
     match starts[node as usize] {
         None => Ok(None),
-        Some(start) => Ok(Some(place_node(alloc, nodes, memo, starts, node, start)?)),
+        Some(start) => Ok(Some(place_node(alloc, nodes, memo, starts, layout, node, start)?)),
     }
 }
 
@@ -227,8 +254,12 @@ pub fn visit_all<N: Nodes>(
     ensures memo { AreKnown (N.facts nodes.now) (N.size nodes.now) memo.new }
 {
     let mut stands = none_stands(alloc, count)?;
+    let mut layout = Layout {
+        starts: Vec::new(alloc),
+        finishes: Vec::new(alloc),
+    };
     for node in (0..count).rev() {
-        stands[node as usize] = visit(alloc, nodes, memo, starts, node)?;
+        stands[node as usize] = visit(alloc, nodes, memo, starts, &mut layout, node)?;
     }
     Ok(stands)
 }

@@ -33,6 +33,12 @@ pub record AreLaidOut (q : Facts) (c : Arrangement) (at f : ℕ) (starts finishe
       (i j : ℕ) → i < length c.children → j < length c.children → q.before c i j
       → slice_index finishes i ≤ slice_index starts j
 
+-- a layout of so many subtasks, none of which is laid out
+pub record IsNewLayout (count : ℕ) (l : Layout) : Type 0 where
+  pub starts : length l.starts.items ≡ count
+  pub finishes : length l.finishes.items ≡ count
+  pub zeros : (j : ℕ) → slice_index l.finishes.items j ≤ 0
+
 abbrev pub IsLaidOut : Facts → Arrangement → ℕ → ℕ → Layout → Type 0
 IsLaidOut q c at f l = AreLaidOut q c at f l.starts.items l.finishes.items
 

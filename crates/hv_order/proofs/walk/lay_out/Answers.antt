@@ -1,10 +1,9 @@
-use Rattle.std.proofs.Common.{rules, ◌≡◌, ◌<◌, ◌≤◌, ◌∙◌, length, replicate, arith}
+use Rattle.std.proofs.Common.{◌≡◌, ◌<◌, ◌≤◌, ◌∙◌, length, arith}
 use Rattle.std.specs.Prelude.{slice_index}
 use Rattle.hv_plan.specs.declared.tree.Child.TheVariants as children
 use Rattle.hv_order.specs.inside.Layouts.{start_behind}
 use Rattle.hv_order.specs.inside.Children.{child_at}
 use Rattle.hv_order.specs.inside.Arrangements.{arrangement_of, listed_before}
-use Rattle.hv_order.proofs.Framing.{zeros_under}
 use Rattle.hv_order.proofs.RunLemmas.{same_or}
 use Rattle.hv_order.proofs.LayingOut.{no_part, whole_part, is_next, start_small, some_finish, more_part}
 use Rattle.hv_order.proofs.walk.lay_out.Goals as goal
@@ -12,11 +11,11 @@ use Rattle.hv_order.proofs.walk.lay_out.Goals as goal
 pub loop-subtask-init : goal.loop-subtask-init
 loop-subtask-init g c =
     let q = g.N.Nodes.facts c.args.nodes.now in
-    let made : c.in_ok-finishes.finishes.items ≡ replicate c.len-count.result 0 = search rules in (
-      no_part q (arrangement_of c.args.candidate.now) c.args.at c.args._finish c.in_ok-starts.starts.items c.in_ok-finishes.finishes.items
-          (omega (arith, c.in_ok-starts.starts.ok.0, c.args.candidate.now.children.ok.0, c.in_ok-starts.ensures.len, c.len-count.ensures))
-          (omega (arith, c.in_ok-finishes.finishes.ok.0, c.args.candidate.now.children.ok.0, c.in_ok-finishes.ensures.len, c.len-count.ensures))
-          (λ j. rw made (zeros_under c.len-count.result j)),
+    let l = c.renew.new.self in
+    let new = c.in_ok-renew.ensures in (
+      no_part q (arrangement_of c.args.candidate.now) c.args.at c.args._finish l.starts.items l.finishes.items
+          (omega (arith, c.args.candidate.now.children.ok.0, new.starts, c.len.ensures))
+          (omega (arith, c.args.candidate.now.children.ok.0, new.finishes, c.len.ensures)) new.zeros,
       c.requires.memo,
     )
 
@@ -25,8 +24,8 @@ finish_of_child-requires-clause-start g c =
     let q = g.N.Nodes.facts c.args.nodes.now in
     let a = arrangement_of c.args.candidate.now in
     let i = c.loop-subtask.subtask-index in
-    let ss = c.loop-subtask.starts.items in
-    let fs = c.loop-subtask.finishes.items in
+    let ss = c.loop-subtask.layout.starts.items in
+    let fs = c.loop-subtask.layout.finishes.items in
     let lt : i < length a.order = rw (c.deref-subtask-items.ensures.value, c.deref-sequencing.ensures) at c.loop-subtask-test.true in
     let start : c.start_of-start.result ≡ start_behind fs c.args.at (listed_before a.direct (slice_index a.order i)) =
     rw (c.deref.ensures.value, c.direct_before.ensures, c.deref-in-loop-subtask.ensures.value, c.deref-subtask-items.ensures.value, c.deref-sequencing.ensures) at c.start_of-start.ensures
@@ -38,8 +37,8 @@ unreachable-requires g c =
     let q = g.N.Nodes.facts c.args.nodes.now in
     let a = arrangement_of c.args.candidate.now in
     let i = c.loop-subtask.subtask-index in
-    let ss = c.loop-subtask.starts.items in
-    let fs = c.loop-subtask.finishes.items in
+    let ss = c.loop-subtask.layout.starts.items in
+    let fs = c.loop-subtask.layout.finishes.items in
     let lt : i < length a.order = rw (c.deref-subtask-items.ensures.value, c.deref-sequencing.ensures) at c.loop-subtask-test.true in
     let next = slice_index a.order i in
     let within = is_next q a c.requires.nodes.fits c.requires.arranged c.args.at c.args._finish i lt ss fs c.loop-subtask.invariant.0 in
@@ -57,8 +56,8 @@ loop-subtask-preserved g c =
     let q = g.N.Nodes.facts c.args.nodes.now in
     let a = arrangement_of c.args.candidate.now in
     let i = c.loop-subtask.subtask-index in
-    let ss = c.loop-subtask.starts.items in
-    let fs = c.loop-subtask.finishes.items in
+    let ss = c.loop-subtask.layout.starts.items in
+    let fs = c.loop-subtask.layout.finishes.items in
     let lt : i < length a.order = rw (c.deref-subtask-items.ensures.value, c.deref-sequencing.ensures) at c.loop-subtask-test.true in
     let next = slice_index a.order i in
     let within = is_next q a c.requires.nodes.fits c.requires.arranged c.args.at c.args._finish i lt ss fs c.loop-subtask.invariant.0 in
@@ -79,4 +78,4 @@ returns-clause-laid g c =
     let q = g.N.Nodes.facts c.args.nodes.now in
     let a = arrangement_of c.args.candidate.now in
     let all : length a.order ≤ c.loop-subtask.subtask-index = rw (c.deref-subtask-items.ensures.value, c.deref-sequencing.ensures) at c.loop-subtask-test.false in
-    whole_part q a c.requires.nodes.fits c.requires.arranged c.args.at c.args._finish c.loop-subtask.subtask-index c.loop-subtask.starts.items c.loop-subtask.finishes.items c.loop-subtask.invariant.0 all c.requires.over
+    whole_part q a c.requires.nodes.fits c.requires.arranged c.args.at c.args._finish c.loop-subtask.subtask-index c.loop-subtask.layout.starts.items c.loop-subtask.layout.finishes.items c.loop-subtask.invariant.0 all c.requires.over
