@@ -14,7 +14,8 @@ use Rattle.hv_plan.specs.declared.cause.TreeFault.TheVariants as faults
 use Rattle.hv_plan.proofs.FirstLines.{either_side, none_missed, missed_next, IsTable, no_lines, table_next, none_repeated, repeat_next}
 use Rattle.hv_plan.proofs.ShapeWalks.{grows_none, grows_more, grows_by_one, grows_by_none, meets, met_fits, no_marks, walk_starts, walk_goes, walk_ends}
 use Rattle.hv_plan.proofs.ShapeTrees.{form_tree, root_within, kids_within}
-use Rattle.hv_plan.proofs.ShapeFaults.{none_below, none_so_far, the_cause, no_repeat, repeats_are, pairs_are, unknowns_are, all_known, all_marked, unmet_are}
+use Rattle.hv_plan.proofs.PlaceTables.{no_repeat}
+use Rattle.hv_plan.proofs.ShapeFaults.{none_below, none_so_far, the_cause, repeats_are, pairs_are, unknowns_are, all_known, all_marked, unmet_are}
 
 next_place : (P : ℕ → Type 0) (k : ℕ) → P (k + 1) → P (suc k)
 next_place P k h = let e : k + 1 ≡ suc k = omega arith in subst P e h

@@ -12,6 +12,7 @@ pub mod FirstLines
 pub mod ShapeWalks
 pub mod ShapeNumbers
 pub mod ShapePlaces
+pub mod PlaceTables
 pub mod ShapeTrees
 pub mod ShapeMade
 pub mod ShapeFaults

@@ -90,10 +90,6 @@ almost_first P R (Some l) a of_p of_r = (of_p l a.0, λ m r. by m r (either_side
     by m r (inl lt) = absurd (of_r m r (λ q. let le : l ≤ m = a.1 m q in omega (arith, le, lt)))
     by m r (inr le) = le
 
--- lists without a repeated id
-pub no_repeat : (xs lines : List ℕ) → IsFirst (IsRepeat xs lines (length xs)) None → Once xs
-no_repeat xs lines none = once_from xs (λ a b o w e. none (max (slice_index lines a) (slice_index lines b)) (record { one = a; other = b; before = o; within = w; same = e; later = refl }))
-
 -- what begins a line at a place
 pub record HeadAt (p : Plan) (k : ℕ) : Type 0 where
   pub head : Action
@@ -519,18 +515,3 @@ module _ (p : Plan) (root : List ℕ) (lists : List (List ℕ)) (met : List ℕ)
 
   pub unmet_are : (o : Option ℕ) → IsFirst (IsMissed (is_marked marks) (lines_of_heads p) (length marks)) o → IsFirst (Qualifies w p kinds.Unreached) o
   unmet_are o first = same_first (IsMissed (is_marked marks) (lines_of_heads p) (length marks)) (Qualifies w p kinds.Unreached) o first of_unmet (λ l q. to_unmet q)
-
--- of lists that are the same
-pub repeats_moved : (xs ys ls ms : List ℕ) (o : Option ℕ) → xs ≡ ys → ls ≡ ms → IsFirst (IsRepeat xs ls (length xs)) o → IsFirst (IsRepeat ys ms (length ys)) o
-repeats_moved xs ys ls ms o e f first =
-    let P : List ℕ → Type 0 = λ zs. IsFirst (IsRepeat zs ms (length zs)) o in
-    let Q : List ℕ → Type 0 = λ ns. IsFirst (IsRepeat xs ns (length xs)) o in
-    subst P e (subst Q f first)
-
-pub unknowns_moved : (ks js xs ys ls ms : List ℕ) (o : Option ℕ) → ks ≡ js → xs ≡ ys → ls ≡ ms → IsFirst (IsMissed (is_known ks xs) ls (length xs)) o
-    → IsFirst (IsMissed (is_known js ys) ms (length ys)) o
-unknowns_moved ks js xs ys ls ms o d e f first =
-    let P : List ℕ → Type 0 = λ zs. IsFirst (IsMissed (is_known js zs) ms (length zs)) o in
-    let Q : List ℕ → Type 0 = λ ns. IsFirst (IsMissed (is_known js xs) ns (length xs)) o in
-    let R : List ℕ → Type 0 = λ is. IsFirst (IsMissed (is_known is xs) ls (length xs)) o in
-    subst P e (subst Q f (subst R d first))

@@ -1,5 +1,5 @@
 -- The places of ids.
-use Rattle.std.proofs.Common.{◌≡◌, ◌+◌, ◌<◌, ◌≤◌, ◌⊎◌, inl, inr, ℕ, Bool, true, false, List, [], ◌∷◌, ◌++◌, Some, None, cond, nat_eq, nat_lt, position, refl, sym, ap, ◌∙◌, subst, arith, length, take, get_or, Contains, slice_index, eqb-true, eq-eqb, ltb-false, not, suc, true≢false}
+use Rattle.std.proofs.Common.{◌≡◌, ◌+◌, ◌<◌, ◌≤◌, ◌⊎◌, inl, inr, ℕ, Bool, true, false, List, [], ◌∷◌, ◌++◌, Some, None, cond, nat_eq, nat_lt, position, refl, sym, ap, ◌∙◌, subst, arith, length, take, get_or, Contains, slice_index, eqb-true, eq-eqb, lt-ltb, ltb-true, ltb-false, not, suc, true≢false}
 use Rattle.std.specs.Cmp.{nat_eq_equiv}
 use Rattle.std.specs.List.{list_any, position_or_len}
 use Rattle.std.proofs.lemmas.List.{take_more, length-take-le, get_or-take}
@@ -9,7 +9,7 @@ use Rattle.indexmap.specs.IndexSet.{insert_key}
 use Rattle.hv_text.specs.Lists.{Once}
 use Rattle.hv_plan.specs.inside.Shaping.{place_of, is_known}
 use Rattle.hv_plan.proofs.FirstLines.{either_side}
-use Rattle.hv_plan.proofs.ShapeWalks.{stands_at, once_at}
+use Rattle.hv_plan.proofs.ShapeWalks.{stands_at, contained_at, once_at}
 
 -- an id that is among others, and one that is not
 pub known_is : (ks ids : List ℕ) (k : ℕ) → is_known ks ids k ≡ true → Contains ks (slice_index ids k)
@@ -75,6 +75,27 @@ place_within is i h = by (either_side (place_of is i) (length is)) where
 
 pub id_at_place : (is : List ℕ) (i : ℕ) → Contains is i → slice_index is (place_of is i) ≡ i
 id_at_place is i h = sym (eqb-true i (slice_index is (place_of is i)) (passes_at_first (nat_eq i) is 0 (place_within is i h)))
+
+-- the place of an id that is not there
+pub absent_place : (is : List ℕ) (i : ℕ) → (Contains is i → ⊥) → place_of is i ≡ length is
+absent_place is i n = by (either_side (place_of is i) (length is)) where
+  by : (place_of is i < length is) ⊎ (length is ≤ place_of is i) → place_of is i ≡ length is
+  by (inl w) = absurd (n (contained_at is (place_of is i) i w (sym (eqb-true i (slice_index is (place_of is i)) (passes_at_first (nat_eq i) is 0 w)))))
+  by (inr ge) = let le : place_of is i ≤ length is = first_within (nat_eq i) is in omega (arith, le, ge)
+
+nat_lt_self : (n : ℕ) → nat_lt n n ≡ false
+nat_lt_self n = by (nat_lt n n) refl where
+  by : (b : Bool) → nat_lt n n ≡ b → nat_lt n n ≡ false
+  by true e = absurd (let lt : n < n = ltb-true n n e in omega (arith, lt))
+  by false e = e
+
+-- the place of an id is within where the id is there
+pub within_known : (is : List ℕ) (i : ℕ) → nat_lt (place_of is i) (length is) ≡ list_any (nat_eq i) is
+within_known is i = by (list_any (nat_eq i) is) refl
+  where
+    by : (b : Bool) → list_any (nat_eq i) is ≡ b → nat_lt (place_of is i) (length is) ≡ list_any (nat_eq i) is
+    by true e = lt-ltb (place_of is i) (length is) (place_within is i (Contains-from_any {eq = nat_eq} (λ x y q. eqb-true x y q) i is e)) ∙ sym e
+    by false e = ap (λ n. nat_lt n (length is)) (absent_place is i (λ h. true≢false (sym (list_any-from_Contains nat_eq_equiv i is h) ∙ e))) ∙ nat_lt_self (length is) ∙ sym e
 
 pub place_is : (is : List ℕ) (k i : ℕ) → Once is → k < length is → slice_index is k ≡ i → place_of is i ≡ k
 place_is is k i once w e = position_or_len_is (nat_eq i) is k 0 (omega (arith, w)) (λ j o. before j o) (λ _. eq-eqb i (slice_index is k) (sym e))

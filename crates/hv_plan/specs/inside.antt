@@ -10,3 +10,4 @@ pub mod Tallies
 pub mod ChildFaults
 pub mod NodeViews
 pub mod IdTables
+pub mod Tables

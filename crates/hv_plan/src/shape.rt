@@ -1,45 +1,38 @@
 //! The shape of a plan: what stands below what, and the number of each node.
 //!
-//! Each step drops the lists and the table that it made, before the next makes its own. So the children
-//! are looked through for one that stands twice before the table of ids is made; what was found is
-//! reported in its turn.
+//! The ids that begin lines stand in one table, in which each child is looked up once. Each step drops
+//! the lists and the table that it made, before the next makes its own.
 
 mod begins;
 mod nodes;
 mod numbers;
 mod places;
 mod repeats;
+mod table;
 mod walk;
 
-ghost use Rattle.std.specs.Prelude.{◌≡◌, ℕ, ◌+◌, None, map, length, Contains, IfOk, IfErr, OnOk};
+ghost use Rattle.std.specs.Prelude.{◌≡◌, ◌+◌, None, length, IfOk, IfErr, OnOk};
 ghost use Rattle.hv_text.specs.Lists.{Once};
 ghost use Rattle.hv_plan.specs.Causes.{number};
 ghost use Rattle.hv_plan.specs.LineViews.{plan_view};
 ghost use Rattle.hv_plan.specs.Shapes.{ids, all_children, FormTree};
 ghost use Rattle.hv_plan.specs.inside.ShapeViews.{shape_view, IsShape};
 ghost use Rattle.hv_plan.specs.inside.ShapeCauses.{NoneBelow, IsFirstFor, IsFormFault};
-ghost use Rattle.hv_plan.specs.inside.Shaping.{line_unless, IsFirst, IsMissed, IsRepeat, HasMetAll, is_marked, lines_of_heads, lines_of_children, place_of, places_of_lines, kids};
+ghost use Rattle.hv_plan.specs.inside.Shaping.{line_unless, IsFirst, IsMissed, HasMetAll, is_marked, lines_of_heads, kids};
+ghost use Rattle.hv_plan.specs.inside.Tables.{line_places, root_places, AreKnown, HasPlaces};
 ghost use Rattle.hv_plan.specs.declared.cause.CauseKind.TheVariants as kinds;
 
 use crate::cause::{Cause, CauseKind, TreeFault};
-use crate::id_table::Seeded;
 use crate::plan::PlanText;
 use begins::{line_count, line_numbers};
-use hv_text::{Lists, Memory};
-use indexmap::IndexSet;
+use hv_text::Memory;
 pub(crate) use nodes::Shape;
 use numbers::{node_children, number_met, short};
-use places::{child_places, line_table, places_of, unknown_child};
-use repeats::{earlier, repeated_id, second_parent};
+use places::{Below, child_places, places_below};
+use repeats::{Tabled, earlier, line_table};
 use std::alloc::Global;
+use table::Table;
 use walk::walk_from;
-
-/// The children of the root line and those of each decomposition line, as places.
-#[derive(Drop)]
-struct Below {
-    root: Vec<usize>,
-    lists: Lists<usize>,
-}
 
 /// The shape of a plan.
 ///
@@ -51,9 +44,9 @@ pub(crate) fn shape_of(alloc: Global, plan: &PlanText<'_>) -> Result<Shape, Tree
     ensures ok { IfOk result (λ s. FormTree (plan_view plan.now) × IsShape (plan_view plan.now) (shape_view s)) }
     ensures err { IfErr result (IsFormFault (plan_view plan.now)) }
 {
-    let second = second_parent(alloc, plan)?;
-    check_ids(alloc, plan)?;
-    let shape = shape_of_ids(alloc, plan, second)?;
+    let table = known_lines(alloc, plan)?;
+    let below = known_places(alloc, plan, table)?;
+    let shape = shape_below(alloc, plan, &below)?;
     Ok(shape)
 }
 
@@ -71,91 +64,40 @@ fn none_at(plan: &PlanText<'_>, kind: CauseKind, line: Option<u32>) -> Result<()
     }
 }
 
-// Whether each id begins one line.
-fn check_ids(alloc: Global, plan: &PlanText<'_>) -> Result<(), TreeFault>
+// The table of the ids that begin lines, where each begins one.
+fn known_lines(alloc: Global, plan: &PlanText<'_>) -> Result<Table, TreeFault>
+    ensures table { IfOk result (λ t. HasPlaces t (ids (plan_view plan.now))) }
     ensures none { OnOk result (NoneBelow (plan_view plan.now) 51) }
     ensures once { OnOk result (Once (ids (plan_view plan.now))) }
     ensures err { IfErr result (IsFormFault (plan_view plan.now)) }
 {
-    let repeat = repeated_id(alloc, plan)?;
+    let Tabled { table, repeat } = line_table(alloc, plan)?;
     none_at(plan, CauseKind::RepeatedId, repeat)?;
-    Ok(())
-}
-
-// The shape of a plan in which no id begins two lines, where the line is known that names a child a
-// second time.
-fn shape_of_ids(alloc: Global, plan: &PlanText<'_>, second: Option<u32>) -> Result<Shape, TreeFault>
-    requires once { Once (ids (plan_view plan.now)) }
-    requires second { IsFirst (IsRepeat (all_children (plan_view plan.now)) (lines_of_children (plan_view plan.now)) (length (all_children (plan_view plan.now)))) second }
-    requires none { NoneBelow (plan_view plan.now) 51 }
-    ensures ok { IfOk result (λ s. FormTree (plan_view plan.now) × IsShape (plan_view plan.now) (shape_view s)) }
-    ensures err { IfErr result (IsFormFault (plan_view plan.now)) }
-{
-    let below = known_places(alloc, plan, second)?;
-    let shape = shape_below(alloc, plan, &below)?;
-    Ok(shape)
+    Ok(table)
 }
 
 // The children of each line as places, where each child begins a line and is a child once.
-fn known_places(alloc: Global, plan: &PlanText<'_>, second: Option<u32>) -> Result<Below, TreeFault>
-    requires once { Once (ids (plan_view plan.now)) }
-    requires second { IsFirst (IsRepeat (all_children (plan_view plan.now)) (lines_of_children (plan_view plan.now)) (length (all_children (plan_view plan.now)))) second }
+fn known_places(alloc: Global, plan: &PlanText<'_>, table: Table) -> Result<Below, TreeFault>
+    requires table { HasPlaces table (ids (plan_view plan.now)) }
     requires none { NoneBelow (plan_view plan.now) 51 }
-    ensures root { IfOk result (λ b. b.root.items ≡ map (place_of (ids (plan_view plan.now))) (plan_view plan.now).root.ids) }
-    ensures lists { IfOk result (λ b. b.lists ≡ places_of_lines (ids (plan_view plan.now)) (plan_view plan.now)) }
-    ensures known { OnOk result ((i : ℕ) → Contains (all_children (plan_view plan.now)) i → Contains (ids (plan_view plan.now)) i) }
+    ensures root { IfOk result (λ b. b.root.items ≡ root_places (plan_view plan.now)) }
+    ensures lists { IfOk result (λ b. b.lists ≡ line_places (plan_view plan.now)) }
+    ensures known { OnOk result (AreKnown (plan_view plan.now)) }
     ensures single { OnOk result (Once (all_children (plan_view plan.now))) }
     ensures none { OnOk result (NoneBelow (plan_view plan.now) 53) }
     ensures err { IfErr result (IsFormFault (plan_view plan.now)) }
 {
-    let table = line_table(alloc, plan)?;
-    check_children(alloc, plan, &table, second)?;
-    let below = places_below(alloc, plan, &table)?;
+    let places = child_places(alloc, plan, table)?;
+    let below = places_below(alloc, plan, &places)?;
     Ok(below)
-}
-
-// Whether each child begins a line and is a child once, where the line is known that names a child a
-// second time.
-fn check_children(
-    alloc: Global,
-    plan: &PlanText<'_>,
-    table: &IndexSet<u64, Seeded>,
-    second: Option<u32>,
-) -> Result<(), TreeFault>
-    requires table { table.now.keys ≡ ids (plan_view plan.now) }
-    requires second { IsFirst (IsRepeat (all_children (plan_view plan.now)) (lines_of_children (plan_view plan.now)) (length (all_children (plan_view plan.now)))) second }
-    requires none { NoneBelow (plan_view plan.now) 51 }
-    ensures known { OnOk result ((i : ℕ) → Contains (all_children (plan_view plan.now)) i → Contains (ids (plan_view plan.now)) i) }
-    ensures single { OnOk result (Once (all_children (plan_view plan.now))) }
-    ensures none { OnOk result (NoneBelow (plan_view plan.now) 53) }
-    ensures err { IfErr result (IsFormFault (plan_view plan.now)) }
-{
-    let unknown = unknown_child(alloc, plan, table)?;
-    none_at(plan, CauseKind::UnknownChild, unknown)?;
-    none_at(plan, CauseKind::TwoParents, second)?;
-    Ok(())
-}
-
-// The children of each line as places.
-fn places_below(
-    alloc: Global,
-    plan: &PlanText<'_>,
-    table: &IndexSet<u64, Seeded>,
-) -> Result<Below, Memory>
-    ensures root { IfOk result (λ b. b.root.items ≡ map (place_of table.now.keys) (plan_view plan.now).root.ids) }
-    ensures lists { IfOk result (λ b. b.lists ≡ places_of_lines table.now.keys (plan_view plan.now)) }
-{
-    let root = places_of(alloc, table, &plan.root)?;
-    let lists = child_places(alloc, table, &plan.decompositions)?;
-    Ok(Below { root, lists })
 }
 
 // The shape of a plan in which each child begins one line and is a child once.
 fn shape_below(alloc: Global, plan: &PlanText<'_>, below: &Below) -> Result<Shape, TreeFault>
-    requires root { below.now.root.items ≡ map (place_of (ids (plan_view plan.now))) (plan_view plan.now).root.ids }
-    requires lists { below.now.lists ≡ places_of_lines (ids (plan_view plan.now)) (plan_view plan.now) }
+    requires root { below.now.root.items ≡ root_places (plan_view plan.now) }
+    requires lists { below.now.lists ≡ line_places (plan_view plan.now) }
     requires once { Once (ids (plan_view plan.now)) }
-    requires known { (i : ℕ) → Contains (all_children (plan_view plan.now)) i → Contains (ids (plan_view plan.now)) i }
+    requires known { AreKnown (plan_view plan.now) }
     requires single { Once (all_children (plan_view plan.now)) }
     requires none { NoneBelow (plan_view plan.now) 53 }
     ensures ok { IfOk result (λ s. FormTree (plan_view plan.now) × IsShape (plan_view plan.now) (shape_view s)) }
@@ -168,10 +110,10 @@ fn shape_below(alloc: Global, plan: &PlanText<'_>, below: &Below) -> Result<Shap
 
 // What a walk has met that has met all lines.
 fn walk_below(alloc: Global, plan: &PlanText<'_>, below: &Below) -> Result<Vec<usize>, TreeFault>
-    requires root { below.now.root.items ≡ map (place_of (ids (plan_view plan.now))) (plan_view plan.now).root.ids }
-    requires lists { below.now.lists ≡ places_of_lines (ids (plan_view plan.now)) (plan_view plan.now) }
+    requires root { below.now.root.items ≡ root_places (plan_view plan.now) }
+    requires lists { below.now.lists ≡ line_places (plan_view plan.now) }
     requires once { Once (ids (plan_view plan.now)) }
-    requires known { (i : ℕ) → Contains (all_children (plan_view plan.now)) i → Contains (ids (plan_view plan.now)) i }
+    requires known { AreKnown (plan_view plan.now) }
     requires none { NoneBelow (plan_view plan.now) 53 }
     ensures met { IfOk result (λ v. HasMetAll below.now.root.items (kids below.now.lists (length (plan_view plan.now).actions)) (length (ids (plan_view plan.now))) v.items) }
     ensures err { IfErr result (IsFormFault (plan_view plan.now)) }
@@ -218,10 +160,10 @@ fn numbered(
     met: Vec<usize>,
     below: &Below,
 ) -> Result<Shape, Memory>
-    requires root { below.now.root.items ≡ map (place_of (ids (plan_view plan.now))) (plan_view plan.now).root.ids }
-    requires lists { below.now.lists ≡ places_of_lines (ids (plan_view plan.now)) (plan_view plan.now) }
+    requires root { below.now.root.items ≡ root_places (plan_view plan.now) }
+    requires lists { below.now.lists ≡ line_places (plan_view plan.now) }
     requires once { Once (ids (plan_view plan.now)) }
-    requires known { (i : ℕ) → Contains (all_children (plan_view plan.now)) i → Contains (ids (plan_view plan.now)) i }
+    requires known { AreKnown (plan_view plan.now) }
     requires single { Once (all_children (plan_view plan.now)) }
     requires met { HasMetAll below.now.root.items (kids below.now.lists (length (plan_view plan.now).actions)) (length (ids (plan_view plan.now))) met.items }
     ensures { IfOk result (λ s. FormTree (plan_view plan.now) × IsShape (plan_view plan.now) (shape_view s)) }

@@ -25,7 +25,7 @@ pub(super) fn line_count(plan: &PlanText<'_>) -> usize
 }
 
 /// The ids of action lines and then of decomposition lines.
-pub(super) fn line_ids(alloc: Global, plan: &PlanText<'_>) -> Result<Vec<u64>, Memory>
+fn line_ids(alloc: Global, plan: &PlanText<'_>) -> Result<Vec<u64>, Memory>
     ensures { IfOk result (λ v. v.items ≡ ids (plan_view plan.now)) }
 {
     let mut ids = Vec::with_capacity(alloc, line_count(plan))?;

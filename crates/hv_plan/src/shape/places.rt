@@ -1,98 +1,142 @@
-//! The places of ids.
+//! The places of children.
 
-ghost use Rattle.std.specs.Prelude.{◌≡◌, ◌++◌, ◌∷◌, [], map, length, IfOk, OnOk};
+ghost use Rattle.std.specs.Prelude.{◌≡◌, map, length, unwrap_or, IfOk, IfErr, OnOk};
 ghost use Rattle.hv_text.specs.Lists.{Once};
-ghost use Rattle.hv_plan.specs.LineViews.{decompositions_view, plan_view};
+ghost use Rattle.hv_plan.specs.LineViews.{plan_view};
 ghost use Rattle.hv_plan.specs.Shapes.{ids, all_children};
-ghost use Rattle.hv_plan.specs.inside.Shaping.{place_of, is_known, IsFirst, IsMissed, lines_of_children};
+ghost use Rattle.hv_plan.specs.inside.Shaping.{lines_of_children};
+ghost use Rattle.hv_plan.specs.inside.ShapeCauses.{NoneBelow, IsFormFault};
+ghost use Rattle.hv_plan.specs.inside.Tables.{child_places, line_places, place_by, places_of_rest, root_places, AreKnown, HasPlaces, IsUnplaced};
 
-use super::begins::{children, line_ids};
-use super::repeats::earlier;
-use crate::id_table::{Seeded, place_in, table_of_ids};
-use crate::plan::{DecompositionLines, PlanText};
+use super::begins::{children, line_count};
+use super::repeats::{earlier, second_parent};
+use super::table::Table;
+use super::{line_unless, none_at};
+use crate::cause::{CauseKind, TreeFault};
+use crate::plan::PlanText;
 use hv_text::{Lists, Memory};
-use indexmap::IndexSet;
 use std::alloc::Global;
 
-/// The table of the ids that begin lines, each with the place of its line.
-pub(super) fn line_table(
-    alloc: Global,
-    plan: &PlanText<'_>,
-) -> Result<IndexSet<u64, Seeded>, Memory>
-    requires { Once (ids (plan_view plan.now)) }
-    ensures { IfOk result (λ t. t.keys ≡ ids (plan_view plan.now)) }
-{
-    let ids = line_ids(alloc, plan)?;
-    let table = table_of_ids(alloc, &ids)?;
-    Ok(table)
+/// The children of the root line and those of each decomposition line, as places.
+#[derive(Drop)]
+pub(super) struct Below {
+    pub(super) root: Vec<usize>,
+    pub(super) lists: Lists<usize>,
 }
 
-// The first line of those on which an id stands that is not in the table.
-fn unknown_id(table: &IndexSet<u64, Seeded>, ids: &[u64], lines: &[u32]) -> Option<u32>
-    requires { length ids.now ≡ length lines.now }
-    ensures { IsFirst (IsMissed (is_known table.now.keys ids.now) lines.now (length ids.now)) result }
+// The place of an id; a number of lines where it begins none of them.
+fn place_of(table: &Table, count: usize, id: u64) -> usize
+    ensures { result ≡ unwrap_or (place_by table.now id) count }
 {
-    let mut found = None;
-    for place in 0..ids.len() {
-        if !table.contains(&ids[place]) {
-            found = earlier(found, Some(lines[place]));
-        }
+    match table.get(id) {
+        Some(place) => place as usize,
+        None => count,
     }
-    found
 }
 
-/// The first line that names a child which is not in the table.
-pub(super) fn unknown_child(
-    alloc: Global,
-    plan: &PlanText<'_>,
-    table: &IndexSet<u64, Seeded>,
-) -> Result<Option<u32>, Memory>
-    ensures { IfOk result (IsFirst (IsMissed (is_known table.now.keys (all_children (plan_view plan.now))) (lines_of_children (plan_view plan.now)) (length (all_children (plan_view plan.now))))) }
-{
-    let children = children(alloc, plan)?;
-    Ok(unknown_id(table, &children.ids, &children.lines))
-}
-
-/// The places of ids.
-pub(super) fn places_of(
-    alloc: Global,
-    table: &IndexSet<u64, Seeded>,
-    ids: &[u64],
-) -> Result<Vec<usize>, Memory>
-    ensures { IfOk result (λ v. v.items ≡ map (place_of table.now.keys) ids.now) }
+// The places of ids; a number of lines for those that begin none of them.
+fn places_of(alloc: Global, table: &Table, count: usize, ids: &[u64]) -> Result<Vec<usize>, Memory>
+    ensures { IfOk result (λ v. v.items ≡ map (λ i. unwrap_or (place_by table.now i) count) ids.now) }
 {
     let mut places = Vec::with_capacity(alloc, ids.len())?;
     for id in ids {
-        places.push(place_in(table, *id))?;
+        places.push(place_of(table, count, *id))?;
     }
     Ok(places)
 }
 
-// Pushes the places of the children of a line.
-fn push_places(
-    alloc: Global,
-    table: &IndexSet<u64, Seeded>,
-    lists: &mut Lists<usize>,
-    children: &[u64],
-) -> Result<(), Memory>
-    ensures { OnOk result (lists.new ≡ lists.old ++ map (place_of table.now.keys) children.now ∷ []) }
+// The first line that names a child which begins none of so many lines.
+fn unknown_child(count: usize, places: &[usize], lines: &[u32]) -> Option<u32>
+    requires { length places.now ≡ length lines.now }
+    ensures { IsUnplaced count places.now lines.now result }
 {
-    let places = places_of(alloc, table, children)?;
-    lists.push(&places)?;
+    let mut unknown = None;
+    for k in 0..places.len() {
+        unknown = earlier(unknown, line_unless(places[k] < count, lines[k]));
+    }
+    unknown
+}
+
+// Whether each child begins a line and is a child once, where these are the places of all children and
+// the lines that name them.
+fn check_places(
+    alloc: Global,
+    plan: &PlanText<'_>,
+    places: &[usize],
+    lines: &[u32],
+) -> Result<(), TreeFault>
+    requires places { places.now ≡ child_places (plan_view plan.now) }
+    requires lines { lines.now ≡ lines_of_children (plan_view plan.now) }
+    requires none { NoneBelow (plan_view plan.now) 51 }
+    ensures known { OnOk result (AreKnown (plan_view plan.now)) }
+    ensures single { OnOk result (Once (all_children (plan_view plan.now))) }
+    ensures none { OnOk result (NoneBelow (plan_view plan.now) 53) }
+    ensures err { IfErr result (IsFormFault (plan_view plan.now)) }
+{
+    let count = line_count(plan);
+    let unknown = unknown_child(count, places, lines);
+    none_at(plan, CauseKind::UnknownChild, unknown)?;
+    let second = second_parent(alloc, count, places, lines)?;
+    none_at(plan, CauseKind::TwoParents, second)?;
     Ok(())
 }
 
-/// The places of the children of each line.
+/// The places of all children, where each begins a line and is a child once.
+///
+/// # Errors
+///
+/// `UnknownChild`, else `TwoParents`, each at the first line at fault; `Memory` where a growth was refused.
 pub(super) fn child_places(
     alloc: Global,
-    table: &IndexSet<u64, Seeded>,
-    lines: &DecompositionLines<'_>,
-) -> Result<Lists<usize>, Memory>
-    ensures { IfOk result (λ ls. ls ≡ map (λ d. map (place_of table.now.keys) d.children) (decompositions_view lines.now)) }
+    plan: &PlanText<'_>,
+    table: Table,
+) -> Result<Vec<usize>, TreeFault>
+    requires table { HasPlaces table (ids (plan_view plan.now)) }
+    requires none { NoneBelow (plan_view plan.now) 51 }
+    ensures places { IfOk result (λ v. v.items ≡ child_places (plan_view plan.now)) }
+    ensures known { OnOk result (AreKnown (plan_view plan.now)) }
+    ensures single { OnOk result (Once (all_children (plan_view plan.now))) }
+    ensures none { OnOk result (NoneBelow (plan_view plan.now) 53) }
+    ensures err { IfErr result (IsFormFault (plan_view plan.now)) }
 {
-    let mut lists = Lists::with_capacity(alloc, lines.len())?;
-    for line in lines.iter() {
-        push_places(alloc, table, &mut lists, line.children)?;
+    let children = children(alloc, plan)?;
+    let places = places_of(alloc, &table, line_count(plan), &children.ids)?;
+    check_places(alloc, plan, &places, &children.lines)?;
+    Ok(places)
+}
+
+// The places of the children of each decomposition line, from those of all of them.
+fn lists_of(alloc: Global, plan: &PlanText<'_>, places: &[usize]) -> Result<Lists<usize>, Memory>
+    requires { places.now ≡ places_of_rest (plan_view plan.now) }
+    ensures { IfOk result (λ ls. ls ≡ line_places (plan_view plan.now)) }
+{
+    let mut lists = Lists::with_capacity(alloc, plan.decompositions.len())?;
+    let mut left = places;
+    for line in plan.decompositions.iter() {
+        let (own, others) = left.split_at(line.children.len());
+        lists.push(own)?;
+        left = others;
     }
     Ok(lists)
+}
+
+/// The places of the children of each line, from those of all children.
+///
+/// # Errors
+///
+/// `Memory` where a growth was refused.
+pub(super) fn places_below(
+    alloc: Global,
+    plan: &PlanText<'_>,
+    places: &[usize],
+) -> Result<Below, Memory>
+    requires { places.now ≡ child_places (plan_view plan.now) }
+    ensures root { IfOk result (λ b. b.root.items ≡ root_places (plan_view plan.now)) }
+    ensures lists { IfOk result (λ b. b.lists ≡ line_places (plan_view plan.now)) }
+{
+    let (own, others) = places.split_at(plan.root.len());
+    let mut root = Vec::with_capacity(alloc, own.len())?;
+    root.extend_from_slice(own)?;
+    let lists = lists_of(alloc, plan, others)?;
+    Ok(Below { root, lists })
 }

@@ -1,18 +1,25 @@
 //! Ids that stand twice.
 
-ghost use Rattle.std.specs.Prelude.{◌≡◌, ℕ, Some, nat_eq, length, IfOk, OnOk};
-ghost use Rattle.std.specs.Map.{update};
-ghost use Rattle.indexmap.specs.IndexMap as table;
+ghost use Rattle.std.specs.Prelude.{◌≡◌, ◌+◌, ◌<◌, ℕ, None, length, get_or, slice_index, IfOk, OnOk};
 ghost use Rattle.hv_plan.specs.LineViews.{plan_view};
-ghost use Rattle.hv_plan.specs.Shapes.{ids, all_children};
-ghost use Rattle.hv_plan.specs.inside.Shaping.{first_of, again_of, earlier, IsFirst, IsRepeat, lines_of_heads, lines_of_children};
+ghost use Rattle.hv_plan.specs.Shapes.{ids};
+ghost use Rattle.hv_plan.specs.inside.Shaping.{again_of, earlier};
+ghost use Rattle.hv_plan.specs.inside.Tables.{line_again, ArePlaces, HasFirst, HasPlaces, IsLineRepeat, IsSecond, TakesIn};
 
-use super::begins::{begins, children};
-use crate::id_table::Seeded;
+use super::begins::begins;
+use super::numbers::short;
+use super::table::Table;
 use crate::plan::PlanText;
 use hv_text::Memory;
-use indexmap::IndexMap;
 use std::alloc::Global;
+
+/// The places of ids, and where an id stands on two places, the later of their lines; of all these lines
+/// the first.
+#[derive(Drop)]
+pub(super) struct Tabled {
+    pub(super) table: Table,
+    pub(super) repeat: Option<u32>,
+}
 
 /// The earlier of two lines, where there are lines.
 pub(super) fn earlier(one: Option<u32>, other: Option<u32>) -> Option<u32>
@@ -27,52 +34,89 @@ pub(super) fn earlier(one: Option<u32>, other: Option<u32>) -> Option<u32>
     }
 }
 
-// Takes in a line with an id: the later of this line and the first one with the id so far, where there is one.
-fn note(
-    first_lines: &mut IndexMap<u64, u32, Seeded>,
-    id: u64,
-    line: u32,
-) -> Result<Option<u32>, Memory>
-    ensures first { OnOk result ((q : ℕ) → table.get nat_eq first_lines.new q ≡ update nat_eq (table.get nat_eq first_lines.old) id (Some (first_of line (table.get nat_eq first_lines.old id))) q) }
-    ensures again { IfOk result (λ o. o ≡ again_of line (table.get nat_eq first_lines.old id)) }
+// Takes in the id at a place: the later of its line and the first one with the id so far, where there is one.
+fn note(table: &mut Table, ids: &[u64], lines: &[u32], place: usize) -> Result<Option<u32>, Memory>
+    requires ids { place < length ids.now }
+    requires lines { place < length lines.now }
+    requires places { ArePlaces table.old ids.now place }
+    ensures places { OnOk result (ArePlaces table.new ids.now (place + 1)) }
+    ensures first { OnOk result (TakesIn table.old table.new ids.now lines.now place) }
+    ensures again { IfOk result (λ o. o ≡ line_again table.old ids.now lines.now place) }
 {
-    let Some(first) = first_lines.get(&id).copied() else {
-        first_lines.insert(id, line)?;
+    let id = ids[place];
+    let Some(first) = table.put(id, short(place)?)? else {
         return Ok(None);
     };
-    first_lines.insert(id, first.min(line))?;
-    Ok(Some(first.max(line)))
-}
-
-// Where an id stands on two places: the later of their lines; of all these lines the first. An id
-// stands at its place's line.
-fn first_repeat(alloc: Global, ids: &[u64], lines: &[u32]) -> Result<Option<u32>, Memory>
-    requires { length ids.now ≡ length lines.now }
-    ensures { IfOk result (IsFirst (IsRepeat ids.now lines.now (length ids.now))) }
-{
-    let mut first_lines = IndexMap::with_capacity_and_hasher(alloc, ids.len(), Seeded::of(ids))?;
-    let mut found = None;
-    for place in 0..ids.len() {
-        let again = note(&mut first_lines, ids[place], lines[place])?;
-        found = earlier(found, again);
+    let line = lines[place];
+    let first_line = lines[first as usize];
+    if first_line < line {
+        table.put(id, first)?;
     }
-    Ok(found)
+    Ok(Some(first_line.max(line)))
 }
 
-/// Where an id begins two lines: the later of them; of all these lines the first.
-pub(super) fn repeated_id(alloc: Global, plan: &PlanText<'_>) -> Result<Option<u32>, Memory>
-    ensures { IfOk result (IsFirst (IsRepeat (ids (plan_view plan.now)) (lines_of_heads (plan_view plan.now)) (length (ids (plan_view plan.now))))) }
+// The table of ids, each with the first of its lines. An id stands at its place's line.
+fn table_of(alloc: Global, ids: &[u64], lines: &[u32]) -> Result<Tabled, Memory>
+    requires { length ids.now ≡ length lines.now }
+    ensures repeat { IfOk result (λ t. IsSecond ids.now lines.now t.repeat) }
+    ensures places { IfOk result (λ t. t.repeat ≡ None → HasPlaces t.table ids.now) }
+{
+    let mut table = Table::for_ids(alloc, ids)?;
+    let mut repeat = None;
+    for place in 0..ids.len() {
+        let again = note(&mut table, ids, lines, place)?;
+        repeat = earlier(repeat, again);
+    }
+    Ok(Tabled { table, repeat })
+}
+
+/// The table of the ids that begin lines; and where an id begins two lines, the later of them, of all
+/// these lines the first.
+pub(super) fn line_table(alloc: Global, plan: &PlanText<'_>) -> Result<Tabled, Memory>
+    ensures repeat { IfOk result (λ t. IsLineRepeat (plan_view plan.now) t.repeat) }
+    ensures places { IfOk result (λ t. t.repeat ≡ None → HasPlaces t.table (ids (plan_view plan.now))) }
 {
     let begins = begins(alloc, plan)?;
-    let repeat = first_repeat(alloc, &begins.ids, &begins.lines)?;
-    Ok(repeat)
+    let tabled = table_of(alloc, &begins.ids, &begins.lines)?;
+    Ok(tabled)
 }
 
-/// Where an id is a child twice: the later of the lines that name it; of all these lines the first.
-pub(super) fn second_parent(alloc: Global, plan: &PlanText<'_>) -> Result<Option<u32>, Memory>
-    ensures { IfOk result (IsFirst (IsRepeat (all_children (plan_view plan.now)) (lines_of_children (plan_view plan.now)) (length (all_children (plan_view plan.now))))) }
+// Takes in a place with the line that names it: the later of this line and the first one with the place
+// so far, where there is one.
+fn note_parent(first_lines: &mut [Option<u32>], place: usize, line: u32) -> Option<u32>
+    requires { place < length first_lines.old }
+    ensures size { length first_lines.new ≡ length first_lines.old }
+    ensures first { HasFirst first_lines.old first_lines.new place line }
+    ensures again { result ≡ again_of line (get_or first_lines.old place None) }
 {
-    let children = children(alloc, plan)?;
-    let repeat = first_repeat(alloc, &children.ids, &children.lines)?;
-    Ok(repeat)
+    match first_lines[place] {
+        None => {
+            first_lines[place] = Some(line);
+            None
+        }
+        Some(first) => {
+            first_lines[place] = Some(line.min(first));
+            Some(first.max(line))
+        }
+    }
+}
+
+/// Where a place stands twice: the later of the lines that name it; of all these lines the first.
+pub(super) fn second_parent(
+    alloc: Global,
+    count: usize,
+    places: &[usize],
+    lines: &[u32],
+) -> Result<Option<u32>, Memory>
+    requires lines { length places.now ≡ length lines.now }
+    requires within { (k : ℕ) → k < length places.now → slice_index places.now k < count }
+    ensures { IfOk result (IsSecond places.now lines.now) }
+{
+    let mut first_lines = vec![in alloc; None; count]?;
+    let mut second = None;
+    for k in 0..places.len() {
+        let again = note_parent(&mut first_lines, places[k], lines[k]);
+        second = earlier(second, again);
+    }
+    Ok(second)
 }

@@ -1,17 +1,19 @@
-use Rattle.std.proofs.Common.{ap, refl, sym, ◌∙◌, length}
-use Rattle.hv_plan.specs.LineViews.{plan_view}
-use Rattle.hv_plan.specs.Shapes.{all_children, parents}
-use Rattle.hv_plan.specs.inside.Shaping.{lines_of_children}
-use Rattle.hv_plan.proofs.ShapeFaults.{as_many_lines, unknowns_moved}
+use Rattle.std.proofs.Common.{◌≡◌, ◌+◌, ℕ, Option, ap, subst, sym, ◌∙◌, arith, length}
+use Rattle.hv_plan.specs.inside.Shaping.{IsFirst, IsMissed, earlier}
+use Rattle.hv_plan.specs.inside.Tables.{is_within}
+use Rattle.hv_plan.proofs.FirstLines.{missed_next}
 use Rattle.hv_plan.proofs.shape.places.unknown_child.Goals as goal
 
-pub unknown_id-requires : goal.unknown_id-requires
-unknown_id-requires c =
-    ap length (c.deref.ensures.value ∙ c.in_ok-children.ensures.ids) ∙ as_many_lines (parents (plan_view c.args.plan.now))
-    ∙ sym (ap length (c.deref-2.ensures.value ∙ c.in_ok-children.ensures.lines))
+pub loop-k-preserved : goal.loop-k-preserved
+loop-k-preserved c =
+    let k = c.loop-k.k in
+    let P : Option ℕ → Type 0 = IsFirst (IsMissed (is_within c.args.count c.args.places.now) c.args.lines.now (k + 1)) in (
+      omega (arith, c.loop-k-test.true),
+      subst P (sym (c.earlier-unknown.ensures ∙ ap (earlier c.loop-k.unknown) c.line_unless.ensures)) (missed_next (is_within c.args.count c.args.places.now) c.args.lines.now k c.loop-k.unknown c.loop-k.invariant.1),
+    )
 
 pub returns : goal.returns
 returns c =
-    let p = plan_view c.args.plan.now in
-    unknowns_moved c.args.table.now.keys c.args.table.now.keys c.deref.result.now (all_children p) c.deref-2.result.now (lines_of_children p) c.unknown_id.result refl
-    (c.deref.ensures.value ∙ c.in_ok-children.ensures.ids) (c.deref-2.ensures.value ∙ c.in_ok-children.ensures.lines) c.unknown_id.ensures
+    let P : ℕ → Type 0 = λ k. IsFirst (IsMissed (is_within c.args.count c.args.places.now) c.args.lines.now k) c.loop-k.unknown in
+    let done : c.loop-k.k ≡ length c.args.places.now = omega (arith, c.loop-k-test.false, c.loop-k.invariant.0) in
+    subst P done c.loop-k.invariant.1
