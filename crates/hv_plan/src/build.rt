@@ -25,8 +25,8 @@ use crate::cause::{Cause, TreeFault, earlier};
 use crate::fit::all::{Fits, fit};
 use crate::plan::PlanText;
 use crate::shape::{Shape, shape_of};
+use crate::subtasks::Tally;
 use crate::subtasks::names::{Said, Sizes};
-use crate::subtasks::names_fault;
 use crate::tree::{Child, Tree};
 use hv_text::Memory;
 use hv_world::{Method, MethodId, World};
@@ -44,24 +44,22 @@ impl Methods<'_, '_> {
     // The cause for which the children of a line are not as the subtasks of a method.
     fn method_cause(
         &self,
-        alloc: Global,
-        counts: &mut [usize],
+        tally: &mut Tally,
         line: u32,
         method: &Method<'_>,
         children: &[Child],
     ) -> Result<Option<Cause>, Memory>
-        requires size { length counts.old ≡ self.now.sizes.tasks + self.now.sizes.actions }
-        requires empty { (n : ℕ) → get_or counts.old n 0 ≡ 0 }
+        requires size { length tally.old.counts.items ≡ self.now.sizes.tasks + self.now.sizes.actions }
+        requires empty { (n : ℕ) → get_or tally.old.counts.items n 0 ≡ 0 }
         requires known { AreNumbered self.now.sizes.tasks self.now.sizes.actions (said_name self.now.said) (map child_view children.now) }
-        ensures size { length counts.new ≡ length counts.old }
-        ensures empty { OnOk result ((n : ℕ) → get_or counts.new n 0 ≡ 0) }
+        ensures size { length tally.new.counts.items ≡ length tally.old.counts.items }
+        ensures empty { OnOk result ((n : ℕ) → get_or tally.new.counts.items n 0 ≡ 0) }
         ensures cause { IfOk result (λ o. (ns : List TaskName) → every (said_name self.now.said) (map child_view children.now) ≡ Some ns → IsMethodCause ns (names_of (method_view method.now).network.subtasks) line o) }
     {
-        let Some(names) = self.said.names(alloc, children)? else {
+        if !self.said.put_names(&mut tally.names, children)? {
             return Ok(None);
-        };
-        let subtasks = method.network().subtasks();
-        match names_fault(alloc, self.sizes, counts, &names, subtasks)? {
+        }
+        match tally.names_fault(self.sizes, method.network().subtasks())? {
             Some(kind) => Ok(Some(Cause { kind, line })),
             None => Ok(None),
         }
@@ -70,21 +68,20 @@ impl Methods<'_, '_> {
     // The cause for which the children of a decomposition line are not as the subtasks of its method.
     fn line_cause(
         &self,
-        alloc: Global,
-        counts: &mut [usize],
+        tally: &mut Tally,
         line: u32,
         method: MethodId,
         children: &[Child],
     ) -> Result<Option<Cause>, Memory>
-        requires size { length counts.old ≡ self.now.sizes.tasks + self.now.sizes.actions }
-        requires empty { (n : ℕ) → get_or counts.old n 0 ≡ 0 }
+        requires size { length tally.old.counts.items ≡ self.now.sizes.tasks + self.now.sizes.actions }
+        requires empty { (n : ℕ) → get_or tally.old.counts.items n 0 ≡ 0 }
         requires known { AreNumbered self.now.sizes.tasks self.now.sizes.actions (said_name self.now.said) (map child_view children.now) }
-        ensures size { length counts.new ≡ length counts.old }
-        ensures empty { OnOk result ((n : ℕ) → get_or counts.new n 0 ≡ 0) }
+        ensures size { length tally.new.counts.items ≡ length tally.old.counts.items }
+        ensures empty { OnOk result ((n : ℕ) → get_or tally.new.counts.items n 0 ≡ 0) }
         ensures cause { IfOk result (λ o. (m : value.Method) (ns : List TaskName) → slice_get (world_view self.now.world.now).methods method.0 ≡ Some m → every (said_name self.now.said) (map child_view children.now) ≡ Some ns → IsMethodCause ns (names_of m.network.subtasks) line o) }
     {
         match self.world.method(method) {
-            Some(method) => self.method_cause(alloc, counts, line, method, children),
+            Some(method) => self.method_cause(tally, line, method, children),
             None => Ok(None),
         }
     }
@@ -93,8 +90,7 @@ impl Methods<'_, '_> {
     // of its method.
     fn place_cause(
         &self,
-        alloc: Global,
-        counts: &mut [usize],
+        tally: &mut Tally,
         plan: &PlanText<'_>,
         shape: &Shape,
         place: usize,
@@ -104,10 +100,10 @@ impl Methods<'_, '_> {
         requires shape { IsShape (plan_view plan.now) (shape_view shape.now) }
         requires said { IsSaid (world_view self.now.world.now) (plan_view plan.now) (shape_view shape.now) self.now.said }
         requires sizes { AreSizes (world_view self.now.world.now) self.now.sizes.tasks self.now.sizes.actions }
-        requires size { length counts.old ≡ self.now.sizes.tasks + self.now.sizes.actions }
-        requires empty { (n : ℕ) → get_or counts.old n 0 ≡ 0 }
-        ensures size { length counts.new ≡ length counts.old }
-        ensures empty { OnOk result ((n : ℕ) → get_or counts.new n 0 ≡ 0) }
+        requires size { length tally.old.counts.items ≡ self.now.sizes.tasks + self.now.sizes.actions }
+        requires empty { (n : ℕ) → get_or tally.old.counts.items n 0 ≡ 0 }
+        ensures size { length tally.new.counts.items ≡ length tally.old.counts.items }
+        ensures empty { OnOk result ((n : ℕ) → get_or tally.new.counts.items n 0 ≡ 0) }
         ensures cause { IfOk result (λ o. (d : Decomposition) → slice_get (plan_view plan.now).decompositions place ≡ Some d → IsEarliest (ChildFaultIn (world_view self.now.world.now) (plan_view plan.now) (line_parent d ∷ [])) o) }
     {
         let line = plan.decompositions.at(place).line;
@@ -115,15 +111,14 @@ impl Methods<'_, '_> {
             return Ok(None);
         };
         let children = shape.children.at(shape.numbers[place] as usize);
-        self.line_cause(alloc, counts, line, said.method, children)
+        self.line_cause(tally, line, said.method, children)
     }
 
     // The cause that is reported of those for which the children of a decomposition line are not as
     // the subtasks of its method.
     fn lines_cause(
         &self,
-        alloc: Global,
-        counts: &mut [usize],
+        tally: &mut Tally,
         plan: &PlanText<'_>,
         shape: &Shape,
     ) -> Result<Option<Cause>, Memory>
@@ -131,28 +126,17 @@ impl Methods<'_, '_> {
         requires shape { IsShape (plan_view plan.now) (shape_view shape.now) }
         requires said { IsSaid (world_view self.now.world.now) (plan_view plan.now) (shape_view shape.now) self.now.said }
         requires sizes { AreSizes (world_view self.now.world.now) self.now.sizes.tasks self.now.sizes.actions }
-        requires size { length counts.old ≡ self.now.sizes.tasks + self.now.sizes.actions }
-        requires empty { (n : ℕ) → get_or counts.old n 0 ≡ 0 }
+        requires size { length tally.old.counts.items ≡ self.now.sizes.tasks + self.now.sizes.actions }
+        requires empty { (n : ℕ) → get_or tally.old.counts.items n 0 ≡ 0 }
         ensures { IfOk result (λ o. IsEarliest (ChildFaultIn (world_view self.now.world.now) (plan_view plan.now) (map line_parent (plan_view plan.now).decompositions)) o) }
     {
         let mut cause = None;
         for place in 0..plan.decompositions.len() {
-            let found = self.place_cause(alloc, counts, plan, shape, place)?;
+            let found = self.place_cause(tally, plan, shape, place)?;
             cause = earlier(cause, found);
         }
         Ok(cause)
     }
-}
-
-// As many zeros.
-fn zeros(alloc: Global, count: usize) -> Result<Vec<usize>, Memory>
-    ensures { IfOk result (λ v. (length v.items ≡ count) × ((n : ℕ) → get_or v.items n 0 ≡ 0)) }
-{
-    let mut counts = Vec::new(alloc);
-    for _ in 0..count {
-        counts.push(0)?;
-    }
-    Ok(counts)
 }
 
 // The cause that is reported of those for which the children of a line are not as the subtasks of
@@ -169,11 +153,11 @@ fn children_cause(
     requires sizes { AreSizes (world_view methods.now.world.now) methods.now.sizes.tasks methods.now.sizes.actions }
     ensures { IfOk result (λ o. IsEarliest (ChildFaultIn (world_view methods.now.world.now) (plan_view plan.now) (parents (plan_view plan.now))) o) }
 {
-    let mut counts = zeros(alloc, methods.sizes.tasks + methods.sizes.actions)?;
+    let mut tally = Tally::new(alloc, methods.sizes)?;
     let children = shape.children.at(shape.root as usize);
     let top = methods.world.top();
-    let root = methods.method_cause(alloc, &mut counts, plan.root_line, top, children)?;
-    let lines = methods.lines_cause(alloc, &mut counts, plan, shape)?;
+    let root = methods.method_cause(&mut tally, plan.root_line, top, children)?;
+    let lines = methods.lines_cause(&mut tally, plan, shape)?;
     Ok(earlier(root, lines))
 }
 

@@ -22,7 +22,6 @@ use crate::cause::CauseKind;
 use crate::plan::{ActionLine, DecompositionLine};
 use hv_text::{Memory, Name};
 use hv_world::{ActionId, Method, MethodId, ObjectId, TaskId, TaskName, TypeId, World};
-use std::alloc::Global;
 
 /// Why nothing is found of a line.
 #[derive(Clone, Copy)]
@@ -59,15 +58,16 @@ pub(crate) struct Grounded {
     pub(crate) objects: Vec<ObjectId>,
 }
 
-// The objects of names; None where one of the names is no object.
+// The objects of names, in a list that had others; None where one of the names is no object.
 fn objects_named<'s>(
-    alloc: Global,
+    room: Vec<ObjectId>,
     world: &World<'s>,
     names: &[Name<'s>],
 ) -> Result<Option<Vec<ObjectId>>, Memory>
     ensures { IfOk result (λ o. option_map (λ os. map object_number os.items) o ≡ every (place_in (world_view world.now).objects) (map text_of names.now)) }
 {
-    let mut objects = Vec::with_capacity(alloc, names.len())?;
+    let mut objects = room;
+    objects.clear();
     for name in names {
         let Some(object) = world.object_named(*name) else {
             return Ok(None);
@@ -109,7 +109,7 @@ fn objects_fault(world: &World<'_>, name: TaskName, objects: &[ObjectId]) -> Opt
 
 // The objects of the arguments of a task or an action, or what keeps them from being as its parameters.
 fn fit_arguments<'s>(
-    alloc: Global,
+    room: Vec<ObjectId>,
     world: &World<'s>,
     name: TaskName,
     arguments: &[Name<'s>],
@@ -118,7 +118,7 @@ fn fit_arguments<'s>(
         (λ os. AreArguments (world_view world.now) (name_view name) (map text_of arguments.now) (map object_number os.items))
         (IsLineFault (IsArgumentFault (world_view world.now) (name_view name) (map text_of arguments.now))) }
 {
-    let Some(objects) = objects_named(alloc, world, arguments)? else {
+    let Some(objects) = objects_named(room, world, arguments)? else {
         return Err(LineFault::Cause(CauseKind::UnknownObject));
     };
     match objects_fault(world, name, &objects) {
@@ -127,14 +127,14 @@ fn fit_arguments<'s>(
     }
 }
 
-/// The action of an action line.
+/// The action of an action line, with the objects in a list that had others.
 ///
 /// # Errors
 ///
 /// The cause of the smallest number for which the line is at fault by itself; `Memory` where a
 /// growth was refused.
 pub(crate) fn fit_action<'s>(
-    alloc: Global,
+    room: Vec<ObjectId>,
     world: &World<'s>,
     line: ActionLine<'_, 's>,
 ) -> Result<Grounded, LineFault>
@@ -145,7 +145,7 @@ pub(crate) fn fit_action<'s>(
     let Some(name) = world.task_named(line.name) else {
         return Err(LineFault::Cause(CauseKind::UnknownTask));
     };
-    let objects = fit_arguments(alloc, world, name, line.arguments)?;
+    let objects = fit_arguments(room, world, name, line.arguments)?;
     match name {
         TaskName::Primitive(action) => Ok(Grounded { action, objects }),
         TaskName::Compound(_) => Err(LineFault::Cause(CauseKind::NotPrimitive)),
@@ -175,14 +175,14 @@ fn is_for(world: &World<'_>, method: MethodId, task: TaskId) -> bool
     }
 }
 
-/// What a decomposition line says.
+/// What a decomposition line says, with the objects in a list that had others.
 ///
 /// # Errors
 ///
 /// The cause of the smallest number for which the line is at fault by itself; `Memory` where a
 /// growth was refused.
 pub(crate) fn fit_line<'s>(
-    alloc: Global,
+    room: Vec<ObjectId>,
     world: &World<'s>,
     line: DecompositionLine<'_, 's>,
 ) -> Result<Decomposed, LineFault>
@@ -196,7 +196,7 @@ pub(crate) fn fit_line<'s>(
     let Some(method) = world.method_named(line.method) else {
         return Err(LineFault::Cause(CauseKind::UnknownMethod));
     };
-    let objects = fit_arguments(alloc, world, name, line.arguments)?;
+    let objects = fit_arguments(room, world, name, line.arguments)?;
     match name {
         TaskName::Compound(task) => {
             if is_for(world, method, task) {

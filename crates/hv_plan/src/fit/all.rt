@@ -16,7 +16,7 @@ use crate::fit::lines::DecomposedLines;
 use crate::fit::{Decomposed, Grounded, LineFault, fit_action, fit_line};
 use crate::plan::{ActionLines, DecompositionLines, PlanText};
 use hv_text::Memory;
-use hv_world::{GroundActions, World};
+use hv_world::{GroundActions, ObjectId, World};
 use std::alloc::Global;
 
 /// What the lines of a plan say: the action of each action line, and what each decomposition line says.
@@ -40,32 +40,41 @@ struct FittedLines {
     cause: Option<Cause>,
 }
 
-// Notes what an action line says, or the cause where it comes before the one that was found.
+// Notes what an action line says, or the cause where it comes before the one that was found. The list of
+// its objects is given back, to be used again.
 fn note_action(
+    alloc: Global,
     actions: &mut GroundActions,
     cause: &mut Option<Cause>,
     fit: Result<Grounded, LineFault>,
     line: u32,
-) -> Result<(), Memory>
+) -> Result<Vec<ObjectId>, Memory>
     ensures told { OnOk result (IsTold fit) }
     ensures actions { OnOk result (ground_actions_view actions.new ≡ ground_actions_view actions.old ++ map grounded_view (kept fit)) }
     ensures cause { OnOk result (cause.new ≡ earlier cause.old (cause_at fit line)) }
 {
     match fit {
-        Ok(ground) => actions.push(ground.action, &ground.objects)?,
-        Err(LineFault::Cause(kind)) => *cause = earlier(*cause, Some(Cause { kind, line })),
-        Err(LineFault::Memory) => return Err(Memory),
+        Ok(ground) => {
+            actions.push(ground.action, &ground.objects)?;
+            Ok(ground.objects)
+        }
+        Err(LineFault::Cause(kind)) => {
+            *cause = earlier(*cause, Some(Cause { kind, line }));
+            Ok(Vec::new(alloc))
+        }
+        Err(LineFault::Memory) => Err(Memory),
     }
-    Ok(())
 }
 
-// Notes what a decomposition line says, or the cause where it comes before the one that was found.
+// Notes what a decomposition line says, or the cause where it comes before the one that was found. The
+// list of its objects is given back, to be used again.
 fn note_line(
+    alloc: Global,
     lines: &mut DecomposedLines,
     cause: &mut Option<Cause>,
     fit: Result<Decomposed, LineFault>,
     line: u32,
-) -> Result<(), Memory>
+) -> Result<Vec<ObjectId>, Memory>
     requires { AreTidy lines.old }
     ensures told { OnOk result (IsTold fit) }
     ensures lines { OnOk result (decomposed_lines lines.new ≡ decomposed_lines lines.old ++ map decomposed_view (kept fit)) }
@@ -73,11 +82,16 @@ fn note_line(
     ensures cause { OnOk result (cause.new ≡ earlier cause.old (cause_at fit line)) }
 {
     match fit {
-        Ok(item) => lines.push(item)?,
-        Err(LineFault::Cause(kind)) => *cause = earlier(*cause, Some(Cause { kind, line })),
-        Err(LineFault::Memory) => return Err(Memory),
+        Ok(item) => {
+            lines.push(&item)?;
+            Ok(item.objects)
+        }
+        Err(LineFault::Cause(kind)) => {
+            *cause = earlier(*cause, Some(Cause { kind, line }));
+            Ok(Vec::new(alloc))
+        }
+        Err(LineFault::Memory) => Err(Memory),
     }
-    Ok(())
 }
 
 // What action lines say.
@@ -90,9 +104,10 @@ fn fit_actions<'s>(
 {
     let mut actions = GroundActions::with_capacity(alloc, lines.len())?;
     let mut cause = None;
+    let mut room = Vec::new(alloc);
     for line in lines.iter() {
-        let fit = fit_action(alloc, world, line);
-        note_action(&mut actions, &mut cause, fit, line.line)?;
+        let fit = fit_action(room, world, line);
+        room = note_action(alloc, &mut actions, &mut cause, fit, line.line)?;
     }
     Ok(FittedActions { actions, cause })
 }
@@ -107,9 +122,10 @@ fn fit_lines<'s>(
 {
     let mut lines = DecomposedLines::with_capacity(alloc, decompositions.len())?;
     let mut cause = None;
+    let mut room = Vec::new(alloc);
     for line in decompositions.iter() {
-        let fit = fit_line(alloc, world, line);
-        note_line(&mut lines, &mut cause, fit, line.line)?;
+        let fit = fit_line(room, world, line);
+        room = note_line(alloc, &mut lines, &mut cause, fit, line.line)?;
     }
     Ok(FittedLines { lines, cause })
 }

@@ -99,26 +99,26 @@ fn item(actions: usize, numbers: &[u32], place: usize) -> Result<Child, Memory>
     }
 }
 
-// What stands at places.
-fn items(
-    alloc: Global,
+// Puts what stands at places in place of what a list has.
+fn put_items(
+    items: &mut Vec<Child>,
     actions: usize,
     numbers: &[u32],
     places: &[usize],
-) -> Result<Vec<Child>, Memory>
+) -> Result<(), Memory>
     requires { (c : ℕ) → Contains places.now c → c < actions + length numbers.now }
-    ensures { IfOk result (λ v. map child_view v.items ≡ items_at actions numbers.now places.now) }
+    ensures { OnOk result (map child_view items.new.items ≡ items_at actions numbers.now places.now) }
 {
-    let mut items = Vec::with_capacity(alloc, places.len())?;
+    items.clear();
     for place in places {
         items.push(item(actions, numbers, *place)?)?;
     }
-    Ok(items)
+    Ok(())
 }
 
-// Pushes what stands at places.
+// Pushes what stands at places, by a list of items that is used again for each call.
 fn push_items(
-    alloc: Global,
+    items: &mut Vec<Child>,
     actions: usize,
     numbers: &[u32],
     children: &mut Lists<Child>,
@@ -127,8 +127,8 @@ fn push_items(
     requires { (c : ℕ) → Contains places.now c → c < actions + length numbers.now }
     ensures { OnOk result (map (map child_view) children.new ≡ map (map child_view) children.old ++ items_at actions numbers.now places.now ∷ []) }
 {
-    let items = items(alloc, actions, numbers, places)?;
-    children.push(&items)?;
+    put_items(items, actions, numbers, places)?;
+    children.push(items)?;
     Ok(())
 }
 
@@ -145,15 +145,16 @@ pub(super) fn node_children(
     ensures { IfOk result (λ ls. map (map child_view) ls ≡ children_by_number actions numbering.now.lines.items numbering.now.numbers.items root.now lists.now) }
 {
     let mut children = Lists::with_capacity(alloc, numbering.lines.len().saturating_add(1))?;
+    let mut items = Vec::new(alloc);
     for line in &numbering.lines {
         push_items(
-            alloc,
+            &mut items,
             actions,
             &numbering.numbers,
             &mut children,
             lists.at(*line as usize),
         )?;
     }
-    push_items(alloc, actions, &numbering.numbers, &mut children, root)?;
+    push_items(&mut items, actions, &numbering.numbers, &mut children, root)?;
     Ok(children)
 }

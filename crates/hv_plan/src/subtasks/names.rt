@@ -1,6 +1,6 @@
 //! The names of children and of subtasks, and a number for each.
 
-ghost use Rattle.std.specs.Prelude.{◌≡◌, ◌+◌, ◌<◌, ◌^◌, length, map, option_map, IfOk, IfSome};
+ghost use Rattle.std.specs.Prelude.{◌≡◌, ◌+◌, ◌<◌, ◌^◌, None, Some, length, map, option_map, if◌then◌else◌, IfOk, IfSome};
 ghost use Rattle.hv_world.specs.Bindings.{ground_actions_view};
 ghost use Rattle.hv_world.specs.Views.{name_view, subtask_view};
 ghost use Rattle.hv_world.specs.WorldViews.{world_view};
@@ -15,7 +15,6 @@ use crate::fit::lines::DecomposedLines;
 use crate::tree::Child;
 use hv_text::Memory;
 use hv_world::{GroundActions, Subtask, TaskName, World};
-use std::alloc::Global;
 
 /// How many tasks and actions a world has. Each has a number: the tasks come first.
 #[derive(Clone, Copy)]
@@ -71,40 +70,48 @@ impl Sizes {
     }
 }
 
-/// The numbers of names; None where one of them has none.
-pub(crate) fn numbers_of(
-    alloc: Global,
+/// Puts the numbers of names in place of what a list has; false where one of them has none.
+///
+/// # Errors
+///
+/// `Memory` where a growth was refused.
+pub(crate) fn put_numbers(
+    numbers: &mut Vec<usize>,
     sizes: Sizes,
     names: &[TaskName],
-) -> Result<Option<Vec<usize>>, Memory>
-    ensures { IfOk result (λ o. option_map (λ v. v.items) o ≡ every (number_in sizes.tasks sizes.actions) (map name_view names.now)) }
+) -> Result<bool, Memory>
+    ensures { IfOk result (λ b. every (number_in sizes.tasks sizes.actions) (map name_view names.now) ≡ (if b then Some numbers.new.items else None)) }
 {
-    let mut numbers = Vec::new(alloc);
+    numbers.clear();
     for name in names {
         let Some(number) = sizes.number(*name) else {
-            return Ok(None);
+            return Ok(false);
         };
         numbers.push(number)?;
     }
-    Ok(Some(numbers))
+    Ok(true)
 }
 
-/// The numbers of the names of subtasks; None where one of them has none.
-pub(crate) fn numbers_of_subtasks(
-    alloc: Global,
+/// Puts the numbers of the names of subtasks in place of what a list has; false where one of them has none.
+///
+/// # Errors
+///
+/// `Memory` where a growth was refused.
+pub(crate) fn put_numbers_of_subtasks(
+    numbers: &mut Vec<usize>,
     sizes: Sizes,
     subtasks: &[Subtask],
-) -> Result<Option<Vec<usize>>, Memory>
-    ensures { IfOk result (λ o. option_map (λ v. v.items) o ≡ every (number_in sizes.tasks sizes.actions) (names_of (map subtask_view subtasks.now))) }
+) -> Result<bool, Memory>
+    ensures { IfOk result (λ b. every (number_in sizes.tasks sizes.actions) (names_of (map subtask_view subtasks.now)) ≡ (if b then Some numbers.new.items else None)) }
 {
-    let mut numbers = Vec::new(alloc);
+    numbers.clear();
     for subtask in subtasks {
         let Some(number) = sizes.number(subtask.name) else {
-            return Ok(None);
+            return Ok(false);
         };
         numbers.push(number)?;
     }
-    Ok(Some(numbers))
+    Ok(true)
 }
 
 impl Said<'_> {
@@ -130,21 +137,25 @@ impl Said<'_> {
         }
     }
 
-    /// The names of children; None where one of them has none.
-    pub(crate) fn names(
+    /// Puts the names of children in place of what a list has; false where one of them has none.
+    ///
+    /// # Errors
+    ///
+    /// `Memory` where a growth was refused.
+    pub(crate) fn put_names(
         &self,
-        alloc: Global,
+        names: &mut Vec<TaskName>,
         children: &[Child],
-    ) -> Result<Option<Vec<TaskName>>, Memory>
-        ensures { IfOk result (λ o. option_map (λ v. map name_view v.items) o ≡ every (item_name (ground_actions_view self.now.actions.now) (decomposed_lines self.now.lines.now) self.now.places.now) (map child_view children.now)) }
+    ) -> Result<bool, Memory>
+        ensures { IfOk result (λ b. every (item_name (ground_actions_view self.now.actions.now) (decomposed_lines self.now.lines.now) self.now.places.now) (map child_view children.now) ≡ (if b then Some (map name_view names.new.items) else None)) }
     {
-        let mut names = Vec::new(alloc);
+        names.clear();
         for child in children {
             let Some(name) = self.name(*child) else {
-                return Ok(None);
+                return Ok(false);
             };
             names.push(name)?;
         }
-        Ok(Some(names))
+        Ok(true)
     }
 }

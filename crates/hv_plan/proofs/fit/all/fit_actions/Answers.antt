@@ -22,7 +22,7 @@ loop-line-preserved c =
     let w = world_view c.args.world.now in
     fitted_item w action_entry (IsActionOf w) (λ a g says k f. action_has_no_fault w a g.action g.objects says k f) grounded_view
     (actions_view c.args.lines.now) _ _ _ (ground_actions_view c.loop-line.actions) (ground_actions_view c.note_action.new.actions) c.loop-line.cause c.note_action.new.cause c.fit_action-fit.result
-    c.in-Some.ensures.steps c.loop-line.invariant c.fit_action-fit.ensures c.in_ok-note_action.ensures.told c.in_ok-note_action.ensures.actions c.in_ok-note_action.ensures.cause
+    c.in-Some.ensures.steps c.loop-line.invariant c.fit_action-fit.ensures c.in_ok-room.ensures.told c.in_ok-room.ensures.actions c.in_ok-room.ensures.cause
 
 pub returns : goal.returns
 returns c =

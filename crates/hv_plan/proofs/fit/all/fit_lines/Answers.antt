@@ -20,11 +20,11 @@ loop-line-init c =
 
 pub loop-line-preserved : goal.loop-line-preserved
 loop-line-preserved c = (
-  c.in_ok-note_line.ensures.tidy,
+  c.in_ok-room.ensures.tidy,
   (let w = world_view c.args.world.now in
       fitted_item w line_entry (IsDecomposed w) (λ e x says k f. decomposed_has_no_fault w e x says k f) decomposed_view (decompositions_view c.args.decompositions.now) _ _ _
       (decomposed_lines c.loop-line.lines) (decomposed_lines c.note_line.new.lines) c.loop-line.cause c.note_line.new.cause c.fit_line-fit.result
-      c.in-Some.ensures.steps c.loop-line.invariant.1 c.fit_line-fit.ensures c.in_ok-note_line.ensures.told c.in_ok-note_line.ensures.lines c.in_ok-note_line.ensures.cause),
+      c.in-Some.ensures.steps c.loop-line.invariant.1 c.fit_line-fit.ensures c.in_ok-room.ensures.told c.in_ok-room.ensures.lines c.in_ok-room.ensures.cause),
 )
 
 pub returns : goal.returns

@@ -9,4 +9,4 @@ returns-clause-lines c =
     let ls = c.args.self.now in
     let listed = rw c.deref.ensures.value at c.in_ok-push.ensures.lists in
     (λ i. with_lists headed (c.in_ok-push-2.ensures.items i) (listed i))
-    ∙ with_more headed ls.heads.items ls.objects _ c.args.line.objects.items c.requires.as_many
+    ∙ with_more headed ls.heads.items ls.objects _ c.args.line.now.objects.items c.requires.as_many

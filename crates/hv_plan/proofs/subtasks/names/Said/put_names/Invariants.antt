@@ -4,7 +4,7 @@ use Rattle.hv_world.specs.Views.{name_view}
 use Rattle.hv_plan.specs.inside.FitViews.{decomposed_lines, item_name}
 use Rattle.hv_plan.specs.Forms.{every, behind}
 use Rattle.hv_plan.specs.TreeViews.{child_view}
-use Rattle.hv_plan.proofs.subtasks.names.Said.names.Given as goal
+use Rattle.hv_plan.proofs.subtasks.names.Said.put_names.Given as goal
 
 -- the names so far and those of the children that are left are those of all children
 abbrev pub invariant-loop-child : goal.invariant-loop-child

@@ -3,7 +3,7 @@ use Rattle.hv_world.specs.Views.{subtask_view}
 use Rattle.hv_plan.specs.Fits.{names_of}
 use Rattle.hv_plan.specs.Forms.{every, behind}
 use Rattle.hv_plan.specs.inside.Tallies.{number_in}
-use Rattle.hv_plan.proofs.subtasks.names.numbers_of_subtasks.Given as goal
+use Rattle.hv_plan.proofs.subtasks.names.put_numbers_of_subtasks.Given as goal
 
 -- the numbers so far and those of the subtasks that are left are those of all subtasks
 abbrev pub invariant-loop-subtask : goal.invariant-loop-subtask

@@ -1,6 +1,6 @@
 use Rattle.std.proofs.Common.{refl, slice_index}
 use Rattle.hv_plan.proofs.ShapeWalks.{contained_at}
-use Rattle.hv_plan.proofs.shape.numbers.items.Goals as goal
+use Rattle.hv_plan.proofs.shape.numbers.put_items.Goals as goal
 
 pub item-requires : goal.item-requires
 item-requires c =
