@@ -1,5 +1,5 @@
 -- Which of several causes is reported.
-use Rattle.std.proofs.Common.{◌≡◌, ℕ, ◌+◌, ◌<◌, ◌≤◌, ◌⊎◌, inl, inr, nat_eq, nat_lt, nat_le, Bool, true, false, ◌&&◌, ◌||◌, List, [], ◌∷◌, ◌++◌, map, Option, Some, None, refl, ap, sym, subst, ◌∙◌, arith, if◌then◌else◌}
+use Rattle.std.proofs.Common.{◌≡◌, ℕ, ◌<◌, ◌≤◌, ◌⊎◌, inl, inr, nat_eq, nat_lt, nat_le, Bool, true, false, ◌&&◌, ◌||◌, List, [], ◌∷◌, ◌++◌, map, Option, Some, None, refl, ap, sym, subst, ◌∙◌, arith, if◌then◌else◌}
 use Rattle.std.specs.Prelude.{Contains, Result, Ok, Err, MatchResult}
 use Rattle.std.specs.List.{AllZip}
 use Rattle.std.proofs.lemmas.List.{append-nil, append_assoc, map-append}
@@ -7,16 +7,13 @@ use Rattle.std.proofs.lemmas.List.Elements.{Contains-append_cases, Contains-appe
 use Rattle.std.proofs.lemmas.Bool.{ltb-true, ltb-false, leb-true, leb-false, eqb-true, eqb-false}
 use Rattle.hv_world.specs.Worlds.{World}
 use Rattle.hv_plan.specs.Causes.{number}
-use Rattle.hv_plan.specs.inside.LineFaults.{Entry, line_entry, IsAtFault, IsLineFault, IsSmallest, ComesBefore, comes_before, earlier, IsEarliest, FaultIn}
-use Rattle.hv_plan.specs.inside.FitViews.{kept, cause_at, AreFitted, IsDecomposed, IsTold}
+use Rattle.hv_plan.specs.inside.LineFaults.{Entry, IsAtFault, IsLineFault, IsSmallest, ComesBefore, comes_before, earlier, IsEarliest, FaultIn}
+use Rattle.hv_plan.specs.inside.FitViews.{kept, cause_at, AreFitted, IsTold}
 use Rattle.hv_plan.specs.declared.fit.LineFault.{LineFault}
 use Rattle.hv_plan.specs.declared.fit.LineFault.TheVariants as faults
 use Rattle.hv_plan.specs.declared.cause.CauseKind.{CauseKind}
 use Rattle.hv_plan.specs.declared.cause.Cause.{Cause}
-use Rattle.hv_plan.specs.inside.FitViews.{Decomposed, decomposed_view}
-use Rattle.hv_plan.specs.declared.fit.Decomposed as code
-use Rattle.hv_plan.specs.Values.{Decomposition}
-use Rattle.hv_plan.proofs.FitLemmas.{contains_cons, contains_first, decomposed_has_no_fault, less_or_more, less_or_same}
+use Rattle.hv_plan.proofs.FitLemmas.{contains_cons, contains_first, less_or_more, less_or_same}
 
 -- what the test of two causes says
 module _ (m n a b : ℕ) where

@@ -1,5 +1,5 @@
 -- Lines that form a tree fit a world, or have a cause for which they do not.
-use Rattle.std.proofs.Common.{◌≡◌, ◌≢◌, ℕ, zero, suc, ◌<◌, ◌⊎◌, inl, inr, List, [], ◌∷◌, map, length, slice_get, Option, Some, None, refl, ap, sym, subst, ◌∙◌, arith}
+use Rattle.std.proofs.Common.{◌≡◌, ◌≢◌, ℕ, zero, suc, ◌⊎◌, inl, inr, List, [], ◌∷◌, map, length, slice_get, Option, Some, None, refl, ap, sym, subst, ◌∙◌, arith}
 use Rattle.std.specs.Prelude.{Contains, MatchOption}
 use Rattle.std.specs.List.{AllZip}
 use Rattle.hv_world.specs.Types.{Of}
@@ -29,7 +29,7 @@ use Rattle.hv_plan.proofs.FormLaws.{contains_flat, form_has_no_cause, fault_is_c
 use Rattle.hv_plan.proofs.TallyLemmas.{name_member}
 use Rattle.hv_plan.proofs.ChildLemmas.{earliest_of_children}
 use Rattle.hv_plan.proofs.WorldLaws.{child_fault_is_cause}
-use Rattle.hv_plan.proofs.FitWorldLemmas.{same_unless, has_method, names_for, fit_unless_at_fault}
+use Rattle.hv_plan.proofs.FitWorldLemmas.{has_method, names_for, fit_unless_at_fault}
 
 -- whether a method is for a task
 same_compound : (u t : ℕ) → compound u ≡ compound t → u ≡ t

@@ -1,7 +1,6 @@
 -- Each node of a plan's tree but the last is that of a decomposition line, and so a child that is a node has a task.
-use Rattle.std.proofs.Common.{◌≡◌, ◌+◌, ◌-◌, ◌<◌, ◌≤◌, inl, inr, ℕ, ◌∷◌, Option, Some, None, slice_get, refl, ap, ◌∙◌, subst, arith, length, Contains}
+use Rattle.std.proofs.Common.{◌≡◌, ◌+◌, ◌<◌, inl, inr, ℕ, ◌∷◌, Option, Some, None, slice_get, refl, ap, ◌∙◌, subst, arith, length, Contains}
 use Rattle.std.specs.Prelude.{MatchOption, IsSome, is_some}
-use Rattle.std.specs.List.{AllZip}
 use Rattle.std.proofs.lemmas.Option.{slice_get-get_or, slice_get_within}
 use Rattle.hv_world.specs.Worlds.{World}
 use Rattle.hv_plan.specs.Values.{Decomposition, Plan}

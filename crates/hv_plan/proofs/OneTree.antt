@@ -1,28 +1,26 @@
 -- A plan has one tree: its nodes are numbered one after another, so two trees give each line one number.
-use Rattle.std.proofs.Common.{◌≡◌, ◌≢◌, ◌+◌, ◌-◌, ◌<◌, ◌≤◌, ◌⊎◌, inl, inr, ℕ, zero, suc, Bool, true, false, List, [], ◌∷◌, ◌++◌, Option, Some, None, cond, map, nat_eq, slice_get, refl, sym, ap, ◌∙◌, subst, arith, length, get_or, Contains, slice_index, eqb-true, eq-eqb, append_assoc}
-use Rattle.std.specs.Prelude.{MatchOption, if◌then◌else◌}
+use Rattle.std.proofs.Common.{◌≡◌, ◌≢◌, ◌+◌, ◌-◌, ◌<◌, ◌≤◌, ◌⊎◌, inl, inr, ℕ, zero, suc, Bool, true, false, List, [], ◌∷◌, ◌++◌, Option, Some, None, cond, map, nat_eq, slice_get, refl, sym, ap, ◌∙◌, subst, arith, length, get_or, Contains, eqb-true, eq-eqb, append_assoc}
+use Rattle.std.specs.Prelude.{MatchOption}
 use Rattle.std.specs.List.{AllZip, flat_map, list_any}
 use Rattle.std.specs.Cmp.{nat_eq_equiv}
-use Rattle.std.proofs.lemmas.Grind.{flat_map-append}
 use Rattle.std.proofs.lemmas.List.{length-map, map-append}
-use Rattle.std.proofs.lemmas.List.Elements.{Contains-append_left, Contains-append_right, Contains-append_cases}
+use Rattle.std.proofs.lemmas.List.Elements.{Contains-append_cases}
 use Rattle.std.proofs.lemmas.Map.Views.{list_any-from_Contains, Contains-from_any}
-use Rattle.std.proofs.lemmas.Option.{slice_get-get_or, slice_get-map, get_or_from_slice_get, slice_get_within, same_Some}
+use Rattle.std.proofs.lemmas.Option.{slice_get-get_or, get_or_from_slice_get, slice_get_within, same_Some}
 use Rattle.hv_world.specs.Bindings.{GroundAction}
 use Rattle.hv_text.specs.Lists.{Once}
 use Rattle.hv_world.specs.Names.{place_in}
-use Rattle.hv_world.specs.Values.{TaskName, primitive, compound}
+use Rattle.hv_world.specs.Values.{primitive, compound}
 use Rattle.hv_world.specs.Worlds.{World, task_named}
 use Rattle.hv_plan.specs.Values.{Action, Decomposition, Plan}
-use Rattle.hv_plan.specs.Shapes.{ids, FormTree}
-use Rattle.hv_plan.specs.Fits.{Says}
-use Rattle.hv_plan.specs.Trees.{Item, Act, Task, Pre, IsTree}
+use Rattle.hv_plan.specs.Shapes.{FormTree}
+use Rattle.hv_plan.specs.Trees.{Item, Act, Task, Pre}
 use Rattle.hv_plan.specs.PlanTrees.{Node, PlanTree, children_of, children_at, node_numbers, child_nodes, countdown, StandsFor, IsActionOf, IsNodeOf, IsRootOf, NodeIs, IsTreeOf}
 use Rattle.hv_plan.proofs.FirstLines.{either, either_side}
-use Rattle.hv_plan.proofs.FitLemmas.{contains_cons, contains_first, contains_rest, same_partners, same_length, member_at}
-use Rattle.hv_plan.proofs.ChildLemmas.{mapped_at, mapped_here, paired_at, contains_at, within_here}
+use Rattle.hv_plan.proofs.FitLemmas.{contains_cons, contains_first, contains_rest, same_partners, same_length}
+use Rattle.hv_plan.proofs.ChildLemmas.{mapped_here, contains_at}
 use Rattle.hv_plan.proofs.HeadLists.{action_ids, decomposition_ids, ids_are}
-use Rattle.hv_plan.proofs.ShapeWalks.{stands_at, contained_at, same_place, once_apart, once_right, once_left}
+use Rattle.hv_plan.proofs.ShapeWalks.{same_place, once_apart, once_right, once_left}
 
 -- parts of one list that are as long at its front are one
 same_front : {A : Type 0} (as' bs cs ds : List A) → as' ++ bs ≡ cs ++ ds → length as' ≡ length cs → as' ≡ cs

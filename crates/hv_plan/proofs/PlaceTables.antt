@@ -157,9 +157,3 @@ module _ (f : ℕ → ℕ) (all front rest : List ℕ) (are : all ≡ map f (fro
 
   pub rest_of : drop (length front) all ≡ map f rest
   rest_of = ap (λ n. drop n all) (sym (length-map front f)) ∙ ap (drop (length (map f front))) apart ∙ drop-append_seam (map f front) (map f rest)
-
--- a table that has the place of each id gives the places of others
-pub same_places : (places : ℕ → Option ℕ) (is : List ℕ) (count : ℕ) → count ≡ length is → ((i : ℕ) → unwrap_or (places i) (length is) ≡ place_of is i)
-    → (xs : List ℕ) → map (λ i. unwrap_or (places i) count) xs ≡ map (place_of is) xs
-same_places places is count e has [] = refl
-same_places places is count e has (x ∷ xs) = (λ j. (ap (unwrap_or (places x)) e ∙ has x) j ∷ same_places places is count e has xs j)

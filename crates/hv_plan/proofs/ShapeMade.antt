@@ -1,5 +1,5 @@
 -- The nodes of a plan whose lines were all met have the plan's shape.
-use Rattle.std.proofs.Common.{◌≢◌, AllPairs, take, ◌≡◌, ◌+◌, ◌-◌, ◌<◌, ◌≤◌, ◌⊎◌, ◌↔◌, inl, inr, ℕ, zero, suc, Bool, true, false, List, [], ◌∷◌, ◌++◌, Option, Some, None, cond, map, nat_lt, nat_eq, slice_get, refl, sym, ap, ◌∙◌, subst, arith, length, get_or, Contains, slice_index, slice_index_or, length-append, ltb-true, ltb-false}
+use Rattle.std.proofs.Common.{◌≢◌, AllPairs, ◌≡◌, ◌+◌, ◌-◌, ◌<◌, ◌≤◌, ◌⊎◌, ◌↔◌, inl, inr, ℕ, zero, suc, Bool, true, false, List, [], ◌∷◌, ◌++◌, Option, Some, None, cond, map, nat_lt, nat_eq, slice_get, refl, sym, ap, ◌∙◌, subst, arith, length, get_or, Contains, slice_index, slice_index_or, length-append, ltb-true, ltb-false}
 use Rattle.std.specs.List.{AllZip, flat_map, list_any}
 use Rattle.std.proofs.lemmas.Grind.{flat_map-append}
 use Rattle.std.proofs.Math.Seq.{take-length}

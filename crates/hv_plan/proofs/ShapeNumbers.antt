@@ -1,5 +1,5 @@
 -- The numbers that a walk gives from its end on, and what has them.
-use Rattle.std.proofs.Common.{◌≡◌, ◌≢◌, ◌+◌, ◌-◌, ◌<◌, ◌≤◌, ◌⊎◌, inl, inr, ℕ, zero, suc, Bool, true, false, cond, nat_lt, refl, drop, ltb-true, ltb-false, true≢false, List, [], ◌∷◌, ◌++◌, sym, ap, ◌∙◌, arith, length, set, slice_index, length-set, get_or-set_same, get_or-set_other}
+use Rattle.std.proofs.Common.{◌≡◌, ◌≢◌, ◌+◌, ◌-◌, ◌<◌, ◌≤◌, ◌⊎◌, inl, inr, ℕ, zero, suc, Bool, true, false, cond, nat_lt, refl, drop, ltb-true, ltb-false, List, [], ◌∷◌, ◌++◌, sym, ap, ◌∙◌, arith, length, set, slice_index, length-set, get_or-set_same, get_or-set_other}
 use Rattle.std.specs.List.{flat_map}
 use Rattle.std.proofs.Math.Seq.{drop-cons}
 use Rattle.hv_text.specs.Lists.{Once}

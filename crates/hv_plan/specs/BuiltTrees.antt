@@ -1,5 +1,5 @@
 -- What a tree that was built says.
-use Rattle.std.specs.Prelude.{List, ◌∷◌, length, map}
+use Rattle.std.specs.Prelude.{◌∷◌, length, map}
 use Rattle.hv_world.specs.Bindings.{ground_actions_view}
 use Rattle.hv_plan.specs.inside.FitViews.{decomposed_lines}
 use Rattle.hv_plan.specs.LineViews.{plan_view}

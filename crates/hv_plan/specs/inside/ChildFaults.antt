@@ -1,5 +1,5 @@
 -- For which causes the children of a line are not as its method's subtasks.
-use Rattle.std.specs.Prelude.{◌≡◌, ℕ, List, Option, Some, map, length, Contains, MatchOption, IsSome}
+use Rattle.std.specs.Prelude.{◌≡◌, ℕ, List, Option, Some, length, Contains, MatchOption, IsSome}
 use Rattle.std.specs.List.{AllZip}
 use Rattle.hv_world.specs.Values.{TaskName}
 use Rattle.hv_world.specs.Worlds.{World, Method}

@@ -1,4 +1,3 @@
-use Rattle.std.proofs.Common.{map}
 use Rattle.hv_world.specs.Bindings.{ground_actions_view}
 use Rattle.hv_world.specs.WorldViews.{world_view}
 use Rattle.hv_plan.specs.inside.FitViews.{decomposed_lines}

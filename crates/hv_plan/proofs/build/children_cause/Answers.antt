@@ -1,4 +1,4 @@
-use Rattle.std.proofs.Common.{◌≡◌, ◌<◌, ◌∙◌, ◌∷◌, [], Some, length, map, sym, ap, refl, rules, arith, subst}
+use Rattle.std.proofs.Common.{◌≡◌, ◌<◌, ◌∙◌, ◌∷◌, [], Some, length, map, sym, ap, refl, arith, subst}
 use Rattle.hv_world.specs.MethodViews.{method_view}
 use Rattle.hv_world.specs.WorldViews.{world_view}
 use Rattle.hv_plan.specs.inside.ChildFaults.{IsChildFault, ChildFaultIn}

@@ -1,6 +1,6 @@
-use Rattle.std.proofs.Common.{◌≡◌, ◌++◌, ◌∷◌, [], ℕ, List, ap, ◌∙◌, map, refl}
+use Rattle.std.proofs.Common.{◌≡◌, ◌++◌, ◌∷◌, [], ap, ◌∙◌, map, refl}
 use Rattle.std.specs.List.{flat_map}
-use Rattle.hv_plan.specs.LineViews.{decomposition_view, plan_view}
+use Rattle.hv_plan.specs.LineViews.{plan_view}
 use Rattle.hv_plan.specs.LinesLeft.{decompositions_left}
 use Rattle.hv_plan.specs.Shapes.{ids, line_parent}
 use Rattle.hv_plan.specs.inside.Shaping.{place_of}

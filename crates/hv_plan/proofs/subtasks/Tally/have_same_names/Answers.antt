@@ -1,4 +1,4 @@
-use Rattle.std.proofs.Common.{◌≡◌, ◌∙◌, ℕ, List, Bool, true, false, None, Option, Some, ap, map, length, sym, if◌then◌else◌}
+use Rattle.std.proofs.Common.{◌≡◌, ◌∙◌, ℕ, List, Bool, true, None, Some, ap, map, length, if◌then◌else◌}
 use Rattle.hv_world.specs.Views.{name_view, subtask_view}
 use Rattle.hv_world.specs.Values.{TaskName}
 use Rattle.hv_plan.specs.Fits.{names_of}
