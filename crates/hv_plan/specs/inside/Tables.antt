@@ -1,11 +1,12 @@
 -- The place of each id, by the table of the ids that begin lines.
-use Rattle.std.specs.Prelude.{◌≡◌, ◌<◌, ℕ, List, Bool, Option, Some, None, map, option_map, get_or, slice_get, slice_index, length, nat_eq, nat_lt, Contains}
+use Rattle.std.specs.Prelude.{◌≡◌, ◌<◌, ℕ, List, Bool, Option, Some, None, map, option_map, get_or, slice_get, slice_index, length, nat_eq, nat_le, nat_lt, filter, Contains}
 use Rattle.std.specs.List.{flat_map}
 use Rattle.std.specs.Map.{update}
 use Rattle.std.specs.Option.{unwrap_or}
 use Rattle.indexmap.specs.IndexMap as table
 use Rattle.hv_plan.specs.Values.{Plan}
 use Rattle.hv_plan.specs.Shapes.{ids, all_children, line_parent}
+use Rattle.hv_plan.specs.inside.IdTables.{start_of}
 use Rattle.hv_plan.specs.inside.Shaping.{place_of, first_of, again_of, IsFirst, IsRepeat, IsMissed, lines_of_heads, places_of_lines}
 use Rattle.hv_plan.specs.declared.shape.table.Table.{Table}
 
@@ -17,6 +18,10 @@ small_or (Some place) other = place
 -- the place of an id in a table
 abbrev pub place_by : Table → ℕ → Option ℕ
 place_by t i = small_or (slice_get t.small.items i) (table.get nat_eq t.large i)
+
+-- what the map of a table is hashed from has taken in each id that the list of small ids has no room for
+abbrev pub IsSeeded : Table → List ℕ → Type 0
+IsSeeded t ids = (table.hasher_of t.large).start ≡ start_of (filter (nat_le (length t.small.items)) ids)
 
 -- the line of the place of an id
 abbrev pub line_by : Table → List ℕ → ℕ → Option ℕ

@@ -1,8 +1,8 @@
 //! The table of the ids that begin lines.
 
-ghost use Rattle.std.specs.Prelude.{◌≡◌, ℕ, Some, None, nat_eq, unwrap_or, IfOk, OnOk};
+ghost use Rattle.std.specs.Prelude.{◌≡◌, ℕ, Some, None, nat_eq, nat_le, filter, IfOk, OnOk};
 ghost use Rattle.std.specs.Map.{update};
-ghost use Rattle.hv_plan.specs.inside.Tables.{place_by};
+ghost use Rattle.hv_plan.specs.inside.Tables.{place_by, IsSeeded};
 
 use crate::id_table::Seeded;
 use hv_text::Memory;
@@ -32,7 +32,9 @@ fn bound_below(limit: usize, ids: &[u64]) -> usize {
 }
 
 // The ids from a bound on.
-fn ids_from(alloc: Global, bound: usize, ids: &[u64]) -> Result<Vec<u64>, Memory> {
+fn ids_from(alloc: Global, bound: usize, ids: &[u64]) -> Result<Vec<u64>, Memory>
+    ensures { IfOk result (λ v. v.items ≡ filter (nat_le bound) ids.now) }
+{
     let mut large = Vec::new(alloc);
     for id in ids {
         if *id as usize >= bound {
@@ -43,13 +45,15 @@ fn ids_from(alloc: Global, bound: usize, ids: &[u64]) -> Result<Vec<u64>, Memory
 }
 
 impl Table {
-    /// A table with room for these ids, of which none has a place yet.
+    /// A table with room for these ids, of which none has a place yet. What the large ones are hashed from
+    /// has taken in each of them.
     ///
     /// # Errors
     ///
     /// `Memory` where the room was refused.
     pub(super) fn for_ids(alloc: Global, ids: &[u64]) -> Result<Table, Memory>
-        ensures { IfOk result (λ t. (i : ℕ) → place_by t i ≡ None) }
+        ensures empty { IfOk result (λ t. (i : ℕ) → place_by t i ≡ None) }
+        ensures seed { IfOk result (λ t. IsSeeded t ids.now) }
     {
         let bound = bound_below(ids.len().saturating_mul(ROOM), ids);
         let large = ids_from(alloc, bound, ids)?;

@@ -10,8 +10,8 @@ loop-place-init c =
     let ids = c.args.ids.now in
     let lines = c.args.lines.now in (
       omega arith,
-      λ i k e. let none : None ≡ Some k = sym (c.in_ok-table.ensures i) ∙ e in absurd (cc),
-      no_lines ids lines (line_by c.in_ok-table.table lines) (λ id. ap (option_map (slice_index lines)) (c.in_ok-table.ensures id)),
+      λ i k e. let none : None ≡ Some k = sym (c.in_ok-table.ensures.empty i) ∙ e in absurd (cc),
+      no_lines ids lines (line_by c.in_ok-table.table lines) (λ id. ap (option_map (slice_index lines)) (c.in_ok-table.ensures.empty id)),
       none_repeated ids lines,
     )
 
