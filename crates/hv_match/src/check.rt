@@ -111,7 +111,8 @@ fn is_candidate_by(
     children: &[u32],
     objects: &[ObjectId],
 ) -> Result<bool, Memory>
-    ensures { IfOk result (Tells (IsCandidateBy world.now method.now tree.now node.now children.now objects.now)) }
+    ensures { IfOk result (Tells (IsCandidateBy world.now method.now tree.now node.now children.now
+        objects.now)) }
 {
     let values = numbers(alloc, objects)?;
     let network = method.network();

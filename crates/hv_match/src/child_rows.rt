@@ -125,7 +125,8 @@ fn push_objects(key: &mut Vec<usize>, objects: &[ObjectId]) -> Result<(), Memory
 
 // Puts the objects of terms behind what a key has.
 fn push_terms(key: &mut Vec<usize>, terms: &[Term]) -> Result<(), Memory>
-    ensures { OnOk result (key.new.items ≡ key.old.items ++ map (object_of []) (map term_view terms.now)) }
+    ensures { OnOk result (key.new.items ≡ key.old.items ++ map (object_of [])
+        (map term_view terms.now)) }
 {
     for term in terms {
         key.push(value(&[], *term))?;
@@ -175,7 +176,8 @@ fn key_numbers(
     keys: &mut IndexSet<Vec<usize>>,
     subtasks: &[Subtask],
 ) -> Result<Vec<usize>, Memory>
-    ensures { IfOk result (λ v. AreKeyNumbers keys.new.keys (map subtask_view subtasks.now) v.items) }
+    ensures { IfOk result (λ v. AreKeyNumbers keys.new.keys (map subtask_view subtasks.now)
+        v.items) }
 {
     let mut numbers = Vec::new(alloc);
     for subtask in subtasks {
@@ -212,7 +214,8 @@ fn put_exact(
 ) -> Result<(), Memory>
     requires { length rows.old ≡ length keys.now.keys.keys }
     ensures size { OnOk result (length rows.new ≡ length rows.old) }
-    ensures rows { OnOk result (HasPutExact keys.now (work_view work.entry) place rows.old rows.new) }
+    ensures rows { OnOk result (HasPutExact keys.now (work_view work.entry) place rows.old
+        rows.new) }
 {
     if !keys.is_exact {
         return Ok(());
@@ -249,7 +252,8 @@ fn rows_of(
     keys: &RowKeys,
     children: &[Option<Work<'_>>],
 ) -> Result<Vec<Vec<usize>>, Memory>
-    ensures { IfOk result (λ v. AreRows keys.now (map (option_map work_view) children.now) v.items) }
+    ensures { IfOk result (λ v. AreRows keys.now (map (option_map work_view) children.now)
+        v.items) }
 {
     let mut rows = vec![in alloc; Vec::new(alloc); keys.keys.len()]?;
     let mut key = Vec::new(alloc);
@@ -273,7 +277,8 @@ fn in_one(alloc: Global, rows: &[Vec<usize>]) -> Result<Lists<usize>, Memory>
 // Whether a child may do a subtask, by its name, and, where all terms of the subtask are objects,
 // by its objects.
 fn may_do(subtask: &Subtask, child: Option<Work<'_>>) -> bool
-    ensures { result ≡ puzzles.may_do (subtask_view subtask.now) (option_map work_view child.entry) }
+    ensures { result ≡ puzzles.may_do (subtask_view subtask.now)
+        (option_map work_view child.entry) }
 {
     match child {
         None => false,
@@ -290,7 +295,8 @@ fn push_row(
     subtask: &Subtask,
     children: &[Option<Work<'_>>],
 ) -> Result<(), Memory>
-    ensures { OnOk result (row.new.items ≡ row.old.items ++ tables.row_of subtask.now children.now) }
+    ensures { OnOk result (row.new.items ≡ row.old.items ++ tables.row_of subtask.now
+        children.now) }
 {
     for (place, child) in children.iter().enumerate() {
         if may_do(subtask, *child) {

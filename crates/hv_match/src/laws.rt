@@ -13,5 +13,6 @@ pub fn counts_are_one()
 
 /// Each number below the number of nodes is that of a node with a method, in a tree of the world.
 pub fn nodes_have_methods()
-    ensures { (w : World) (t : PlanTree) → IsTreeIn w t → (v : ℕ) → v < length t.nodes → IsNode w t v }
+    ensures { (w : World) (t : PlanTree) → IsTreeIn w t → (v : ℕ) → v < length t.nodes
+        → IsNode w t v }
 {}

@@ -53,7 +53,8 @@ pub(crate) fn ranges<'a>(
 
 // What an action does.
 fn action_work<'a>(action: &GroundAction<'a>) -> Work<'a>
-    ensures { as_subtask (work_view result) ≡ candidates.action_task (ground_action_view action.now) }
+    ensures { as_subtask (work_view result)
+        ≡ candidates.action_task (ground_action_view action.now) }
 {
     Work {
         name: TaskName::Primitive(action.action()),
@@ -63,7 +64,8 @@ fn action_work<'a>(action: &GroundAction<'a>) -> Work<'a>
 
 // What a node does; the root line's does nothing.
 fn node_work<'a>(node: &Node<'a>) -> Option<Work<'a>>
-    ensures { option_map as_subtask (option_map work_view result) ≡ candidates.node_task (node_view node.now) }
+    ensures { option_map as_subtask (option_map work_view result)
+        ≡ candidates.node_task (node_view node.now) }
 {
     match node.task() {
         None => None,
@@ -76,7 +78,8 @@ fn node_work<'a>(node: &Node<'a>) -> Option<Work<'a>>
 
 /// What a child does, where the tree has it.
 pub(crate) fn work<'a>(tree: &'a Tree<'_, '_>, child: Child) -> Option<Work<'a>>
-    ensures { option_map as_subtask (option_map work_view result) ≡ candidates.child_task (tree_view tree.now) (child_view child) }
+    ensures { option_map as_subtask (option_map work_view result)
+        ≡ candidates.child_task (tree_view tree.now) (child_view child) }
 {
     match child {
         Child::Action(action) => match tree.actions().get(action as usize) {
@@ -96,7 +99,8 @@ fn works<'a>(
     tree: &'a Tree<'_, '_>,
     children: &[Child],
 ) -> Result<Vec<Option<Work<'a>>>, Memory>
-    ensures { IfOk result (λ v. AreWorks (map (option_map work_view) v.items) (tasks_of tree.now children.now)) }
+    ensures { IfOk result (λ v. AreWorks (map (option_map work_view) v.items)
+        (tasks_of tree.now children.now)) }
 {
     let mut works = Vec::with_capacity(alloc, children.len())?;
     for child in children {
@@ -152,7 +156,8 @@ pub(crate) fn puzzle<'a>(
 ) -> Result<Puzzle<'a>, Memory>
     ensures table { IfOk result (λ p. p.table.now ≡ table.now) }
     ensures given { IfOk result (λ p. (puzzle_view p).objects ≡ (node_view node.now).objects) }
-    ensures works { IfOk result (λ p. AreWorks (puzzle_view p).children (tasks_at tree.now node.now)) }
+    ensures works { IfOk result (λ p. AreWorks (puzzle_view p).children
+        (tasks_at tree.now node.now)) }
 {
     let children = works(alloc, tree, node.children())?;
     // 32 bits are enough for the children in every text

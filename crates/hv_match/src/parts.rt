@@ -13,7 +13,8 @@ use hv_world::{Method, World};
 
 // The method of a node, which for the root line's is the initial network.
 fn node_method<'a, 's>(world: &'a World<'s>, node: &Node<'_>) -> Option<&'a Method<'s>>
-    ensures { option_map (λ m. method_view m.now) result ≡ candidates.node_method (world_view world.now) (node_view node.now) }
+    ensures { option_map (λ m. method_view m.now) result
+        ≡ candidates.node_method (world_view world.now) (node_view node.now) }
 {
     match node.method() {
         None => Some(world.top()),
@@ -30,7 +31,8 @@ pub(crate) fn node_and_method<'a, 's>(
     requires tree { IsTreeIn (world_view world.now) (tree_view tree.now) }
     requires node { node < length (tree_view tree.now).nodes }
     ensures node { slice_get (tree_view tree.now).nodes node ≡ Some (node_view result.0) }
-    ensures method { candidates.node_method (world_view world.now) (node_view result.0) ≡ Some (method_view result.1.now) }
+    ensures method { candidates.node_method (world_view world.now) (node_view result.0)
+        ≡ Some (method_view result.1.now) }
 {
     match tree.node(node) {
         Some(node) => match node_method(world, &node) {

@@ -56,7 +56,8 @@ pub(crate) fn value(values: &[usize], term: Term) -> usize
 
 /// Whether the objects are those of the terms.
 pub(crate) fn are_values(values: &[usize], terms: &[Term], objects: &[ObjectId]) -> bool
-    ensures { result ≡ puzzles.same_values values.now (map term_view terms.now) (map object_number objects.now) }
+    ensures { result ≡ puzzles.same_values values.now (map term_view terms.now)
+        (map object_number objects.now) }
 {
     let mut at = 0;
     while at < terms.len() && at < objects.len() {
@@ -119,7 +120,8 @@ pub(crate) fn is_in(object: usize, range: &[ObjectId]) -> bool
 
 /// Whether a child that does this does what a subtask says.
 pub(crate) fn work_does(work: Work<'_>, values: &[usize], subtask: &Subtask) -> bool
-    ensures { result ≡ puzzles.does (Some (work_view work.entry)) values.now (subtask_view subtask.now) }
+    ensures { result ≡ puzzles.does (Some (work_view work.entry)) values.now
+        (subtask_view subtask.now) }
 {
     same_name(work.name, subtask.name) && are_values(values, &subtask.terms, work.objects)
 }
@@ -129,7 +131,8 @@ impl<'a> Puzzle<'a> {
 
     // What the child at a place does.
     fn child(&self, place: usize) -> Option<Work<'a>>
-        ensures { option_map work_view result ≡ puzzles.child_at (puzzle_view self.now).children place }
+        ensures { option_map work_view result
+            ≡ puzzles.child_at (puzzle_view self.now).children place }
     {
         if place < self.children.len() {
             self.children[place]
@@ -140,7 +143,8 @@ impl<'a> Puzzle<'a> {
 
     // Whether the child at a place does what a subtask says.
     fn does(&self, place: usize, values: &[usize], subtask: &Subtask) -> bool
-        ensures { result ≡ puzzles.does (puzzles.child_at (puzzle_view self.now).children place) values.now (subtask_view subtask.now) }
+        ensures { result ≡ puzzles.does (puzzles.child_at (puzzle_view self.now).children place)
+            values.now (subtask_view subtask.now) }
     {
         match self.child(place) {
             None => false,
@@ -150,7 +154,8 @@ impl<'a> Puzzle<'a> {
 
     // Whether the children at these places do what the subtasks say.
     fn all_do(&self, values: &[usize], places: &[usize]) -> bool
-        ensures { result ≡ puzzles.all_do (puzzle_view self.now).children values.now places.now (puzzle_view self.now).subtasks }
+        ensures { result ≡ puzzles.all_do (puzzle_view self.now).children values.now places.now
+            (puzzle_view self.now).subtasks }
     {
         let mut at = 0;
         while at < places.len() && at < self.table.subtasks.len() {
@@ -190,7 +195,8 @@ impl<'a> Puzzle<'a> {
 
     // The object at a place in a subtask's child, if it has one.
     fn child_object(&self, chosen: &[usize], subtask: usize, position: usize) -> Option<usize>
-        ensures { result ≡ puzzles.look (puzzle_view self.now) chosen.now (Some (Some subtask, position)) }
+        ensures { result ≡ puzzles.look (puzzle_view self.now) chosen.now
+            (Some (Some subtask, position)) }
     {
         match chosen.get(subtask) {
             None => None,
@@ -203,7 +209,8 @@ impl<'a> Puzzle<'a> {
 
     // The object at the place from which a parameter has it.
     fn look(&self, chosen: &[usize], source: Source) -> Option<usize>
-        ensures { result ≡ puzzles.look (puzzle_view self.now) chosen.now (Some (source_view source)) }
+        ensures { result ≡ puzzles.look (puzzle_view self.now) chosen.now
+            (Some (source_view source)) }
     {
         match source.subtask {
             None => object_at(self.objects, source.position),
@@ -213,7 +220,8 @@ impl<'a> Puzzle<'a> {
 
     /// What the task and the children chosen say of a parameter.
     pub(crate) fn bound(&self, chosen: &[usize], parameter: usize) -> Option<usize>
-        ensures bound { parameter < length self.now.table.now.ranges.items → result ≡ puzzles.bound (puzzle_view self.now) chosen.now parameter }
+        ensures bound { parameter < length self.now.table.now.ranges.items
+            → result ≡ puzzles.bound (puzzle_view self.now) chosen.now parameter }
         ensures other { length self.now.table.now.ranges.items ≤ parameter → result ≡ None }
     {
         match self.table.sources.get(parameter) {
@@ -224,7 +232,8 @@ impl<'a> Puzzle<'a> {
 
     // Whether an object may be that of a term, by what is bound.
     fn may_be(&self, chosen: &[usize], term: Term, object: ObjectId) -> bool
-        ensures { result ≡ false → puzzles.CannotBe (puzzle_view self.now) chosen.now (term_view term) object.0 }
+        ensures { result ≡ false → puzzles.CannotBe (puzzle_view self.now) chosen.now
+            (term_view term) object.0 }
     {
         match term {
             Term::Object(other) => other.0 == object.0,
@@ -237,7 +246,8 @@ impl<'a> Puzzle<'a> {
 
     /// Whether objects may be those of terms, by what is bound.
     pub(crate) fn may_all_be(&self, chosen: &[usize], terms: &[Term], objects: &[ObjectId]) -> bool
-        ensures { result ≡ false → puzzles.CannotAllBe (puzzle_view self.now) chosen.now (map term_view terms.now) (map object_number objects.now) }
+        ensures { result ≡ false → puzzles.CannotAllBe (puzzle_view self.now) chosen.now
+            (map term_view terms.now) (map object_number objects.now) }
     {
         let mut at = 0;
         while at < terms.len() && at < objects.len() {
@@ -251,7 +261,8 @@ impl<'a> Puzzle<'a> {
 
     /// Whether the child at a place may do what a subtask says, by what is bound.
     pub(crate) fn may_do(&self, chosen: &[usize], place: usize, subtask: &Subtask) -> bool
-        ensures { result ≡ false → puzzles.CannotDo (puzzle_view self.now) chosen.now place (subtask_view subtask.now) }
+        ensures { result ≡ false → puzzles.CannotDo (puzzle_view self.now) chosen.now place
+            (subtask_view subtask.now) }
     {
         match self.child(place) {
             None => false,
@@ -298,7 +309,8 @@ impl Puzzle<'_> {
     // The place of a number among those of the children that may do a subtask.
     fn child_choice(&self, subtask: usize, number: usize) -> Option<usize>
         requires { subtask < length self.now.table.now.subtasks.now }
-        ensures choice { IsChoice (puzzles.children_for (puzzle_view self.now) subtask) number result }
+        ensures choice { IsChoice (puzzles.children_for (puzzle_view self.now) subtask) number
+            result }
         ensures small { IsSome result → number + 1 < 2 ^ 64 }
         ensures within { IfSome result (λ x. x < length self.now.children.items) }
     {

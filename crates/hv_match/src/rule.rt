@@ -10,12 +10,15 @@ pub(crate) trait Rule {
 
     /// Whether so many choices are a whole one.
     fn is_whole(&self, count: usize) -> bool
-        ensures { MatchBool result (count ≡ (search self.now).levels) (count ≢ (search self.now).levels) };
+        ensures { MatchBool result (count ≡ (search self.now).levels)
+            (count ≢ (search self.now).levels) };
 
     /// Whether the choice at a level is one of those that differ, as they do in all that is wanted.
     fn is_distinct(&self, level: usize) -> bool
-        ensures level { MatchBool result (level < (search self.now).distinct) ((search self.now).distinct ≤ level) }
-        ensures wanted { (q : List ℕ) → (search self.now).good q ≡ true → Once (take (search self.now).distinct q) };
+        ensures level { MatchBool result (level < (search self.now).distinct)
+            ((search self.now).distinct ≤ level) }
+        ensures wanted { (q : List ℕ) → (search self.now).good q ≡ true
+            → Once (take (search self.now).distinct q) };
 
     /// The choice of a number, if there are so many.
     fn option(&self, chosen: &[usize], number: usize) -> Option<usize>

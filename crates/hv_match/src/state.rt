@@ -66,7 +66,8 @@ fn stands(chosen: &[usize], level: usize, choice: usize) -> bool
 fn is_made<R: Rule>(rule: &R, at: &State, choice: usize) -> bool
     requires place { IsPlaceIn (R.search rule.now) at.now }
     requires within { IsWithin (R.search rule.now) at.now.chosen.items choice }
-    ensures made { result ≡ true → NothingBegins (R.search rule.now) (at.now.chosen.items ++ choice ∷ []) }
+    ensures made { result ≡ true → NothingBegins (R.search rule.now)
+        (at.now.chosen.items ++ choice ∷ []) }
     ensures other { result ≡ false → Differs (R.search rule.now) at.now.chosen.items choice }
 {
     rule.is_distinct(at.chosen.len()) && stands(&at.chosen, at.made_at[choice], choice)
@@ -92,7 +93,8 @@ fn follow<R: Rule>(rule: &R, at: &mut State, choice: usize) -> Result<(), AllocE
     requires place { IsPlaceIn (R.search rule.now) at.old }
     requires running { at.old.is_over ≡ false }
     requires short { length at.old.chosen.items < (R.search rule.now).levels }
-    requires choice { IsChoice ((R.search rule.now).options at.old.chosen.items) at.old.next (Some choice) }
+    requires choice { IsChoice ((R.search rule.now).options at.old.chosen.items) at.old.next
+        (Some choice) }
     requires small { at.old.next + 1 < 2 ^ 64 }
     requires within { IsWithin (R.search rule.now) at.old.chosen.items choice }
     ensures place { IsPlaceIn (R.search rule.now) at.new }

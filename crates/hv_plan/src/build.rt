@@ -49,12 +49,17 @@ impl Methods<'_, '_> {
         method: &Method<'_>,
         children: &[Child],
     ) -> Result<Option<Cause>, Memory>
-        requires size { length tally.old.counts.items ≡ self.now.sizes.tasks + self.now.sizes.actions }
+        requires size { length tally.old.counts.items
+            ≡ self.now.sizes.tasks + self.now.sizes.actions }
         requires empty { (n : ℕ) → get_or tally.old.counts.items n 0 ≡ 0 }
-        requires known { AreNumbered self.now.sizes.tasks self.now.sizes.actions (said_name self.now.said) (map child_view children.now) }
+        requires known { AreNumbered self.now.sizes.tasks self.now.sizes.actions
+            (said_name self.now.said) (map child_view children.now) }
         ensures size { length tally.new.counts.items ≡ length tally.old.counts.items }
         ensures empty { OnOk result ((n : ℕ) → get_or tally.new.counts.items n 0 ≡ 0) }
-        ensures cause { IfOk result (λ o. (ns : List TaskName) → every (said_name self.now.said) (map child_view children.now) ≡ Some ns → IsMethodCause ns (names_of (method_view method.now).network.subtasks) line o) }
+        ensures cause { IfOk result
+            (λ o. (ns : List TaskName) → every (said_name self.now.said)
+            (map child_view children.now) ≡ Some ns
+            → IsMethodCause ns (names_of (method_view method.now).network.subtasks) line o) }
     {
         if !self.said.put_names(&mut tally.names, children)? {
             return Ok(None);
@@ -73,12 +78,18 @@ impl Methods<'_, '_> {
         method: MethodId,
         children: &[Child],
     ) -> Result<Option<Cause>, Memory>
-        requires size { length tally.old.counts.items ≡ self.now.sizes.tasks + self.now.sizes.actions }
+        requires size { length tally.old.counts.items
+            ≡ self.now.sizes.tasks + self.now.sizes.actions }
         requires empty { (n : ℕ) → get_or tally.old.counts.items n 0 ≡ 0 }
-        requires known { AreNumbered self.now.sizes.tasks self.now.sizes.actions (said_name self.now.said) (map child_view children.now) }
+        requires known { AreNumbered self.now.sizes.tasks self.now.sizes.actions
+            (said_name self.now.said) (map child_view children.now) }
         ensures size { length tally.new.counts.items ≡ length tally.old.counts.items }
         ensures empty { OnOk result ((n : ℕ) → get_or tally.new.counts.items n 0 ≡ 0) }
-        ensures cause { IfOk result (λ o. (m : value.Method) (ns : List TaskName) → slice_get (world_view self.now.world.now).methods method.0 ≡ Some m → every (said_name self.now.said) (map child_view children.now) ≡ Some ns → IsMethodCause ns (names_of m.network.subtasks) line o) }
+        ensures cause { IfOk result
+            (λ o. (m : value.Method) (ns : List TaskName)
+            → slice_get (world_view self.now.world.now).methods method.0 ≡ Some m
+            → every (said_name self.now.said) (map child_view children.now) ≡ Some ns
+            → IsMethodCause ns (names_of m.network.subtasks) line o) }
     {
         match self.world.method(method) {
             Some(method) => self.method_cause(tally, line, method, children),
@@ -98,13 +109,19 @@ impl Methods<'_, '_> {
         requires place { place < length (plan_view plan.now).decompositions }
         requires form { FormTree (plan_view plan.now) }
         requires shape { IsShape (plan_view plan.now) (shape_view shape.now) }
-        requires said { IsSaid (world_view self.now.world.now) (plan_view plan.now) (shape_view shape.now) self.now.said }
-        requires sizes { AreSizes (world_view self.now.world.now) self.now.sizes.tasks self.now.sizes.actions }
-        requires size { length tally.old.counts.items ≡ self.now.sizes.tasks + self.now.sizes.actions }
+        requires said { IsSaid (world_view self.now.world.now) (plan_view plan.now)
+            (shape_view shape.now) self.now.said }
+        requires sizes { AreSizes (world_view self.now.world.now) self.now.sizes.tasks
+            self.now.sizes.actions }
+        requires size { length tally.old.counts.items
+            ≡ self.now.sizes.tasks + self.now.sizes.actions }
         requires empty { (n : ℕ) → get_or tally.old.counts.items n 0 ≡ 0 }
         ensures size { length tally.new.counts.items ≡ length tally.old.counts.items }
         ensures empty { OnOk result ((n : ℕ) → get_or tally.new.counts.items n 0 ≡ 0) }
-        ensures cause { IfOk result (λ o. (d : Decomposition) → slice_get (plan_view plan.now).decompositions place ≡ Some d → IsEarliest (ChildFaultIn (world_view self.now.world.now) (plan_view plan.now) (line_parent d ∷ [])) o) }
+        ensures cause { IfOk result
+            (λ o. (d : Decomposition) → slice_get (plan_view plan.now).decompositions place ≡ Some d
+            → IsEarliest (ChildFaultIn (world_view self.now.world.now) (plan_view plan.now)
+            (line_parent d ∷ [])) o) }
     {
         let line = plan.decompositions.at(place).line;
         let Some(said) = self.said.lines.get(place) else {
@@ -124,11 +141,16 @@ impl Methods<'_, '_> {
     ) -> Result<Option<Cause>, Memory>
         requires form { FormTree (plan_view plan.now) }
         requires shape { IsShape (plan_view plan.now) (shape_view shape.now) }
-        requires said { IsSaid (world_view self.now.world.now) (plan_view plan.now) (shape_view shape.now) self.now.said }
-        requires sizes { AreSizes (world_view self.now.world.now) self.now.sizes.tasks self.now.sizes.actions }
-        requires size { length tally.old.counts.items ≡ self.now.sizes.tasks + self.now.sizes.actions }
+        requires said { IsSaid (world_view self.now.world.now) (plan_view plan.now)
+            (shape_view shape.now) self.now.said }
+        requires sizes { AreSizes (world_view self.now.world.now) self.now.sizes.tasks
+            self.now.sizes.actions }
+        requires size { length tally.old.counts.items
+            ≡ self.now.sizes.tasks + self.now.sizes.actions }
         requires empty { (n : ℕ) → get_or tally.old.counts.items n 0 ≡ 0 }
-        ensures { IfOk result (λ o. IsEarliest (ChildFaultIn (world_view self.now.world.now) (plan_view plan.now) (map line_parent (plan_view plan.now).decompositions)) o) }
+        ensures { IfOk result (λ o. IsEarliest
+            (ChildFaultIn (world_view self.now.world.now) (plan_view plan.now)
+            (map line_parent (plan_view plan.now).decompositions)) o) }
     {
         let mut cause = None;
         for place in 0..plan.decompositions.len() {
@@ -149,9 +171,13 @@ fn children_cause(
 ) -> Result<Option<Cause>, Memory>
     requires form { FormTree (plan_view plan.now) }
     requires shape { IsShape (plan_view plan.now) (shape_view shape.now) }
-    requires said { IsSaid (world_view methods.now.world.now) (plan_view plan.now) (shape_view shape.now) methods.now.said }
-    requires sizes { AreSizes (world_view methods.now.world.now) methods.now.sizes.tasks methods.now.sizes.actions }
-    ensures { IfOk result (λ o. IsEarliest (ChildFaultIn (world_view methods.now.world.now) (plan_view plan.now) (parents (plan_view plan.now))) o) }
+    requires said { IsSaid (world_view methods.now.world.now) (plan_view plan.now)
+        (shape_view shape.now) methods.now.said }
+    requires sizes { AreSizes (world_view methods.now.world.now) methods.now.sizes.tasks
+        methods.now.sizes.actions }
+    ensures { IfOk result (λ o. IsEarliest
+        (ChildFaultIn (world_view methods.now.world.now) (plan_view plan.now)
+        (parents (plan_view plan.now))) o) }
 {
     let mut tally = Tally::new(alloc, methods.sizes)?;
     let children = shape.children.at(shape.root as usize);
@@ -171,8 +197,10 @@ fn check_children<'s>(
 ) -> Result<(), TreeFault>
     requires form { FormTree (plan_view plan.now) }
     requires shape { IsShape (plan_view plan.now) (shape_view shape.now) }
-    requires actions { AllZip (IsActionOf (world_view world.now)) (plan_view plan.now).actions (ground_actions_view fits.now.actions) }
-    requires lines { AllZip (IsDecomposed (world_view world.now)) (plan_view plan.now).decompositions (decomposed_lines fits.now.lines) }
+    requires actions { AllZip (IsActionOf (world_view world.now)) (plan_view plan.now).actions
+        (ground_actions_view fits.now.actions) }
+    requires lines { AllZip (IsDecomposed (world_view world.now))
+        (plan_view plan.now).decompositions (decomposed_lines fits.now.lines) }
     ensures ok { OnOk result (FitWorld (world_view world.now) (plan_view plan.now)) }
     ensures err { IfErr result (IsTreeFault (world_view world.now) (plan_view plan.now)) }
 {
@@ -200,7 +228,8 @@ fn build_shaped<'p, 's>(
 ) -> Result<Tree<'p, 's>, TreeFault>
     requires form { FormTree (plan_view plan.now) }
     requires shape { IsShape (plan_view plan.now) (shape_view shape) }
-    ensures ok { IfOk result (λ t. FitWorld (world_view world.now) (plan_view plan.now) × IsTreeOf (world_view world.now) (plan_view plan.now) (tree_view t)) }
+    ensures ok { IfOk result (λ t. FitWorld (world_view world.now) (plan_view plan.now)
+        × IsTreeOf (world_view world.now) (plan_view plan.now) (tree_view t)) }
     ensures err { IfErr result (IsTreeFault (world_view world.now) (plan_view plan.now)) }
 {
     let fits = fit(alloc, world, plan)?;
@@ -229,7 +258,9 @@ impl<'p, 's> Tree<'p, 's> {
         world: &World<'s>,
         plan: &'p PlanText<'s>,
     ) -> Result<Tree<'p, 's>, TreeFault>
-        ensures ok { IfOk result (λ t. FormTree (plan_view plan.now) × FitWorld (world_view world.now) (plan_view plan.now) × IsTreeOf (world_view world.now) (plan_view plan.now) (tree_view t)) }
+        ensures ok { IfOk result (λ t. FormTree (plan_view plan.now)
+            × FitWorld (world_view world.now) (plan_view plan.now)
+            × IsTreeOf (world_view world.now) (plan_view plan.now) (tree_view t)) }
         ensures tree { IfOk result (λ t. IsTreeIn (world_view world.now) (tree_view t)) }
         ensures err { IfErr result (IsTreeFault (world_view world.now) (plan_view plan.now)) }
     {

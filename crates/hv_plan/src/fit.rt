@@ -64,7 +64,8 @@ fn objects_named<'s>(
     world: &World<'s>,
     names: &[Name<'s>],
 ) -> Result<Option<Vec<ObjectId>>, Memory>
-    ensures { IfOk result (λ o. option_map (λ os. map object_number os.items) o ≡ every (place_in (world_view world.now).objects) (map text_of names.now)) }
+    ensures { IfOk result (λ o. option_map (λ os. map object_number os.items) o
+        ≡ every (place_in (world_view world.now).objects) (map text_of names.now)) }
 {
     let mut objects = room;
     objects.clear();
@@ -95,7 +96,9 @@ fn parameters_of<'a, 's>(world: &'a World<'s>, name: TaskName) -> &'a [TypeId]
 
 // What keeps objects from being as the parameters of a task or an action.
 fn objects_fault(world: &World<'_>, name: TaskName, objects: &[ObjectId]) -> Option<CauseKind>
-    ensures { MatchOption result (AreOf (world_view world.now).typing (map object_number objects.now) (parameters_of (world_view world.now) (name_view name))) (IsObjectFault (world_view world.now) (name_view name) (map object_number objects.now)) }
+    ensures { MatchOption result (AreOf (world_view world.now).typing
+        (map object_number objects.now) (parameters_of (world_view world.now) (name_view name)))
+        (IsObjectFault (world_view world.now) (name_view name) (map object_number objects.now)) }
 {
     let types = parameters_of(world, name);
     if objects.len() != types.len() {
@@ -167,7 +170,8 @@ fn is_for_task(method: &Method<'_>, task: TaskId) -> bool
 
 // Whether the method of a number is for a task.
 fn is_for(world: &World<'_>, method: MethodId, task: TaskId) -> bool
-    ensures { IsTrue result ↔ MatchOption (slice_get (world_view world.now).methods method.0) ⊥ (λ m. IsForTask m.task task.0) }
+    ensures { IsTrue result ↔ MatchOption (slice_get (world_view world.now).methods method.0) ⊥
+        (λ m. IsForTask m.task task.0) }
 {
     match world.method(method) {
         Some(method) => is_for_task(method, task),

@@ -111,7 +111,8 @@ fn read_form<'s>(alloc: Global, number: u32, words: &[Word<'s>]) -> Result<LineT
 
 // The root line of these ids.
 fn read_root<'s>(alloc: Global, number: u32, words: &[Word<'s>]) -> Result<LineText<'s>, PlanFault>
-    ensures { Reads form_view result (listed number (option_map (root_of number) (every id_at (map piece_of words.now)))) }
+    ensures { Reads form_view result
+        (listed number (option_map (root_of number) (every id_at (map piece_of words.now)))) }
 {
     match read_ids(alloc, words)? {
         Ids::Fit(ids) => Ok(LineText::Root(ids, number)),
@@ -127,7 +128,9 @@ fn read_node<'s>(
     id: Name<'s>,
     words: &[Word<'s>],
 ) -> Result<LineText<'s>, PlanFault>
-    ensures { Reads form_view result (listed number (node_of number (id_of (text_of id.entry)) (map piece_of words.now) (parts_of (map piece_of words.now)))) }
+    ensures { Reads form_view result
+        (listed number (node_of number (id_of (text_of id.entry)) (map piece_of words.now)
+        (parts_of (map piece_of words.now)))) }
 {
     match parts(words) {
         None => read_action(alloc, number, id, words),
@@ -137,7 +140,9 @@ fn read_node<'s>(
 
 // What stands before the first arrow, and what stands behind it; None where no arrow stands among the words.
 fn parts<'a, 's>(words: &'a [Word<'s>]) -> Option<(&'a [Word<'s>], &'a [Word<'s>])>
-    ensures { MatchOption result (parts_of (map piece_of words.now) ≡ None) (λ h. parts_of (map piece_of words.now) ≡ Some (record { before = map piece_of h.0.now; after = map piece_of h.1.now })) }
+    ensures { MatchOption result (parts_of (map piece_of words.now) ≡ None)
+        (λ h. parts_of (map piece_of words.now)
+        ≡ Some (record { before = map piece_of h.0.now; after = map piece_of h.1.now })) }
 {
     for i in 0..words.len() {
         if is_arrow(words[i]) {
@@ -164,7 +169,9 @@ fn read_action<'s>(
     id: Name<'s>,
     task: &[Word<'s>],
 ) -> Result<LineText<'s>, PlanFault>
-    ensures { Reads form_view result (listed number (action_of number (id_of (text_of id.entry)) (task_of (map piece_of task.now)))) }
+    ensures { Reads form_view result
+        (listed number (action_of number (id_of (text_of id.entry))
+        (task_of (map piece_of task.now)))) }
 {
     let Some(TaskText { name, arguments }) = read_task(alloc, task)? else {
         return Err(PlanFault::BadLine(number));
@@ -189,7 +196,9 @@ fn read_decomposition<'s>(
     task: &[Word<'s>],
     after: &[Word<'s>],
 ) -> Result<LineText<'s>, PlanFault>
-    ensures { Reads form_view result (listed number (decomposition_of number (id_of (text_of id.entry)) (task_of (map piece_of task.now)) (method_of (map piece_of after.now)))) }
+    ensures { Reads form_view result
+        (listed number (decomposition_of number (id_of (text_of id.entry))
+        (task_of (map piece_of task.now)) (method_of (map piece_of after.now)))) }
 {
     let Some(task) = read_task(alloc, task)? else {
         return Err(PlanFault::BadLine(number));
@@ -211,7 +220,9 @@ fn decomposition<'s>(
     method: Name<'s>,
     children: Ids,
 ) -> Result<LineText<'s>, PlanFault>
-    ensures { Reads form_view result (decomposition_said number id (task_view task.entry) (text_of method.entry) (ids_view children)) }
+    ensures { Reads form_view result
+        (decomposition_said number id (task_view task.entry) (text_of method.entry)
+        (ids_view children)) }
 {
     match id {
         Id::NoId => Err(PlanFault::BadLine(number)),

@@ -27,10 +27,12 @@ impl<'s> Lines<'s> {
     /// The next line.
     pub(crate) fn next(&mut self) -> Option<Line<'s>>
         requires { IsWithin self.old }
-        ensures line { MatchOption result (lines_left self.old ≡ []) (λ l. lines_left self.old ≡ line_view l ∷ lines_left self.new) }
+        ensures line { MatchOption result (lines_left self.old ≡ [])
+            (λ l. lines_left self.old ≡ line_view l ∷ lines_left self.new) }
         ensures within { MatchOption result (Unit {0}) (λ l. IsWithin self.new) }
         ensures size { MatchOption result (Unit {0}) (λ l. length l.bytes.now ≤ MOST_BYTES) }
-        ensures shorter { MatchOption result (Unit {0}) (λ l. length self.new.left.now < length self.old.left.now) }
+        ensures shorter { MatchOption result (Unit {0})
+            (λ l. length self.new.left.now < length self.old.left.now) }
     {
         if self.left.is_empty() {
             return None;

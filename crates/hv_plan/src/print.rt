@@ -40,7 +40,8 @@ fn put_plan(out: &mut Vec<u8>, plan: &PlanText<'_>) -> Result<(), Memory>
 
 // Puts the lines of actions.
 fn put_actions(out: &mut Vec<u8>, lines: &ActionLines<'_>) -> Result<(), Memory>
-    ensures { OnOk result (out.new.items ≡ out.old.items ++ flat_map action_text (actions_view lines.now)) }
+    ensures { OnOk result (out.new.items ≡ out.old.items ++ flat_map action_text
+        (actions_view lines.now)) }
 {
     for line in lines.iter() {
         put_action(out, line)?;
@@ -59,7 +60,8 @@ fn put_action(out: &mut Vec<u8>, line: ActionLine<'_, '_>) -> Result<(), Memory>
 
 // Puts the root line of these ids.
 fn put_root(out: &mut Vec<u8>, ids: &[u64]) -> Result<(), Memory>
-    ensures { OnOk result (out.new.items ≡ out.old.items ++ (codes "root" ++ (ids_text ids.now ++ codes "\n"))) }
+    ensures { OnOk result (out.new.items ≡ out.old.items
+        ++ (codes "root" ++ (ids_text ids.now ++ codes "\n"))) }
 {
     out.extend_from_slice(b"root")?;
     put_ids(out, ids)?;
@@ -69,7 +71,8 @@ fn put_root(out: &mut Vec<u8>, ids: &[u64]) -> Result<(), Memory>
 
 // Puts the lines of decompositions.
 fn put_decompositions(out: &mut Vec<u8>, lines: &DecompositionLines<'_>) -> Result<(), Memory>
-    ensures { OnOk result (out.new.items ≡ out.old.items ++ flat_map decomposition_text (decompositions_view lines.now)) }
+    ensures { OnOk result (out.new.items ≡ out.old.items ++ flat_map decomposition_text
+        (decompositions_view lines.now)) }
 {
     for line in lines.iter() {
         put_decomposition(out, line)?;
@@ -79,7 +82,8 @@ fn put_decompositions(out: &mut Vec<u8>, lines: &DecompositionLines<'_>) -> Resu
 
 // Puts the line of a decomposition.
 fn put_decomposition(out: &mut Vec<u8>, line: DecompositionLine<'_, '_>) -> Result<(), Memory>
-    ensures { OnOk result (out.new.items ≡ out.old.items ++ decomposition_text (decomposition_view line.entry)) }
+    ensures { OnOk result (out.new.items ≡ out.old.items ++ decomposition_text
+        (decomposition_view line.entry)) }
 {
     put_node(out, line.id, line.name, line.arguments)?;
     out.extend_from_slice(b" ->")?;
@@ -96,7 +100,8 @@ fn put_node(
     name: Name<'_>,
     arguments: &[Name<'_>],
 ) -> Result<(), Memory>
-    ensures { OnOk result (out.new.items ≡ out.old.items ++ node_text id (text_of name.entry) (map text_of arguments.now)) }
+    ensures { OnOk result (out.new.items ≡ out.old.items ++ node_text id (text_of name.entry)
+        (map text_of arguments.now)) }
 {
     put_id(out, id)?;
     put_word(out, name)?;

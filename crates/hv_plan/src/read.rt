@@ -53,8 +53,10 @@ fn read_text<'s>(alloc: Global, text: &'s [u8]) -> Result<PlanText<'s>, PlanFaul
 // What stands behind the first start marker.
 fn behind_start<'s>(lines: Lines<'s>) -> Option<Lines<'s>>
     requires { IsWithin lines }
-    ensures exact { MatchOption result (list_any is_start (lines_left lines.entry) ≡ false) (λ ls. list_any is_start (lines_left lines.entry) ≡ true) }
-    ensures behind { MatchOption result (Unit {0}) (λ ls. behind_start (lines_left lines.entry) ≡ lines_left ls) }
+    ensures exact { MatchOption result (list_any is_start (lines_left lines.entry) ≡ false)
+        (λ ls. list_any is_start (lines_left lines.entry) ≡ true) }
+    ensures behind { MatchOption result (Unit {0})
+        (λ ls. behind_start (lines_left lines.entry) ≡ lines_left ls) }
     ensures within { MatchOption result (Unit {0}) IsWithin }
 {
     let mut lines = lines;

@@ -41,7 +41,8 @@ use walk::walk_from;
 /// `RepeatedId`, else `UnknownChild`, else `TwoParents`, else `Unreached`, each at the first line at fault; `Memory`
 /// where a growth was refused.
 pub(crate) fn shape_of(alloc: Global, plan: &PlanText<'_>) -> Result<Shape, TreeFault>
-    ensures ok { IfOk result (λ s. FormTree (plan_view plan.now) × IsShape (plan_view plan.now) (shape_view s)) }
+    ensures ok { IfOk result (λ s. FormTree (plan_view plan.now)
+        × IsShape (plan_view plan.now) (shape_view s)) }
     ensures err { IfErr result (IsFormFault (plan_view plan.now)) }
 {
     let table = known_lines(alloc, plan)?;
@@ -100,7 +101,8 @@ fn shape_below(alloc: Global, plan: &PlanText<'_>, below: &Below) -> Result<Shap
     requires known { AreKnown (plan_view plan.now) }
     requires single { Once (all_children (plan_view plan.now)) }
     requires none { NoneBelow (plan_view plan.now) 53 }
-    ensures ok { IfOk result (λ s. FormTree (plan_view plan.now) × IsShape (plan_view plan.now) (shape_view s)) }
+    ensures ok { IfOk result (λ s. FormTree (plan_view plan.now)
+        × IsShape (plan_view plan.now) (shape_view s)) }
     ensures err { IfErr result (IsFormFault (plan_view plan.now)) }
 {
     let met = walk_below(alloc, plan, below)?;
@@ -115,7 +117,9 @@ fn walk_below(alloc: Global, plan: &PlanText<'_>, below: &Below) -> Result<Vec<u
     requires once { Once (ids (plan_view plan.now)) }
     requires known { AreKnown (plan_view plan.now) }
     requires none { NoneBelow (plan_view plan.now) 53 }
-    ensures met { IfOk result (λ v. HasMetAll below.now.root.items (kids below.now.lists (length (plan_view plan.now).actions)) (length (ids (plan_view plan.now))) v.items) }
+    ensures met { IfOk result (λ v. HasMetAll below.now.root.items
+        (kids below.now.lists (length (plan_view plan.now).actions))
+        (length (ids (plan_view plan.now))) v.items) }
     ensures err { IfErr result (IsFormFault (plan_view plan.now)) }
 {
     let actions = plan.actions.len();
@@ -147,7 +151,8 @@ fn first_unmet(is_met: &[bool], lines: &[u32]) -> Option<u32>
 // The first line that was not met.
 fn unmet_line(alloc: Global, plan: &PlanText<'_>, is_met: &[bool]) -> Result<Option<u32>, Memory>
     requires { length is_met.now ≡ length (ids (plan_view plan.now)) }
-    ensures { IfOk result (IsFirst (IsMissed (is_marked is_met.now) (lines_of_heads (plan_view plan.now)) (length is_met.now))) }
+    ensures { IfOk result (IsFirst (IsMissed (is_marked is_met.now)
+        (lines_of_heads (plan_view plan.now)) (length is_met.now))) }
 {
     let lines = line_numbers(alloc, plan)?;
     Ok(first_unmet(is_met, &lines))
@@ -165,8 +170,11 @@ fn numbered(
     requires once { Once (ids (plan_view plan.now)) }
     requires known { AreKnown (plan_view plan.now) }
     requires single { Once (all_children (plan_view plan.now)) }
-    requires met { HasMetAll below.now.root.items (kids below.now.lists (length (plan_view plan.now).actions)) (length (ids (plan_view plan.now))) met.items }
-    ensures { IfOk result (λ s. FormTree (plan_view plan.now) × IsShape (plan_view plan.now) (shape_view s)) }
+    requires met { HasMetAll below.now.root.items
+        (kids below.now.lists (length (plan_view plan.now).actions))
+        (length (ids (plan_view plan.now))) met.items }
+    ensures { IfOk result (λ s. FormTree (plan_view plan.now)
+        × IsShape (plan_view plan.now) (shape_view s)) }
 {
     let actions = plan.actions.len();
     let numbering = number_met(alloc, actions, below.lists.len(), met)?;

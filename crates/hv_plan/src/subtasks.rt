@@ -49,10 +49,15 @@ impl Tally {
     fn have_same_names(&mut self, sizes: Sizes, subtasks: &[Subtask]) -> Result<bool, Memory>
         requires size { length self.old.counts.items ≡ sizes.tasks + sizes.actions }
         requires empty { (n : ℕ) → get_or self.old.counts.items n 0 ≡ 0 }
-        requires known { IsSome (every (number_in sizes.tasks sizes.actions) (map name_view self.old.names.items)) }
+        requires known { IsSome (every (number_in sizes.tasks sizes.actions)
+            (map name_view self.old.names.items)) }
         ensures size { length self.new.counts.items ≡ length self.old.counts.items }
         ensures empty { OnOk result ((n : ℕ) → get_or self.new.counts.items n 0 ≡ 0) }
-        ensures same { IfOk result (λ b. MatchBool b ((n : value.TaskName) → multiplicity n (map name_view self.old.names.items) ≡ multiplicity n (names_of (map subtask_view subtasks.now))) ((n : value.TaskName) × (multiplicity n (map name_view self.old.names.items) ≡ multiplicity n (names_of (map subtask_view subtasks.now)) → ⊥))) }
+        ensures same { IfOk result (λ b. MatchBool b
+            ((n : value.TaskName) → multiplicity n (map name_view self.old.names.items)
+            ≡ multiplicity n (names_of (map subtask_view subtasks.now)))
+            ((n : value.TaskName) × (multiplicity n (map name_view self.old.names.items)
+            ≡ multiplicity n (names_of (map subtask_view subtasks.now)) → ⊥))) }
     {
         if !put_numbers(&mut self.found, sizes, &self.names)? {
             return Ok(false);
@@ -75,10 +80,15 @@ impl Tally {
     ) -> Result<Option<CauseKind>, Memory>
         requires size { length self.old.counts.items ≡ sizes.tasks + sizes.actions }
         requires empty { (n : ℕ) → get_or self.old.counts.items n 0 ≡ 0 }
-        requires known { IsSome (every (number_in sizes.tasks sizes.actions) (map name_view self.old.names.items)) }
+        requires known { IsSome (every (number_in sizes.tasks sizes.actions)
+            (map name_view self.old.names.items)) }
         ensures size { length self.new.counts.items ≡ length self.old.counts.items }
         ensures empty { OnOk result ((n : ℕ) → get_or self.new.counts.items n 0 ≡ 0) }
-        ensures fault { IfOk result (λ o. MatchOption o (HaveSameNames (map name_view self.old.names.items) (names_of (map subtask_view subtasks.now))) (IsNamesFault (map name_view self.old.names.items) (names_of (map subtask_view subtasks.now)))) }
+        ensures fault { IfOk result
+            (λ o. MatchOption o (HaveSameNames (map name_view self.old.names.items)
+            (names_of (map subtask_view subtasks.now)))
+            (IsNamesFault (map name_view self.old.names.items)
+            (names_of (map subtask_view subtasks.now)))) }
     {
         if self.names.len() != subtasks.len() {
             return Ok(Some(CauseKind::ChildCount));

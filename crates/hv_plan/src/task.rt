@@ -82,7 +82,8 @@ pub(crate) fn name_at<'s>(word: Word<'s>) -> Option<Name<'s>>
 
 // The names that words are, where each is one.
 fn read_names<'s>(alloc: Global, words: &[Word<'s>]) -> Result<Option<Vec<Name<'s>>>, Memory>
-    ensures { IfOk result (λ names. option_map (λ ns. map text_of ns.items) names ≡ every name_at (map piece_of words.now)) }
+    ensures { IfOk result (λ names. option_map (λ ns. map text_of ns.items) names
+        ≡ every name_at (map piece_of words.now)) }
 {
     let mut names = Vec::with_capacity(alloc, words.len())?;
     for word in words {

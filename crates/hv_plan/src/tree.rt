@@ -117,7 +117,8 @@ fn line_node<'a>(
     said: DecomposedLine<'a>,
     children: &'a [Child],
 ) -> Node<'a>
-    ensures { node_view result ≡ node_of_line (decomposition_view line.now) (decomposed_line said.entry) (map child_view children.now) }
+    ensures { node_view result ≡ node_of_line (decomposition_view line.now)
+        (decomposed_line said.entry) (map child_view children.now) }
 {
     Node {
         head: Head::Decomposition {
@@ -152,7 +153,8 @@ impl<'p, 's> Tree<'p, 's> {
 
     // The line of the action of a place in plan order, where there is one.
     fn action_line(&self, action: usize) -> Option<ActionLine<'_, 's>>
-        ensures { option_map action_view result ≡ slice_get (plan_view self.now.plan.now).actions action }
+        ensures { option_map action_view result
+            ≡ slice_get (plan_view self.now.plan.now).actions action }
     {
         self.plan.actions.get(action)
     }
@@ -192,7 +194,10 @@ impl<'p, 's> Tree<'p, 's> {
 
     // The node of a number, whose line has this place.
     fn node_of_place(&self, node: usize, place: Option<usize>) -> Node<'_>
-        ensures { node_view result ≡ node_of (plan_view self.now.plan.now) (option_and_then (slice_get (plan_view self.now.plan.now).decompositions) place) (option_and_then (slice_get (decomposed_lines self.now.said)) place) (children_of_node (shape_view self.now.shape) node) }
+        ensures { node_view result ≡ node_of (plan_view self.now.plan.now)
+            (option_and_then (slice_get (plan_view self.now.plan.now).decompositions) place)
+            (option_and_then (slice_get (decomposed_lines self.now.said)) place)
+            (children_of_node (shape_view self.now.shape) node) }
     {
         let children = self.children_of(node);
         let Some(place) = place else {

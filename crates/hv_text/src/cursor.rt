@@ -70,7 +70,8 @@ fn balance(alloc: Global, text: &[u8]) -> Result<(), TextFault>
 
 // The list of these members, from its parenthesis at `start` to the one that ends at `past`.
 fn list_of<'s>(members: Vec<Sexp<'s>>, start: u32, past: u32) -> Sexp<'s>
-    ensures { tree result ≡ list (trees members.entry.items) (record { start = start; past = past }) }
+    ensures { tree result ≡ list (trees members.entry.items)
+        (record { start = start; past = past }) }
 {
     Sexp::List(members, Span { start, past })
 }
@@ -127,7 +128,8 @@ impl<'s> Cursor<'s> {
     /// Behind the `)` that comes next, with the place where it ends; None where none does.
     pub fn leave(self) -> Option<(u32, Cursor<'s>)>
         ensures some { IfSome result (λ p. rest_at self.entry ≡ upto none p.0 (rest_at p.1)) }
-        ensures none { IfNone result (here (rest_at self.entry) ≡ none → rest_at self.entry ≡ last none) }
+        ensures none { IfNone result
+            (here (rest_at self.entry) ≡ none → rest_at self.entry ≡ last none) }
         ensures less { IfSome result (λ p. left_at p.1 < left_at self.entry) }
     {
         match self.next() {
@@ -148,7 +150,8 @@ impl<'s> Cursor<'s> {
     #[cycle(expressions)]
     pub fn read_one(self, alloc: Global) -> Result<Option<(Sexp<'s>, Cursor<'s>)>, Memory>
         ensures none { IfOk result (λ o. IfNone o (here (rest_at self.entry) ≡ none)) }
-        ensures some { IfOk result (λ o. IfSome o (λ p. rest_at self.entry ≡ add (tree p.0) (rest_at p.1))) }
+        ensures some { IfOk result (λ o. IfSome o
+            (λ p. rest_at self.entry ≡ add (tree p.0) (rest_at p.1))) }
         ensures less { IfOk result (λ o. IfSome o (λ p. left_at p.1 < left_at self.entry)) }
     {
         match self.next() {
@@ -176,7 +179,8 @@ impl<'s> Cursor<'s> {
     /// Memory ran out.
     #[cycle(expressions)]
     pub fn read_rest(self, alloc: Global) -> Result<(Vec<Sexp<'s>>, Cursor<'s>), Memory>
-        ensures all { IfOk result (λ p. rest_at self.entry ≡ add_all (trees p.0.items) (rest_at p.1)) }
+        ensures all { IfOk result (λ p. rest_at self.entry
+            ≡ add_all (trees p.0.items) (rest_at p.1)) }
         ensures end { IfOk result (λ p. here (rest_at p.1) ≡ none) }
         ensures less { IfOk result (λ p. left_at p.1 ≤ left_at self.entry) }
     {

@@ -64,7 +64,8 @@ pub trait Sink {
         requires { failures self.old < 2 ^ 64 - 1 }
         ensures bound { IfOk result (λ n. n ≤ length bytes.now) }
         ensures bytes { WriteAppends (taken self.old) (taken self.new) result bytes.now }
-        ensures counted { failures self.new ≡ failures self.old + failure_of result (length bytes.now) };
+        ensures counted { failures self.new
+            ≡ failures self.old + failure_of result (length bytes.now) };
 }
 
 /// All bytes up to the end, where they are no more than the limit.
@@ -78,7 +79,8 @@ pub fn read_all<R: Source>(
     requires { R.failures reader.old < 2 ^ 64 - 1 }
     ensures ok { IfOk result (λ v. IsRead (R.left reader.old) (R.left reader.new) limit v.items) }
     ensures err { IfErr result (IsReadFault (R.left reader.old) (R.left reader.new) limit) }
-    ensures failures { R.failures reader.new ≡ R.failures reader.old + (if is_device_fault result then 1 else 0) }
+    ensures failures { R.failures reader.new
+        ≡ R.failures reader.old + (if is_device_fault result then 1 else 0) }
 {
     let mut bytes = Vec::new(alloc);
     let mut chunk = [0; 65536];
@@ -125,8 +127,10 @@ pub fn write_all<W: Sink>(out: &mut W, bytes: &[u8]) -> Result<(), WriteFault>
 /// Writes texts one after another. Where a write fails, a beginning of them was written. No memory is taken.
 pub fn write_parts<W: Sink>(out: &mut W, parts: &[&[u8]]) -> Result<(), WriteFault>
     requires { W.failures out.old < 2 ^ 64 - 1 }
-    ensures ok { OnOk result (Appends (W.taken out.old) (W.taken out.new) (flat_map (λ p. p.now) parts.now)) }
-    ensures err { OnErr result (AppendsBeginning (W.taken out.old) (W.taken out.new) (flat_map (λ p. p.now) parts.now)) }
+    ensures ok { OnOk result (Appends (W.taken out.old) (W.taken out.new)
+        (flat_map (λ p. p.now) parts.now)) }
+    ensures err { OnErr result (AppendsBeginning (W.taken out.old) (W.taken out.new)
+        (flat_map (λ p. p.now) parts.now)) }
     ensures failures { W.failures out.new ≡ W.failures out.old + (if is_ok result then 0 else 1) }
 {
     for part in parts {

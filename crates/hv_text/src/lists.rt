@@ -104,7 +104,8 @@ fn start(ends: &[u32], place: usize) -> usize
 
 // Notes where one more list ends.
 fn push_end(ends: &mut Vec<u32>, end: usize) -> Result<(), Memory>
-    ensures { ends.new.items ≡ (if is_ok result then ends.old.items ++ end ∷ [] else ends.old.items) }
+    ensures { ends.new.items ≡ (if is_ok result then ends.old.items ++ end ∷ [] else
+        ends.old.items) }
 {
     let end = u32::try_from(end).map_err(|_| Memory)?;
     ends.push(end)?;

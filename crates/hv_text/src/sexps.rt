@@ -20,7 +20,8 @@ fn fault(kind: TextKind, span: Span) -> TextFault
 
 // The list of these members, from its parenthesis at `start` to the one that ends at `past`.
 fn list_of<'s>(members: Vec<Sexp<'s>>, start: u32, past: u32) -> Sexp<'s>
-    ensures { tree result ≡ list (trees members.entry.items) (record { start = start; past = past }) }
+    ensures { tree result ≡ list (trees members.entry.items)
+        (record { start = start; past = past }) }
 {
     Sexp::List(members, Span { start, past })
 }

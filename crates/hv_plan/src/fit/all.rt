@@ -50,7 +50,8 @@ fn note_action(
     line: u32,
 ) -> Result<Vec<ObjectId>, Memory>
     ensures told { OnOk result (IsTold fit) }
-    ensures actions { OnOk result (ground_actions_view actions.new ≡ ground_actions_view actions.old ++ map grounded_view (kept fit)) }
+    ensures actions { OnOk result (ground_actions_view actions.new
+        ≡ ground_actions_view actions.old ++ map grounded_view (kept fit)) }
     ensures cause { OnOk result (cause.new ≡ earlier cause.old (cause_at fit line)) }
 {
     match fit {
@@ -77,7 +78,8 @@ fn note_line(
 ) -> Result<Vec<ObjectId>, Memory>
     requires { AreTidy lines.old }
     ensures told { OnOk result (IsTold fit) }
-    ensures lines { OnOk result (decomposed_lines lines.new ≡ decomposed_lines lines.old ++ map decomposed_view (kept fit)) }
+    ensures lines { OnOk result (decomposed_lines lines.new
+        ≡ decomposed_lines lines.old ++ map decomposed_view (kept fit)) }
     ensures tidy { OnOk result (AreTidy lines.new) }
     ensures cause { OnOk result (cause.new ≡ earlier cause.old (cause_at fit line)) }
 {
@@ -100,7 +102,9 @@ fn fit_actions<'s>(
     world: &World<'s>,
     lines: &ActionLines<'s>,
 ) -> Result<FittedActions, Memory>
-    ensures { IfOk result (λ f. AreFitted (world_view world.now) action_entry (IsActionOf (world_view world.now)) (actions_view lines.now) (ground_actions_view f.actions) f.cause) }
+    ensures { IfOk result (λ f. AreFitted (world_view world.now) action_entry
+        (IsActionOf (world_view world.now)) (actions_view lines.now) (ground_actions_view f.actions)
+        f.cause) }
 {
     let mut actions = GroundActions::with_capacity(alloc, lines.len())?;
     let mut cause = None;
@@ -118,7 +122,9 @@ fn fit_lines<'s>(
     world: &World<'s>,
     decompositions: &DecompositionLines<'s>,
 ) -> Result<FittedLines, Memory>
-    ensures { IfOk result (λ f. AreFitted (world_view world.now) line_entry (IsDecomposed (world_view world.now)) (decompositions_view decompositions.now) (decomposed_lines f.lines) f.cause) }
+    ensures { IfOk result (λ f. AreFitted (world_view world.now) line_entry
+        (IsDecomposed (world_view world.now)) (decompositions_view decompositions.now)
+        (decomposed_lines f.lines) f.cause) }
 {
     let mut lines = DecomposedLines::with_capacity(alloc, decompositions.len())?;
     let mut cause = None;
@@ -142,8 +148,10 @@ pub(crate) fn fit<'s>(
     plan: &PlanText<'s>,
 ) -> Result<Fits, TreeFault>
     requires { FormTree (plan_view plan.now) }
-    ensures actions { IfOk result (λ f. AllZip (IsActionOf (world_view world.now)) (plan_view plan.now).actions (ground_actions_view f.actions)) }
-    ensures lines { IfOk result (λ f. AllZip (IsDecomposed (world_view world.now)) (plan_view plan.now).decompositions (decomposed_lines f.lines)) }
+    ensures actions { IfOk result (λ f. AllZip (IsActionOf (world_view world.now))
+        (plan_view plan.now).actions (ground_actions_view f.actions)) }
+    ensures lines { IfOk result (λ f. AllZip (IsDecomposed (world_view world.now))
+        (plan_view plan.now).decompositions (decomposed_lines f.lines)) }
     ensures err { IfErr result (IsTreeFault (world_view world.now) (plan_view plan.now)) }
 {
     let FittedActions { actions, cause } = fit_actions(alloc, world, &plan.actions)?;

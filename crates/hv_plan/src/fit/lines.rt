@@ -77,7 +77,9 @@ impl DecomposedLines {
     /// `Memory` where a growth was refused, or where all lines together would have 2^32 objects.
     pub(crate) fn push(&mut self, line: &Decomposed) -> Result<(), Memory>
         requires { AreTidy self.old }
-        ensures lines { OnOk result (decomposed_lines self.new ≡ decomposed_lines self.old ++ decomposed_view line.now ∷ []) }
+        ensures lines { OnOk result
+            (decomposed_lines self.new ≡ decomposed_lines self.old ++ decomposed_view line.now
+            ∷ []) }
         ensures tidy { OnOk result (AreTidy self.new) }
     {
         self.objects.push(&line.objects)?;

@@ -161,7 +161,8 @@ impl<'s> ActionLines<'s> {
     /// `Memory` where a growth was refused, or where all lines together would have 2^32 arguments.
     pub(crate) fn push(&mut self, line: ActionLine<'_, 's>) -> Result<(), Memory>
         requires { AreTidyActions self.old }
-        ensures lines { OnOk result (actions_view self.new ≡ actions_view self.old ++ action_view line.entry ∷ []) }
+        ensures lines { OnOk result
+            (actions_view self.new ≡ actions_view self.old ++ action_view line.entry ∷ []) }
         ensures tidy { OnOk result (AreTidyActions self.new) }
     {
         self.arguments.push(line.arguments)?;

@@ -158,7 +158,8 @@ impl<'s> DecompositionLines<'s> {
 
     /// The line at a place; None where there is none.
     pub fn get(&self, place: usize) -> Option<DecompositionLine<'_, 's>>
-        ensures { option_map decomposition_view result ≡ slice_get (decompositions_view self.now) place }
+        ensures { option_map decomposition_view result
+            ≡ slice_get (decompositions_view self.now) place }
     {
         if place < self.len() {
             Some(self.at(place))
@@ -170,7 +171,8 @@ impl<'s> DecompositionLines<'s> {
     /// The line at a place.
     pub(crate) fn at(&self, place: usize) -> DecompositionLine<'_, 's>
         requires { place < length (decompositions_view self.now) }
-        ensures { slice_get (decompositions_view self.now) place ≡ Some (decomposition_view result) }
+        ensures { slice_get (decompositions_view self.now) place
+            ≡ Some (decomposition_view result) }
     {
         let head = self.heads[place];
         DecompositionLine {
@@ -190,7 +192,9 @@ impl<'s> DecompositionLines<'s> {
     /// `Memory` where a growth was refused, or where all lines together would have 2^32 arguments or children.
     pub(crate) fn push(&mut self, line: DecompositionLine<'_, 's>) -> Result<(), Memory>
         requires { AreTidy self.old }
-        ensures lines { OnOk result (decompositions_view self.new ≡ decompositions_view self.old ++ decomposition_view line.entry ∷ []) }
+        ensures lines { OnOk result
+            (decompositions_view self.new ≡ decompositions_view self.old ++ decomposition_view
+            line.entry ∷ []) }
         ensures tidy { OnOk result (AreTidy self.new) }
     {
         self.arguments.push(line.arguments)?;

@@ -35,7 +35,8 @@ fn line_ids(alloc: Global, plan: &PlanText<'_>) -> Result<Vec<u64>, Memory>
 }
 
 fn push_action_ids(ids: &mut Vec<u64>, lines: &ActionLines<'_>) -> Result<(), Memory>
-    ensures { OnOk result (ids.new.items ≡ ids.old.items ++ map (λ a. a.id) (actions_view lines.now)) }
+    ensures { OnOk result (ids.new.items ≡ ids.old.items ++ map (λ a. a.id)
+        (actions_view lines.now)) }
 {
     for line in lines.iter() {
         ids.push(line.id)?;
@@ -44,7 +45,8 @@ fn push_action_ids(ids: &mut Vec<u64>, lines: &ActionLines<'_>) -> Result<(), Me
 }
 
 fn push_decomposition_ids(ids: &mut Vec<u64>, lines: &DecompositionLines<'_>) -> Result<(), Memory>
-    ensures { OnOk result (ids.new.items ≡ ids.old.items ++ map (λ d. d.id) (decompositions_view lines.now)) }
+    ensures { OnOk result (ids.new.items ≡ ids.old.items ++ map (λ d. d.id)
+        (decompositions_view lines.now)) }
 {
     for line in lines.iter() {
         ids.push(line.id)?;
@@ -63,7 +65,8 @@ pub(super) fn line_numbers(alloc: Global, plan: &PlanText<'_>) -> Result<Vec<u32
 }
 
 fn push_action_numbers(numbers: &mut Vec<u32>, lines: &ActionLines<'_>) -> Result<(), Memory>
-    ensures { OnOk result (numbers.new.items ≡ numbers.old.items ++ map (λ a. a.line) (actions_view lines.now)) }
+    ensures { OnOk result (numbers.new.items
+        ≡ numbers.old.items ++ map (λ a. a.line) (actions_view lines.now)) }
 {
     for line in lines.iter() {
         numbers.push(line.line)?;
@@ -75,7 +78,8 @@ fn push_decomposition_numbers(
     numbers: &mut Vec<u32>,
     lines: &DecompositionLines<'_>,
 ) -> Result<(), Memory>
-    ensures { OnOk result (numbers.new.items ≡ numbers.old.items ++ map (λ d. d.line) (decompositions_view lines.now)) }
+    ensures { OnOk result (numbers.new.items
+        ≡ numbers.old.items ++ map (λ d. d.line) (decompositions_view lines.now)) }
 {
     for line in lines.iter() {
         numbers.push(line.line)?;
@@ -111,7 +115,8 @@ fn child_ids(alloc: Global, plan: &PlanText<'_>) -> Result<Vec<u64>, Memory>
 }
 
 fn push_child_ids(ids: &mut Vec<u64>, lines: &DecompositionLines<'_>) -> Result<(), Memory>
-    ensures { OnOk result (ids.new.items ≡ ids.old.items ++ flat_map (λ q. q.children) (map line_parent (decompositions_view lines.now))) }
+    ensures { OnOk result (ids.new.items ≡ ids.old.items ++ flat_map (λ q. q.children)
+        (map line_parent (decompositions_view lines.now))) }
 {
     for line in lines.iter() {
         ids.extend_from_slice(line.children)?;
@@ -130,7 +135,9 @@ fn child_numbers(alloc: Global, plan: &PlanText<'_>) -> Result<Vec<u32>, Memory>
 }
 
 fn push_child_numbers(numbers: &mut Vec<u32>, lines: &DecompositionLines<'_>) -> Result<(), Memory>
-    ensures { OnOk result (numbers.new.items ≡ numbers.old.items ++ flat_map child_lines (map line_parent (decompositions_view lines.now))) }
+    ensures { OnOk result (numbers.new.items
+        ≡ numbers.old.items ++ flat_map child_lines
+        (map line_parent (decompositions_view lines.now))) }
 {
     for line in lines.iter() {
         push_number(numbers, line.line, line.children)?;

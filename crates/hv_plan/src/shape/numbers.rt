@@ -33,8 +33,10 @@ pub(super) fn short(number: usize) -> Result<u32, Memory>
 // Gives the line of a place the next number.
 fn number_line(numbering: &mut Numbering, line: usize) -> Result<(), Memory>
     requires { line < length numbering.old.numbers.items }
-    ensures lines { OnOk result (numbering.new.lines.items ≡ numbering.old.lines.items ++ line ∷ []) }
-    ensures numbers { OnOk result (numbering.new.numbers.items ≡ slice_set numbering.old.numbers.items line (length numbering.old.lines.items)) }
+    ensures lines { OnOk result (numbering.new.lines.items
+        ≡ numbering.old.lines.items ++ line ∷ []) }
+    ensures numbers { OnOk result (numbering.new.numbers.items
+        ≡ slice_set numbering.old.numbers.items line (length numbering.old.lines.items)) }
 {
     let number = short(numbering.lines.len())?;
     let place = short(line)?;
@@ -53,9 +55,12 @@ fn give_number(
     requires at { at < length met.now }
     requires once { Once met.now }
     requires within { slice_index met.now at < actions + length numbering.old.numbers.items }
-    requires so_far { IsNumbering actions (at + 1) met.now numbering.old.lines.items numbering.old.numbers.items }
-    ensures count { OnOk result (length numbering.new.numbers.items ≡ length numbering.old.numbers.items) }
-    ensures so_far { OnOk result (IsNumbering actions at met.now numbering.new.lines.items numbering.new.numbers.items) }
+    requires so_far { IsNumbering actions (at + 1) met.now numbering.old.lines.items
+        numbering.old.numbers.items }
+    ensures count { OnOk result (length numbering.new.numbers.items
+        ≡ length numbering.old.numbers.items) }
+    ensures so_far { OnOk result (IsNumbering actions at met.now numbering.new.lines.items
+        numbering.new.numbers.items) }
 {
     if let Some(line) = met[at].checked_sub(actions) {
         number_line(numbering, line)?;
@@ -73,7 +78,8 @@ pub(super) fn number_met(
     requires once { Once met.items }
     requires within { (b : ℕ) → b < length met.items → slice_index met.items b < actions + count }
     ensures count { IfOk result (λ n. length n.numbers.items ≡ count) }
-    ensures numbering { IfOk result (λ n. IsNumbering actions 0 met.items n.lines.items n.numbers.items) }
+    ensures numbering { IfOk result
+        (λ n. IsNumbering actions 0 met.items n.lines.items n.numbers.items) }
 {
     let mut numbering = Numbering {
         lines: Vec::with_capacity(alloc, count)?,
@@ -107,7 +113,8 @@ fn put_items(
     places: &[usize],
 ) -> Result<(), Memory>
     requires { (c : ℕ) → Contains places.now c → c < actions + length numbers.now }
-    ensures { OnOk result (map child_view items.new.items ≡ items_at actions numbers.now places.now) }
+    ensures { OnOk result (map child_view items.new.items
+        ≡ items_at actions numbers.now places.now) }
 {
     items.clear();
     for place in places {
@@ -125,7 +132,8 @@ fn push_items(
     places: &[usize],
 ) -> Result<(), Memory>
     requires { (c : ℕ) → Contains places.now c → c < actions + length numbers.now }
-    ensures { OnOk result (map (map child_view) children.new ≡ map (map child_view) children.old ++ items_at actions numbers.now places.now ∷ []) }
+    ensures { OnOk result (map (map child_view) children.new
+        ≡ map (map child_view) children.old ++ items_at actions numbers.now places.now ∷ []) }
 {
     put_items(items, actions, numbers, places)?;
     children.push(items)?;
@@ -140,9 +148,13 @@ pub(super) fn node_children(
     root: &[usize],
     lists: &Lists<usize>,
 ) -> Result<Lists<Child>, Memory>
-    requires root { (c : ℕ) → Contains root.now c → c < actions + length numbering.now.numbers.items }
-    requires lists { (k c : ℕ) → Contains (slice_index_or lists.now k []) c → c < actions + length numbering.now.numbers.items }
-    ensures { IfOk result (λ ls. map (map child_view) ls ≡ children_by_number actions numbering.now.lines.items numbering.now.numbers.items root.now lists.now) }
+    requires root { (c : ℕ) → Contains root.now c
+        → c < actions + length numbering.now.numbers.items }
+    requires lists { (k c : ℕ) → Contains (slice_index_or lists.now k []) c
+        → c < actions + length numbering.now.numbers.items }
+    ensures { IfOk result (λ ls. map (map child_view) ls
+        ≡ children_by_number actions numbering.now.lines.items numbering.now.numbers.items root.now
+        lists.now) }
 {
     let mut children = Lists::with_capacity(alloc, numbering.lines.len().saturating_add(1))?;
     let mut items = Vec::new(alloc);

@@ -36,7 +36,8 @@ fn place_of(table: &Table, count: usize, id: u64) -> usize
 
 // The places of ids; a number of lines for those that begin none of them.
 fn places_of(alloc: Global, table: &Table, count: usize, ids: &[u64]) -> Result<Vec<usize>, Memory>
-    ensures { IfOk result (λ v. v.items ≡ map (λ i. unwrap_or (place_by table.now i) count) ids.now) }
+    ensures { IfOk result (λ v. v.items ≡ map (λ i. unwrap_or (place_by table.now i) count)
+        ids.now) }
 {
     let mut places = Vec::with_capacity(alloc, ids.len())?;
     for id in ids {

@@ -74,7 +74,8 @@ fn table_of(alloc: Global, ids: &[u64], lines: &[u32]) -> Result<Tabled, Memory>
 /// these lines the first.
 pub(super) fn line_table(alloc: Global, plan: &PlanText<'_>) -> Result<Tabled, Memory>
     ensures repeat { IfOk result (λ t. IsLineRepeat (plan_view plan.now) t.repeat) }
-    ensures places { IfOk result (λ t. t.repeat ≡ None → HasPlaces t.table (ids (plan_view plan.now))) }
+    ensures places { IfOk result (λ t. t.repeat ≡ None
+        → HasPlaces t.table (ids (plan_view plan.now))) }
 {
     let begins = begins(alloc, plan)?;
     let tabled = table_of(alloc, &begins.ids, &begins.lines)?;

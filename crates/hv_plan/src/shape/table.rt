@@ -76,7 +76,8 @@ impl Table {
     /// `Memory` where a growth was refused.
     pub(super) fn put(&mut self, id: u64, place: u32) -> Result<Option<u32>, Memory>
         ensures before { IfOk result (λ o. o ≡ place_by self.old id) }
-        ensures places { OnOk result ((i : ℕ) → place_by self.new i ≡ update nat_eq (place_by self.old) id (Some place) i) }
+        ensures places { OnOk result
+            ((i : ℕ) → place_by self.new i ≡ update nat_eq (place_by self.old) id (Some place) i) }
     {
         let at = id as usize;
         if at < self.small.len() {

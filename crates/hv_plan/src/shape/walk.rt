@@ -62,7 +62,8 @@ pub(super) fn walk_from(
 ) -> Result<Walk, Memory>
     requires root { (c : ℕ) → Contains root.now c → c < count }
     requires lists { (v c : ℕ) → Contains (kids lists.now actions v) c → c < count }
-    ensures walk { IfOk result (λ w. IsWalk root.now (kids lists.now actions) w.met.items w.is_met.items) }
+    ensures walk { IfOk result (λ w. IsWalk root.now (kids lists.now actions) w.met.items
+        w.is_met.items) }
     ensures count { IfOk result (λ w. length w.is_met.items ≡ count) }
 {
     let mut walk = Walk {

@@ -21,7 +21,9 @@ fn take_all(counts: &mut [usize], numbers: &[usize]) -> bool
     requires within { All (λ n. n < length counts.old) numbers.now }
     ensures size { length counts.new ≡ length counts.old }
     ensures fewer { (n : ℕ) → get_or counts.new n 0 ≤ get_or counts.old n 0 }
-    ensures taken { MatchBool result ((n : ℕ) → get_or counts.old n 0 ≡ get_or counts.new n 0 + times n numbers.now) ((n : ℕ) × (get_or counts.old n 0 < times n numbers.now)) }
+    ensures taken { MatchBool result
+        ((n : ℕ) → get_or counts.old n 0 ≡ get_or counts.new n 0 + times n numbers.now)
+        ((n : ℕ) × (get_or counts.old n 0 < times n numbers.now)) }
 {
     for number in numbers {
         let left = counts[*number];
@@ -36,7 +38,8 @@ fn take_all(counts: &mut [usize], numbers: &[usize]) -> bool
 // Whether each number of a list is counted no more.
 fn are_spent(counts: &[usize], numbers: &[usize]) -> bool
     requires within { All (λ n. n < length counts.now) numbers.now }
-    ensures { MatchBool result (All (λ n. get_or counts.now n 0 ≡ 0) numbers.now) ((n : ℕ) × (get_or counts.now n 0 ≡ 0 → ⊥)) }
+    ensures { MatchBool result (All (λ n. get_or counts.now n 0 ≡ 0) numbers.now)
+        ((n : ℕ) × (get_or counts.now n 0 ≡ 0 → ⊥)) }
 {
     for number in numbers {
         if counts[*number] != 0 {
@@ -52,7 +55,8 @@ fn clear_all(counts: &mut [usize], numbers: &[usize])
     ensures size { length counts.new ≡ length counts.old }
     ensures cleared { All (λ n. get_or counts.new n 0 ≡ 0) numbers.now }
     ensures fewer { (n : ℕ) → get_or counts.new n 0 ≤ get_or counts.old n 0 }
-    ensures others { (n : ℕ) → times n numbers.now ≡ 0 → get_or counts.new n 0 ≡ get_or counts.old n 0 }
+    ensures others { (n : ℕ) → times n numbers.now ≡ 0
+        → get_or counts.new n 0 ≡ get_or counts.old n 0 }
 {
     for number in numbers {
         counts[*number] = 0;
@@ -65,7 +69,8 @@ pub(crate) fn have_same_counts(counts: &mut [usize], one: &[usize], other: &[usi
     requires one { All (λ n. n < length counts.old) one.now }
     requires other { All (λ n. n < length counts.old) other.now }
     requires empty { (n : ℕ) → get_or counts.old n 0 ≡ 0 }
-    ensures same { MatchBool result ((n : ℕ) → times n one.now ≡ times n other.now) ((n : ℕ) × (times n one.now ≡ times n other.now → ⊥)) }
+    ensures same { MatchBool result ((n : ℕ) → times n one.now ≡ times n other.now)
+        ((n : ℕ) × (times n one.now ≡ times n other.now → ⊥)) }
     ensures size { length counts.new ≡ length counts.old }
     ensures empty { (n : ℕ) → get_or counts.new n 0 ≡ 0 }
 {

@@ -36,7 +36,8 @@ pub(crate) struct Said<'a> {
 impl Sizes {
     /// The sizes of a world; None where there would be too many numbers.
     pub(crate) fn of(world: &World<'_>) -> Option<Sizes>
-        ensures { IfSome result (λ s. (s.tasks ≡ length (world_view world.now).tasks) × (s.actions ≡ length (world_view world.now).actions)) }
+        ensures { IfSome result (λ s. (s.tasks ≡ length (world_view world.now).tasks)
+            × (s.actions ≡ length (world_view world.now).actions)) }
     {
         let tasks = world.tasks().len();
         let actions = world.actions().len();
@@ -80,7 +81,8 @@ pub(crate) fn put_numbers(
     sizes: Sizes,
     names: &[TaskName],
 ) -> Result<bool, Memory>
-    ensures { IfOk result (λ b. every (number_in sizes.tasks sizes.actions) (map name_view names.now) ≡ (if b then Some numbers.new.items else None)) }
+    ensures { IfOk result (λ b. every (number_in sizes.tasks sizes.actions)
+        (map name_view names.now) ≡ (if b then Some numbers.new.items else None)) }
 {
     numbers.clear();
     for name in names {
@@ -102,7 +104,8 @@ pub(crate) fn put_numbers_of_subtasks(
     sizes: Sizes,
     subtasks: &[Subtask],
 ) -> Result<bool, Memory>
-    ensures { IfOk result (λ b. every (number_in sizes.tasks sizes.actions) (names_of (map subtask_view subtasks.now)) ≡ (if b then Some numbers.new.items else None)) }
+    ensures { IfOk result (λ b. every (number_in sizes.tasks sizes.actions)
+        (names_of (map subtask_view subtasks.now)) ≡ (if b then Some numbers.new.items else None)) }
 {
     numbers.clear();
     for subtask in subtasks {
@@ -117,7 +120,9 @@ pub(crate) fn put_numbers_of_subtasks(
 impl Said<'_> {
     // The task of a node, where there is one.
     fn task_name(&self, node: usize) -> Option<TaskName>
-        ensures { option_map name_view result ≡ item_name (ground_actions_view self.now.actions.now) (decomposed_lines self.now.lines.now) self.now.places.now (items.Task node) }
+        ensures { option_map name_view result
+            ≡ item_name (ground_actions_view self.now.actions.now)
+            (decomposed_lines self.now.lines.now) self.now.places.now (items.Task node) }
     {
         let place = *self.places.get(node)?;
         let line = self.lines.get(place as usize)?;
@@ -126,7 +131,9 @@ impl Said<'_> {
 
     // The name of a child, where there is one.
     fn name(&self, child: Child) -> Option<TaskName>
-        ensures { option_map name_view result ≡ item_name (ground_actions_view self.now.actions.now) (decomposed_lines self.now.lines.now) self.now.places.now (child_view child) }
+        ensures { option_map name_view result
+            ≡ item_name (ground_actions_view self.now.actions.now)
+            (decomposed_lines self.now.lines.now) self.now.places.now (child_view child) }
     {
         match child {
             Child::Action(action) => match self.actions.get(action as usize) {
@@ -147,7 +154,10 @@ impl Said<'_> {
         names: &mut Vec<TaskName>,
         children: &[Child],
     ) -> Result<bool, Memory>
-        ensures { IfOk result (λ b. every (item_name (ground_actions_view self.now.actions.now) (decomposed_lines self.now.lines.now) self.now.places.now) (map child_view children.now) ≡ (if b then Some (map name_view names.new.items) else None)) }
+        ensures { IfOk result (λ b. every
+            (item_name (ground_actions_view self.now.actions.now)
+            (decomposed_lines self.now.lines.now) self.now.places.now) (map child_view children.now)
+            ≡ (if b then Some (map name_view names.new.items) else None)) }
     {
         names.clear();
         for child in children {
