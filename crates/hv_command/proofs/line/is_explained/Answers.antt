@@ -1,7 +1,7 @@
 use Rattle.std.proofs.Common.{rules, codes}
 use Rattle.clap.specs.Words.{found_of}
 use Rattle.clap.proofs.WalkLemmas.{first_value-rows}
-use Rattle.hddlv.proofs.line.is_explained.Goals as goal
+use Rattle.hv_command.proofs.line.is_explained.Goals as goal
 
 pub returns-in-Some : goal.returns-in-Some
 returns-in-Some c =

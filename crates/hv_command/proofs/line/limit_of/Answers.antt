@@ -3,8 +3,8 @@ use Rattle.std.specs.Str.Parse.{ParsesUnsigned, ExplainsUnsignedError, HasUnsign
 use Rattle.std.specs.declared.num.ParseIntError.{ParseIntError}
 use Rattle.clap.specs.Words.{found_of, one_text}
 use Rattle.clap.proofs.WalkLemmas.{one_text-rows}
-use Rattle.hddlv.proofs.Typed.{read_one}
-use Rattle.hddlv.proofs.line.limit_of.Goals as goal
+use Rattle.hv_command.proofs.Typed.{read_one}
+use Rattle.hv_command.proofs.line.limit_of.Goals as goal
 
 pub returns-in-Some : goal.returns-in-Some
 returns-in-Some c =

@@ -3,7 +3,7 @@
 ghost use Rattle.std.specs.Prelude.{◌≡◌, ◌↔◌, ◌∷◌, [], codes, map, IfOk, IfSome, Some, true, false, string_bytes};
 ghost use Rattle.clap.specs.Words.{app_of, subcommand_of, rule_of, rows_of, found_of, first_of, with_rule, with_subcommand};
 ghost use Rattle.clap.specs.declared.builder.command.Command.TheViews.{out-Command};
-ghost use Rattle.hddlv.specs.Line.{line, judge_line, recheck_line, print_line, limit_rule, explain_rule, file_rule, with_plan_rules, command_of, file_arguments, HasFiles, HasLimit, HasOptions, IsJobOf};
+ghost use Rattle.hv_command.specs.Line.{line, judge_line, recheck_line, print_line, limit_rule, explain_rule, file_rule, with_plan_rules, command_of, file_arguments, HasFiles, HasLimit, HasOptions, IsJobOf};
 
 use crate::help;
 use crate::task::{Job, JobFault, Mode};

@@ -5,9 +5,9 @@ use Rattle.std.specs.declared.num.ParseIntError.{ParseIntError}
 use Rattle.clap.specs.Words.{App, Row, Rule, Text, first_of, one_of, new_app, new_rule, with_rule, with_subcommand}
 use Rattle.clap.specs.declared.builder.ArgAction.TheVariants.{SetTrue}
 use Rattle.clap.specs.declared.builder.value_parser.ValueParser.TheVariants as parser
-use Rattle.hddlv.specs.declared.task.Job.{Job}
-use Rattle.hddlv.specs.declared.task.Mode.{Mode}
-use Rattle.hddlv.specs.declared.task.Mode.TheVariants.{Judge, Recheck, PrintDomain, PrintProblem, PrintPlan}
+use Rattle.hv_command.specs.declared.task.Job.{Job}
+use Rattle.hv_command.specs.declared.task.Mode.{Mode}
+use Rattle.hv_command.specs.declared.task.Mode.TheVariants.{Judge, Recheck, PrintDomain, PrintProblem, PrintPlan}
 
 -- the name of the command of a mode
 abbrev pub command_of : Mode → Text
