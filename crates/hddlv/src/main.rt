@@ -7,7 +7,7 @@ mod tests;
 
 ghost use Rattle.std.specs.Prelude.{◌≡◌, ◌≢◌, IfOk, IfErr, length};
 ghost use Rattle.std.specs.Process.{exit_status};
-ghost use Rattle.hv_judge.specs.declared.answer.Which.TheVariants as texts;
+ghost use Rattle.hv_answer.specs.declared.answer.Which.TheVariants as texts;
 ghost use Rattle.hv_judge.specs.declared.running.RunFault.TheVariants as faults;
 ghost use Rattle.hddlv.specs.Ends.{status_of};
 ghost use Rattle.hv_command.specs.Line.{file_arguments};
