@@ -1,8 +1,8 @@
 -- Which readers a run can blame.
 use Rattle.std.proofs.Common.{◌≢◌, ℕ, List, Option, Result, Ok, Err, IfErr}
-use Rattle.hv_judge.specs.declared.answer.Kind.{Kind}
-use Rattle.hv_judge.specs.declared.answer.Which.{Which}
-use Rattle.hv_judge.specs.declared.answer.Which.TheVariants as texts
+use Rattle.hv_answer.specs.declared.answer.Kind.{Kind}
+use Rattle.hv_answer.specs.declared.answer.Which.{Which}
+use Rattle.hv_answer.specs.declared.answer.Which.TheVariants as texts
 use Rattle.hv_judge.specs.declared.running.RunFault.{RunFault}
 use Rattle.hv_judge.specs.declared.running.RunFault.TheVariants as faults
 use Rattle.hv_judge.specs.Runs.{IfHalted, IsFailedRead, IsHaltOfText, text_failed, text_given, IsHaltOfProblem, problem_failed, problem_given, IsHaltOf, domain_failed, domain_given}

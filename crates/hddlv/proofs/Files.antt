@@ -2,8 +2,8 @@
 use Rattle.std.proofs.Common.{◌≡◌, List, Option, None, Some, Result, Ok, Err, IfOk, length, string_bytes, sym, ◌∙◌, ap}
 use Rattle.std.proofs.lemmas.List.{length-map}
 use Rattle.clap.specs.Words.{Row, Text, first_of}
-use Rattle.hddlv.specs.Line.{file_arguments, IsJobOf}
-use Rattle.hddlv.specs.declared.task.Job.{Job}
+use Rattle.hv_command.specs.Line.{file_arguments, IsJobOf}
+use Rattle.hv_command.specs.declared.task.Job.{Job}
 
 -- a job has a file for each argument that names one
 pub count : (o : Option (Text × List Row)) (job : Job) → IsJobOf o job → length job.files.items ≡ length (file_arguments job.mode)

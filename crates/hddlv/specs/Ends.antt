@@ -1,6 +1,6 @@
 -- How the program ends.
 use Rattle.std.specs.Prelude.{ℕ, List, [], ◌++◌, codes}
-use Rattle.hv_judge.specs.declared.answer.Kind.TheVariants as kinds
+use Rattle.hv_answer.specs.declared.answer.Kind.TheVariants as kinds
 use Rattle.hv_judge.specs.declared.printing.Printed.TheVariants as printed
 use Rattle.hv_judge.specs.declared.rechecking.RecheckKind.TheVariants as rechecked
 use Rattle.hddlv.specs.declared.end.End.{End}

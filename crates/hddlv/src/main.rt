@@ -2,28 +2,24 @@
 #![tactic(auto)]
 
 mod end;
-mod help;
-mod line;
-mod task;
 #[cfg(test)]
 mod tests;
 
 ghost use Rattle.std.specs.Prelude.{◌≡◌, ◌≢◌, IfOk, IfErr, length};
 ghost use Rattle.std.specs.Process.{exit_status};
-ghost use Rattle.hv_judge.specs.declared.answer.Which.TheVariants as texts;
+ghost use Rattle.hv_answer.specs.declared.answer.Which.TheVariants as texts;
 ghost use Rattle.hv_judge.specs.declared.running.RunFault.TheVariants as faults;
 ghost use Rattle.hddlv.specs.Ends.{status_of};
-ghost use Rattle.hddlv.specs.Line.{file_arguments};
+ghost use Rattle.hv_command.specs.Line.{file_arguments};
 
 use end::{End, status, write_end};
+use hv_command::{Job, JobFault, Mode, job};
 use hv_judge::{Kind, RecheckKind, RunFault, Which, run, run_print, run_recheck};
 use hv_text::{FromReader, ToWriter};
-use line::job;
 use std::alloc::Global;
 use std::fs::{self, File};
 use std::process::ExitCode;
 use std::{env, io};
-use task::{Job, JobFault, Mode};
 
 fn open<'a>(rt: &HostRuntime, name: &'a str) -> Result<File, &'a str> {
     fs::open(rt, name).map_err(|_| name)

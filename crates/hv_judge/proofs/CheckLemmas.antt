@@ -14,7 +14,7 @@ use Rattle.hv_match.specs.Candidates.{Tells}
 use Rattle.hv_order.specs.Certified.{Certifies, CountsTo, line_numbers}
 use Rattle.hv_order.specs.Settings.{setting}
 use Rattle.hv_certificate.specs.declared.certificate.Certificate.{Certificate}
-use Rattle.hv_judge.specs.declared.answer.Cause.{Cause}
+use Rattle.hv_answer.specs.declared.answer.Cause.{Cause}
 use Rattle.hv_judge.specs.declared.not_solved.NotSolved.{NotSolved}
 use Rattle.hv_judge.specs.declared.not_solved.NotSolved.TheVariants.{Rejected, Fails, Undecided, Memory}
 use Rattle.hv_judge.specs.Causes.{IsCauseOf}

@@ -3,8 +3,8 @@ use Rattle.std.proofs.Common.{ℕ, List, refl}
 use Rattle.hv_syntax.specs.Values.{Domain, Problem}
 use Rattle.hv_world.specs.Worlds.{world_of}
 use Rattle.hv_plan.specs.Values.{Plan}
-use Rattle.hv_judge.specs.declared.answer.Answer.{Answer}
-use Rattle.hv_judge.specs.declared.answer.Answer.TheVariants.{Solves, Fails, Undecided, Rejected}
+use Rattle.hv_answer.specs.declared.answer.Answer.{Answer}
+use Rattle.hv_answer.specs.declared.answer.Answer.TheVariants.{Solves, Fails, Undecided, Rejected}
 use Rattle.hv_judge.specs.Verdicts.{IsSpelledAs, IsVerdict, Judged}
 use Rattle.hv_judge.specs.Answers.{OneAnswerLaw, SolvesLaw, FailsLaw, CertifiedLaw, ExplainedLaw}
 use Rattle.hv_judge.proofs.LawTexts.{LawsOfTexts, AtTexts, texts_one, rejected_step, spelled_step}

@@ -19,13 +19,14 @@ use Rattle.hv_order.specs.Meanings.{Meaning}
 use Rattle.hv_order.specs.Settings.{setting, IsMeaning, IsSolved, HasCandidate, HaveCandidates, IsFirstWithout}
 use Rattle.hv_order.specs.Certified.{Certifies, CertifiedPlans}
 use Rattle.hv_certificate.specs.declared.certificate.Certificate.{Certificate}
-use Rattle.hv_judge.specs.declared.answer.Answer.{Answer}
-use Rattle.hv_judge.specs.declared.answer.Answer.TheVariants.{Solves, Fails, Undecided, Rejected}
-use Rattle.hv_judge.specs.declared.answer.Cause.{Cause}
-use Rattle.hv_judge.specs.declared.answer.CauseKind.{CauseKind}
-use Rattle.hv_judge.specs.declared.answer.CauseKind.TheVariants as causes
+use Rattle.hv_answer.specs.declared.answer.Answer.{Answer}
+use Rattle.hv_answer.specs.declared.answer.Answer.TheVariants.{Solves, Fails, Undecided, Rejected}
+use Rattle.hv_answer.specs.declared.answer.Cause.{Cause}
+use Rattle.hv_answer.specs.declared.answer.CauseKind.{CauseKind}
+use Rattle.hv_answer.specs.declared.answer.CauseKind.TheVariants as causes
 use Rattle.hv_judge.specs.Solutions.{HasTree, run_of, ReachesGoal, judged_in, judged_without, IsSolution, SolvesBy}
-use Rattle.hv_judge.specs.Causes.{cause_at, cause_nowhere, tree_cause, IsCountWithin, IsCountAbove, IsWithinLimit, IsFirstAbove, IsCauseOf, by_tree, by_action, by_goal, by_binding, by_order, by_precondition}
+use Rattle.hv_answer.specs.Places.{cause_at, cause_nowhere}
+use Rattle.hv_judge.specs.Causes.{tree_cause, IsCountWithin, IsCountAbove, IsWithinLimit, IsFirstAbove, IsCauseOf, by_tree, by_action, by_goal, by_binding, by_order, by_precondition}
 use Rattle.hv_judge.specs.Verdicts.{IsVerdict}
 use Rattle.hv_judge.specs.Answers.{SameAnswer}
 use Rattle.hv_judge.proofs.LawSteps.{Turn, one_turn, Step, one_step, one_there, at_there}

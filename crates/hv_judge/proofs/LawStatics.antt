@@ -18,8 +18,8 @@ use Rattle.hv_world.specs.Names.{is_among, repeated}
 use Rattle.hv_world.specs.Networks.{labels, label_names, written_by}
 use Rattle.hv_world.specs.Scopes.{Scope, parameters, inside, is_bound}
 use Rattle.hv_world.specs.StaticRules.{at_word_if, head_faults, signature_arity, declared_arity, arity_of_task, type_faults, typed_faults, variable_faults, term_faults, terms_faults, atom_faults, formula_faults, all_formula_faults, literals_faults, task_faults, subtask_faults, subtasks_faults, constraints_faults, pair_faults, label_faults, order_faults, network_faults, method_faults, action_faults, htn_faults, goal_faults, method_words, duplicate_faults, domain_faults_by, problem_faults_by, domain_faults, problem_faults, first_fault}
-use Rattle.hv_judge.specs.declared.answer.FaultKind.{FaultKind}
-use Rattle.hv_judge.specs.declared.answer.FaultKind.TheVariants as faults
+use Rattle.hv_answer.specs.declared.answer.FaultKind.{FaultKind}
+use Rattle.hv_answer.specs.declared.answer.FaultKind.TheVariants as faults
 use Rattle.hv_judge.specs.Rejections.{reported_static}
 
 -- a kind that is reported under some number and name

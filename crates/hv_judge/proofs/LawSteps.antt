@@ -2,8 +2,8 @@
 -- Where no step both answers and goes on, and each says one thing, all of them together say one
 -- thing.
 use Rattle.std.proofs.Common.{◌≡◌, ◌⊎◌, inl, inr, Option, Some, MatchOption, refl, sym, ◌∙◌, subst}
-use Rattle.hv_judge.specs.declared.answer.Answer.{Answer}
-use Rattle.hv_judge.specs.declared.answer.Answer.TheVariants.{Solves, Fails, Undecided, Rejected}
+use Rattle.hv_answer.specs.declared.answer.Answer.{Answer}
+use Rattle.hv_answer.specs.declared.answer.Answer.TheVariants.{Solves, Fails, Undecided, Rejected}
 use Rattle.hv_judge.specs.Answers.{SameAnswer}
 
 same_self : (a : Answer) → SameAnswer a a

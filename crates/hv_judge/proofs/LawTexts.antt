@@ -12,14 +12,15 @@ use Rattle.hv_plan.specs.Values.{Plan}
 use Rattle.hv_plan.specs.Spellings.{IsPlan, IsPlanFault}
 use Rattle.hv_plan.specs.declared.fault.PlanFault.{PlanFault}
 use Rattle.hv_plan.specs.declared.fault.PlanFault.TheVariants as plans
-use Rattle.hv_judge.specs.declared.answer.Answer.{Answer}
-use Rattle.hv_judge.specs.declared.answer.Answer.TheVariants.{Rejected}
-use Rattle.hv_judge.specs.declared.answer.Fault.{Fault}
-use Rattle.hv_judge.specs.declared.answer.FaultKind.{FaultKind}
-use Rattle.hv_judge.specs.declared.answer.FaultKind.TheVariants as faults
-use Rattle.hv_judge.specs.declared.answer.Which.{Which}
-use Rattle.hv_judge.specs.declared.answer.Which.TheVariants as which
-use Rattle.hv_judge.specs.Rejections.{reported, reported_static, reported_plan, fault_in, fault_nowhere, first_too_long, which_of, text_of_side, IsRejectedPair, by_domain, by_problem, by_statics, IsRejected, by_length, by_pair, by_plan}
+use Rattle.hv_answer.specs.declared.answer.Answer.{Answer}
+use Rattle.hv_answer.specs.declared.answer.Answer.TheVariants.{Rejected}
+use Rattle.hv_answer.specs.declared.answer.Fault.{Fault}
+use Rattle.hv_answer.specs.declared.answer.FaultKind.{FaultKind}
+use Rattle.hv_answer.specs.declared.answer.FaultKind.TheVariants as faults
+use Rattle.hv_answer.specs.declared.answer.Which.{Which}
+use Rattle.hv_answer.specs.declared.answer.Which.TheVariants as which
+use Rattle.hv_answer.specs.Places.{fault_nowhere}
+use Rattle.hv_judge.specs.Rejections.{reported, reported_static, reported_plan, fault_in, first_too_long, which_of, text_of_side, IsRejectedPair, by_domain, by_problem, by_statics, IsRejected, by_length, by_pair, by_plan}
 use Rattle.hv_judge.specs.Answers.{SameAnswer}
 use Rattle.hv_judge.specs.Verdicts.{AreSpelled}
 use Rattle.hv_judge.proofs.LawSteps.{Turn, one_turn, Step, one_step, one_there}

@@ -1,4 +1,3 @@
-pub mod WriteLemmas
 pub mod RunLemmas
 pub mod PrintingLemmas
 pub mod VerdictLemmas

@@ -15,8 +15,8 @@ use Rattle.hv_certificate.specs.Forms.{IsCertText, IsCertFault}
 use Rattle.hv_certificate.specs.Texts.{cert_text}
 use Rattle.hv_certificate.specs.declared.certificate.Certificate.{Certificate}
 use Rattle.hv_certificate.specs.declared.fault.CertFault.{CertFault}
-use Rattle.hv_judge.specs.declared.answer.Which.{Which}
-use Rattle.hv_judge.specs.declared.answer.Which.TheVariants as texts
+use Rattle.hv_answer.specs.declared.answer.Which.{Which}
+use Rattle.hv_answer.specs.declared.answer.Which.TheVariants as texts
 use Rattle.hv_judge.specs.declared.printing.Printed.{Printed}
 use Rattle.hv_judge.specs.declared.printing.Printed.TheVariants as ends
 use Rattle.hv_judge.specs.declared.running.RunFault.{RunFault}

@@ -6,8 +6,8 @@ use Rattle.hv_text.specs.declared.io.ReadFault.{ReadFault}
 use Rattle.hv_certificate.specs.Forms.{IsCertFault}
 use Rattle.hv_certificate.specs.declared.fault.CertFault.{CertFault}
 use Rattle.hv_certificate.specs.declared.fault.CertFault.TheVariants as certificates
-use Rattle.hv_judge.specs.declared.answer.Fault.{Fault}
-use Rattle.hv_judge.specs.declared.answer.Which.{Which}
+use Rattle.hv_answer.specs.declared.answer.Fault.{Fault}
+use Rattle.hv_answer.specs.declared.answer.Which.{Which}
 use Rattle.hv_judge.specs.declared.checking.Recheck.{Recheck}
 use Rattle.hv_judge.specs.declared.not_solved.NotSolved.{NotSolved}
 use Rattle.hv_judge.specs.declared.not_solved.NotSolved.TheVariants.{Rejected, Fails, Undecided, Memory}

@@ -19,13 +19,14 @@ use Rattle.hv_order.specs.Settings.{HasCandidate, HaveCandidates, IsFirstWithout
 use Rattle.hv_certificate.specs.declared.certificate.Certificate.{Certificate}
 use Rattle.hv_order.specs.declared.solution.RowFault.{RowFault}
 use Rattle.hv_order.specs.declared.solution.RowFault.TheVariants as rows
-use Rattle.hv_judge.specs.declared.answer.Answer.TheVariants as answers
-use Rattle.hv_judge.specs.declared.answer.CauseKind.{CauseKind}
-use Rattle.hv_judge.specs.declared.answer.CauseKind.TheVariants as causes
+use Rattle.hv_answer.specs.declared.answer.Answer.TheVariants as answers
+use Rattle.hv_answer.specs.declared.answer.CauseKind.{CauseKind}
+use Rattle.hv_answer.specs.declared.answer.CauseKind.TheVariants as causes
 use Rattle.hv_judge.specs.declared.not_solved.NotSolved.{NotSolved}
 use Rattle.hv_judge.specs.declared.not_solved.NotSolved.TheVariants.{Fails}
 use Rattle.hv_judge.specs.Solutions.{HasTree, IsRun, ReachesGoal, run_of, judged_in, judged_without}
-use Rattle.hv_judge.specs.Causes.{cause_nowhere, IsCauseOf, by_tree, by_action, by_goal, by_binding, by_order, by_precondition, IsWithinLimit}
+use Rattle.hv_answer.specs.Places.{cause_nowhere}
+use Rattle.hv_judge.specs.Causes.{IsCauseOf, by_tree, by_action, by_goal, by_binding, by_order, by_precondition, IsWithinLimit}
 use Rattle.hv_judge.specs.Verdicts.{IsVerdict}
 use Rattle.hv_judge.specs.inside.Ends.{Ends, tree_end, run_end, row_end, IsEndInOrder, IsLastCause}
 

@@ -6,16 +6,16 @@ use Rattle.hv_plan.specs.Values.{Plan}
 use Rattle.hv_certificate.specs.Forms.{HasNumbers}
 use Rattle.hv_certificate.specs.Texts.{cert_text}
 use Rattle.hv_certificate.specs.declared.certificate.Certificate.{Certificate}
-use Rattle.hv_judge.specs.declared.answer.Answer.{Answer}
-use Rattle.hv_judge.specs.declared.answer.Answer.TheVariants.{Solves, Fails, Undecided, Rejected}
-use Rattle.hv_judge.specs.declared.answer.Cause.{Cause}
-use Rattle.hv_judge.specs.declared.answer.Fault.{Fault}
-use Rattle.hv_judge.specs.declared.answer.Which.{Which}
+use Rattle.hv_answer.specs.declared.answer.Answer.{Answer}
+use Rattle.hv_answer.specs.declared.answer.Answer.TheVariants.{Solves, Fails, Undecided, Rejected}
+use Rattle.hv_answer.specs.declared.answer.Cause.{Cause}
+use Rattle.hv_answer.specs.declared.answer.Fault.{Fault}
+use Rattle.hv_answer.specs.declared.answer.Which.{Which}
 use Rattle.hv_judge.specs.declared.checking.Recheck.{Recheck}
 use Rattle.hv_judge.specs.Checked.{Rechecked}
 use Rattle.hv_judge.specs.Rejections.{IsRejected}
 use Rattle.hv_judge.specs.Solutions.{IsSolution}
-use Rattle.hv_judge.specs.Text.{answer_text}
+use Rattle.hv_answer.specs.Text.{answer_text}
 use Rattle.hv_judge.specs.Verdicts.{AreSpelled, IsSpelledAs, Judged}
 
 -- two answers are one, their certificates aside

@@ -1,5 +1,5 @@
 -- Why a plan fails: each cause is read where none before it applies.
-use Rattle.std.specs.Prelude.{◌≡◌, ◌<◌, ◌≤◌, ℕ, None, Some, length, slice_get}
+use Rattle.std.specs.Prelude.{◌≡◌, ◌<◌, ◌≤◌, ℕ, Some, length, slice_get}
 use Rattle.hv_world.specs.Worlds.{World}
 use Rattle.hv_state.specs.Plans.{GoalHolds, StopsAt}
 use Rattle.hv_plan.specs.Values.{Action, Plan}
@@ -8,17 +8,10 @@ use Rattle.hv_plan.specs.PlanTrees.{Node, PlanTree}
 use Rattle.hv_plan.specs.declared.cause.Cause as trees
 use Rattle.hv_match.specs.Counts.{CountIsAt}
 use Rattle.hv_order.specs.Settings.{HaveCandidates, IsFirstWithout, IsSolved}
-use Rattle.hv_judge.specs.declared.answer.Cause.{Cause}
-use Rattle.hv_judge.specs.declared.answer.CauseKind.{CauseKind}
-use Rattle.hv_judge.specs.declared.answer.CauseKind.TheVariants as causes
+use Rattle.hv_answer.specs.declared.answer.Cause.{Cause}
+use Rattle.hv_answer.specs.declared.answer.CauseKind.TheVariants as causes
+use Rattle.hv_answer.specs.Places.{cause_at, cause_nowhere}
 use Rattle.hv_judge.specs.Solutions.{HasTree, run_of, IsRun, ReachesGoal, judged_in, judged_without}
-
--- a cause at a line, and one that has none
-abbrev pub cause_at : CauseKind → ℕ → Cause
-cause_at kind line = record { kind = kind; line = Some line }
-
-abbrev pub cause_nowhere : CauseKind → Cause
-cause_nowhere kind = record { kind = kind; line = None }
 
 -- the cause for which the lines of a plan form no tree that fits the world, as one of the judge's
 abbrev pub tree_cause : trees.Cause → Cause

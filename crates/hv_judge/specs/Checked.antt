@@ -7,14 +7,15 @@ use Rattle.hv_match.specs.Candidates.{Tells}
 use Rattle.hv_certificate.specs.Forms.{IsCertText, IsCertFault}
 use Rattle.hv_certificate.specs.declared.certificate.Certificate.{Certificate}
 use Rattle.hv_certificate.specs.declared.fault.CertFault.TheVariants as certificates
-use Rattle.hv_judge.specs.declared.answer.Fault.{Fault}
-use Rattle.hv_judge.specs.declared.answer.FaultKind.TheVariants as kinds
-use Rattle.hv_judge.specs.declared.answer.Which.{Which}
-use Rattle.hv_judge.specs.declared.answer.Which.TheVariants as which
+use Rattle.hv_answer.specs.declared.answer.Fault.{Fault}
+use Rattle.hv_answer.specs.declared.answer.FaultKind.TheVariants as kinds
+use Rattle.hv_answer.specs.declared.answer.Which.{Which}
+use Rattle.hv_answer.specs.declared.answer.Which.TheVariants as which
 use Rattle.hv_judge.specs.declared.checking.CheckFault.{CheckFault}
 use Rattle.hv_judge.specs.declared.checking.CheckFault.TheVariants as faults
 use Rattle.hv_judge.specs.declared.checking.Recheck.{Recheck}
-use Rattle.hv_judge.specs.Rejections.{IsRejected, first_too_long, fault_nowhere, fault_on}
+use Rattle.hv_answer.specs.Places.{fault_nowhere, fault_on}
+use Rattle.hv_judge.specs.Rejections.{IsRejected, first_too_long}
 use Rattle.hv_judge.specs.Solutions.{SolvesBy}
 use Rattle.hv_judge.specs.Verdicts.{IsSpelledAs}
 

@@ -1,5 +1,3 @@
-pub mod Kinds
-pub mod Text
 pub mod Solutions
 pub mod Causes
 pub mod Rejections

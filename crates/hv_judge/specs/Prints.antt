@@ -19,18 +19,19 @@ use Rattle.hv_certificate.specs.Forms.{IsCertText, IsCertFault}
 use Rattle.hv_certificate.specs.Texts.{cert_text}
 use Rattle.hv_certificate.specs.declared.certificate.Certificate.{Certificate}
 use Rattle.hv_certificate.specs.declared.fault.CertFault.{CertFault}
-use Rattle.hv_judge.specs.declared.answer.Answer.TheVariants as answers
-use Rattle.hv_judge.specs.declared.answer.Fault.{Fault}
-use Rattle.hv_judge.specs.declared.answer.FaultKind.{FaultKind}
-use Rattle.hv_judge.specs.declared.answer.FaultKind.TheVariants as faults
-use Rattle.hv_judge.specs.declared.answer.Which.{Which}
-use Rattle.hv_judge.specs.declared.answer.Which.TheVariants as which
+use Rattle.hv_answer.specs.declared.answer.Answer.TheVariants as answers
+use Rattle.hv_answer.specs.declared.answer.Fault.{Fault}
+use Rattle.hv_answer.specs.declared.answer.FaultKind.{FaultKind}
+use Rattle.hv_answer.specs.declared.answer.FaultKind.TheVariants as faults
+use Rattle.hv_answer.specs.declared.answer.Which.{Which}
+use Rattle.hv_answer.specs.declared.answer.Which.TheVariants as which
 use Rattle.hv_judge.specs.declared.printing.Printed.{Printed}
 use Rattle.hv_judge.specs.declared.printing.Printed.TheVariants as ends
 use Rattle.hv_judge.specs.declared.running.RunFault.{RunFault}
 use Rattle.hv_judge.specs.declared.running.RunFault.TheVariants as runs
-use Rattle.hv_judge.specs.Rejections.{fault_in, fault_nowhere, reported, reported_plan, reported_cert}
-use Rattle.hv_judge.specs.Text.{answer_text}
+use Rattle.hv_answer.specs.Places.{fault_nowhere}
+use Rattle.hv_judge.specs.Rejections.{fault_in, reported, reported_plan, reported_cert}
+use Rattle.hv_answer.specs.Text.{answer_text}
 use Rattle.hv_judge.specs.Runs.{IsTooLong}
 
 -- the line of a rejection

@@ -4,16 +4,16 @@ use Rattle.hv_text.specs.Io.{IsRead}
 use Rattle.hv_text.specs.declared.fault.TheConstants.{MOST_BYTES}
 use Rattle.hv_text.specs.declared.io.ReadFault.{ReadFault}
 use Rattle.hv_text.specs.declared.io.ReadFault.TheVariants as reads
-use Rattle.hv_judge.specs.declared.answer.Fault.{Fault}
-use Rattle.hv_judge.specs.declared.answer.FaultKind.TheVariants as faults
-use Rattle.hv_judge.specs.declared.answer.Which.{Which}
-use Rattle.hv_judge.specs.declared.answer.Which.TheVariants as texts
+use Rattle.hv_answer.specs.declared.answer.Fault.{Fault}
+use Rattle.hv_answer.specs.declared.answer.FaultKind.TheVariants as faults
+use Rattle.hv_answer.specs.declared.answer.Which.{Which}
+use Rattle.hv_answer.specs.declared.answer.Which.TheVariants as texts
 use Rattle.hv_judge.specs.declared.rechecking.RecheckKind.{RecheckKind}
 use Rattle.hv_judge.specs.declared.rechecking.RecheckKind.TheVariants as kinds
 use Rattle.hv_judge.specs.declared.running.RunFault.{RunFault}
 use Rattle.hv_judge.specs.Checked.{Rechecked, IsRejectedOfFour}
 use Rattle.hv_judge.specs.Prints.{rejection}
-use Rattle.hv_judge.specs.Rejections.{fault_nowhere}
+use Rattle.hv_answer.specs.Places.{fault_nowhere}
 use Rattle.hv_judge.specs.Runs.{IsTooLong, IsFailedRead, IsWant}
 
 -- the line that is written of four texts, and its kind

@@ -9,12 +9,13 @@ use Rattle.hv_plan.specs.declared.fault.PlanFault.{PlanFault}
 use Rattle.hv_plan.specs.declared.fault.PlanFault.TheVariants as plans
 use Rattle.hv_certificate.specs.declared.fault.CertFault.{CertFault}
 use Rattle.hv_certificate.specs.declared.fault.CertFault.TheVariants as certificates
-use Rattle.hv_judge.specs.declared.answer.Which.{Which}
-use Rattle.hv_judge.specs.declared.answer.Which.TheVariants as which
-use Rattle.hv_judge.specs.declared.answer.FaultKind.{FaultKind}
-use Rattle.hv_judge.specs.declared.answer.FaultKind.TheVariants as faults
-use Rattle.hv_judge.specs.declared.answer.Fault.{Fault}
-use Rattle.hv_judge.specs.declared.answer.Place.TheVariants.{Nowhere, Line, At}
+use Rattle.hv_answer.specs.declared.answer.Which.{Which}
+use Rattle.hv_answer.specs.declared.answer.Which.TheVariants as which
+use Rattle.hv_answer.specs.declared.answer.FaultKind.{FaultKind}
+use Rattle.hv_answer.specs.declared.answer.FaultKind.TheVariants as faults
+use Rattle.hv_answer.specs.declared.answer.Fault.{Fault}
+use Rattle.hv_answer.specs.declared.answer.Place.TheVariants.{At}
+use Rattle.hv_answer.specs.Places.{fault_nowhere, fault_on}
 use Rattle.hv_syntax.specs.declared.fault.SyntaxKind.{SyntaxKind}
 use Rattle.hv_syntax.specs.declared.fault.SyntaxKind.TheVariants as kinds
 use Rattle.hv_syntax.specs.Values.{Domain, Problem}
@@ -72,13 +73,6 @@ column_of text s = 1 + suffix_len (λ b. not (is_line_end b)) (take s.start text
 -- a fault at a place of a text
 abbrev pub fault_in : FaultKind → List ℕ → Span → Fault
 fault_in kind text s = record { kind = kind; place = At (line_of text s) (column_of text s) }
-
--- a fault without a place, and a fault at a line
-abbrev pub fault_nowhere : FaultKind → Fault
-fault_nowhere kind = record { kind = kind; place = Nowhere }
-
-abbrev pub fault_on : FaultKind → ℕ → Fault
-fault_on kind line = record { kind = kind; place = Line line }
 
 -- the fault that is reported for a plan's; want of memory is reported as none
 abbrev pub reported_plan : PlanFault → Option Fault

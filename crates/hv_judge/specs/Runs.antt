@@ -5,25 +5,18 @@ use Rattle.hv_text.specs.Io.{IsRead, IsReadFault, AppendsBeginning}
 use Rattle.hv_text.specs.declared.fault.TheConstants.{MOST_BYTES}
 use Rattle.hv_text.specs.declared.io.ReadFault.{ReadFault}
 use Rattle.hv_text.specs.declared.io.ReadFault.TheVariants as reads
-use Rattle.hv_judge.specs.declared.answer.Answer.{Answer}
-use Rattle.hv_judge.specs.declared.answer.Answer.TheVariants as answers
-use Rattle.hv_judge.specs.declared.answer.FaultKind.TheVariants as faults
-use Rattle.hv_judge.specs.declared.answer.Which.{Which}
-use Rattle.hv_judge.specs.declared.answer.Which.TheVariants as texts
-use Rattle.hv_judge.specs.declared.answer.Kind.{Kind}
-use Rattle.hv_judge.specs.declared.answer.Kind.TheVariants as kinds
+use Rattle.hv_answer.specs.declared.answer.Answer.{Answer}
+use Rattle.hv_answer.specs.declared.answer.Answer.TheVariants as answers
+use Rattle.hv_answer.specs.declared.answer.FaultKind.TheVariants as faults
+use Rattle.hv_answer.specs.declared.answer.Which.{Which}
+use Rattle.hv_answer.specs.declared.answer.Which.TheVariants as texts
+use Rattle.hv_answer.specs.declared.answer.Kind.{Kind}
 use Rattle.hv_judge.specs.declared.running.RunFault.{RunFault}
 use Rattle.hv_judge.specs.declared.running.RunFault.TheVariants as runs
-use Rattle.hv_judge.specs.Rejections.{fault_nowhere}
-use Rattle.hv_judge.specs.Text.{answer_text}
+use Rattle.hv_answer.specs.Kinds.{kind_of}
+use Rattle.hv_answer.specs.Places.{fault_nowhere}
+use Rattle.hv_answer.specs.Text.{answer_text}
 use Rattle.hv_judge.specs.Verdicts.{Judged}
-
--- the kind of the verdict of an answer
-abbrev pub kind_of : Answer → Kind
-kind_of (answers.Solves c) = kinds.Solves
-kind_of (answers.Fails c) = kinds.Fails
-kind_of (answers.Undecided line) = kinds.Undecided
-kind_of (answers.Rejected w f) = kinds.Rejected
 
 -- a text that is too long is rejected
 abbrev pub too_long_answer : Which → Answer

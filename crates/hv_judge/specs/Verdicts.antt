@@ -7,8 +7,8 @@ use Rattle.hv_world.specs.Worlds.{World, world_of}
 use Rattle.hv_plan.specs.Values.{Plan}
 use Rattle.hv_plan.specs.Spellings.{IsPlan}
 use Rattle.hv_plan.specs.PlanTrees.{PlanTree}
-use Rattle.hv_judge.specs.declared.answer.Answer.{Answer}
-use Rattle.hv_judge.specs.declared.answer.Answer.TheVariants.{Solves, Fails, Undecided, Rejected}
+use Rattle.hv_answer.specs.declared.answer.Answer.{Answer}
+use Rattle.hv_answer.specs.declared.answer.Answer.TheVariants.{Solves, Fails, Undecided, Rejected}
 use Rattle.hv_judge.specs.Solutions.{ReachesGoal, SolvesBy}
 use Rattle.hv_judge.specs.Causes.{IsCauseOf, IsWithinLimit, IsFirstAbove}
 use Rattle.hv_judge.specs.Rejections.{first_too_long, IsRejected}

@@ -8,10 +8,10 @@ ghost use Rattle.hv_order.specs.Settings.{HasNoPrecondition};
 ghost use Rattle.hv_judge.specs.Checked.{Checked, IsCheckFault, CountsFormulas, count_of};
 ghost use Rattle.hv_judge.specs.Solutions.{SolvesBy};
 
-use crate::answer::{Fault, Which};
 use crate::judgement::{first_too_long, read_world};
 use crate::not_solved::NotSolved;
 use crate::rejection::reported_cert;
+use hv_answer::{Fault, Which};
 use hv_certificate::{CertFault, Certificate};
 use hv_match::counts_are_one;
 use hv_order::certified_plans::certified_plans_are_solved;

@@ -3,15 +3,15 @@
 ghost use Rattle.std.specs.Prelude.{◌≡◌, ◌≤◌, length, IfOk, IfErr};
 ghost use Rattle.hv_text.specs.declared.fault.TheConstants.{MOST_BYTES};
 ghost use Rattle.hv_world.specs.WorldViews.{world_view};
-ghost use Rattle.hv_judge.specs.declared.answer.Answer.TheVariants as answers;
+ghost use Rattle.hv_answer.specs.declared.answer.Answer.TheVariants as answers;
 ghost use Rattle.hv_judge.specs.Rejections.{reported, reported_static, first_too_long, which_of, text_of_side};
 ghost use Rattle.hv_judge.specs.Verdicts.{Judged};
 ghost use Rattle.hv_judge.specs.inside.Ends.{Ends, IsPairEnd, IsWorldOf, rejected_at};
 
-use crate::answer::{Answer, Fault, Which};
 use crate::not_solved::NotSolved;
 use crate::rejection::{fault_in, reported, reported_static};
 use crate::verdict::judge_plan;
+use hv_answer::{Answer, Fault, Which};
 use hv_certificate::Certificate;
 use hv_plan::{plans_are_small, read_plan};
 use hv_syntax::{SyntaxFault, read_domain, read_problem};

@@ -1,7 +1,6 @@
 //! The judge: from the bytes of three texts to a verdict.
 #![tactic(auto)]
 
-mod answer;
 mod checking;
 mod judgement;
 mod law;
@@ -13,10 +12,9 @@ mod rechecking;
 mod rejection;
 mod running;
 mod verdict;
-mod write;
 
-pub use answer::{Answer, Cause, CauseKind, Fault, FaultKind, Kind, Place, Which};
 pub use checking::{CheckFault, Recheck, check};
+pub use hv_answer::{Answer, Cause, CauseKind, Fault, FaultKind, Kind, Place, Which, write_answer};
 pub use hv_certificate::{Certificate, Choice};
 pub use judgement::judge;
 pub use law::{
@@ -25,4 +23,3 @@ pub use law::{
 pub use printing::{Printed, run_print};
 pub use rechecking::{RecheckKind, recheck, run_recheck};
 pub use running::{RunFault, run};
-pub use write::write_answer;

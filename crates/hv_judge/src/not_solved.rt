@@ -3,8 +3,8 @@
 ghost use Rattle.std.specs.Prelude.{◌≡◌, IfOk};
 ghost use Rattle.hv_judge.specs.inside.Ends.{IsAnswerOf};
 
-use crate::answer::{Answer, Cause, CauseKind, Fault, Which};
 use crate::rejection::reported_plan;
+use hv_answer::{Answer, Cause, CauseKind, Fault, Which};
 use hv_order::solution::RowFault;
 use hv_plan::{PlanFault, TreeFault};
 use hv_text::Memory;

@@ -10,8 +10,8 @@ ghost use Rattle.hv_order.specs.Settings.{HasNoPrecondition};
 ghost use Rattle.hv_judge.specs.Solutions.{judged_in, judged_without};
 ghost use Rattle.hv_judge.specs.inside.Ends.{IsEndInOrder, IsLastCause};
 
-use crate::answer::{Cause, CauseKind};
 use crate::not_solved::NotSolved;
+use hv_answer::{Cause, CauseKind};
 use hv_certificate::Certificate;
 use hv_match::Matcher;
 use hv_order::certified_plans::certified_plans_are_solved;

@@ -2,15 +2,14 @@
 
 ghost use Rattle.std.specs.Prelude.{◌≡◌, ◌<◌, ◌≤◌, ◌+◌, ◌-◌, ◌^◌, false, length};
 ghost use Rattle.hv_text.specs.declared.fault.TheConstants.{MOST_BYTES};
-ghost use Rattle.hv_judge.specs.declared.answer.Which.{Which};
-ghost use Rattle.hv_judge.specs.declared.answer.Which.TheVariants as texts;
+ghost use Rattle.hv_answer.specs.declared.answer.Which.{Which};
+ghost use Rattle.hv_answer.specs.declared.answer.Which.TheVariants as texts;
 ghost use Rattle.hv_judge.specs.Runs.{is_same, reads_failed, writes_failed, failures_at, IfHalted, IsWant, IsFailureOf, IsHaltOfText};
 ghost use Rattle.hv_judge.specs.Prints.{IsPrint, IsPrintOf, WroteText, IsDone, IsRejection, IsTextRejection, IsPlanRejection, IsCertificateRejection, IsUnreadRejection};
 
-use crate::answer::{Answer, Fault, Which};
 use crate::rejection::{fault_in, reported, reported_cert, reported_plan};
 use crate::running::RunFault;
-use crate::write::write_answer;
+use hv_answer::{Answer, Fault, Which, write_answer};
 use hv_certificate::{CertFault, print_cert, read_cert};
 use hv_plan::{PlanFault, print_plan, read_plan};
 use hv_syntax::{SyntaxFault, print_domain, print_problem, read_domain, read_problem};

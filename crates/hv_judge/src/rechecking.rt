@@ -1,18 +1,17 @@
 //! The check of the text of a certificate, also over readers and a writer.
 
 ghost use Rattle.std.specs.Prelude.{◌≡◌, ◌<◌, ◌+◌, ◌-◌, ◌^◌, IfOk, IfErr};
-ghost use Rattle.hv_judge.specs.declared.answer.Which.TheVariants as texts;
-ghost use Rattle.hv_judge.specs.declared.answer.Which.{Which};
+ghost use Rattle.hv_answer.specs.declared.answer.Which.TheVariants as texts;
+ghost use Rattle.hv_answer.specs.declared.answer.Which.{Which};
 ghost use Rattle.hv_judge.specs.Checked.{Rechecked, IsRecheckFault};
 ghost use Rattle.hv_judge.specs.Prints.{WroteText};
 ghost use Rattle.hv_judge.specs.Rechecks.{IsRecheckLine, IsFoundLine, IsRejectionLine, IsUnreadLine, IsRecheckOfCertificate, IsRecheckOfPlan, IsRecheckOfProblem, IsRecheckOf, IsRecheckHaltOfCertificate, IsRecheckHaltOfPlan, IsRecheckHaltOfProblem, IsRecheckHaltOf};
 ghost use Rattle.hv_judge.specs.Runs.{reads_failed, writes_failed, failures_at, IfHalted, IsWant, IsFailureOf};
 
-use crate::answer::{Answer, Fault, Which};
 use crate::checking::{CheckFault, Recheck, check_plan};
 use crate::judgement::{first_too_long, read_world};
 use crate::running::RunFault;
-use crate::write::write_answer;
+use hv_answer::{Answer, Fault, Which, write_answer};
 use hv_certificate::read_cert;
 use hv_plan::{plans_are_small, read_plan};
 use hv_text::{MOST_BYTES, ReadFault, Sink, Source, read_all, write_all};

@@ -4,7 +4,7 @@ ghost use Rattle.std.specs.Prelude.{◌≡◌, ◌≤◌, length, Some};
 ghost use Rattle.hv_text.specs.declared.fault.TheConstants.{MOST_BYTES};
 ghost use Rattle.hv_judge.specs.Rejections.{fault_in, reported, reported_static, reported_plan, reported_cert};
 
-use crate::answer::{Fault, FaultKind, Place};
+use hv_answer::{Fault, FaultKind, Place};
 use hv_certificate::CertFault;
 use hv_plan::PlanFault;
 use hv_syntax::SyntaxKind;

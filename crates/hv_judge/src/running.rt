@@ -1,14 +1,13 @@
 //! The judge over readers and a writer.
 
 ghost use Rattle.std.specs.Prelude.{◌≡◌, ◌<◌, ◌+◌, ◌-◌, ◌^◌};
-ghost use Rattle.hv_judge.specs.declared.answer.Which.TheVariants as texts;
-ghost use Rattle.hv_judge.specs.declared.answer.Which.{Which};
+ghost use Rattle.hv_answer.specs.declared.answer.Which.TheVariants as texts;
+ghost use Rattle.hv_answer.specs.declared.answer.Which.{Which};
 ghost use Rattle.hv_judge.specs.Verdicts.{Judged};
 ghost use Rattle.hv_judge.specs.Runs.{reads_failed, writes_failed, failures_at, Wrote, IsRunOfPlan, IsRunOfProblem, IsRunOf, IsUnreadText, IfHalted, IsWant, IsFailureOf, IsHaltOfText, IsHaltOfProblem, IsHaltOf};
 
-use crate::answer::{Answer, Fault, Kind, Which};
 use crate::judgement::judge;
-use crate::write::write_answer;
+use hv_answer::{Answer, Fault, Kind, Which, write_answer};
 use hv_text::{MOST_BYTES, Memory, ReadFault, Sink, Source, WriteFault, read_all};
 use std::alloc::Global;
 use thiserror::Error;

@@ -5,13 +5,13 @@ ghost use Rattle.hv_world.specs.WorldViews.{world_view};
 ghost use Rattle.hv_plan.specs.LineViews.{actions_view, plan_view};
 ghost use Rattle.hv_order.specs.Settings.{HasNoPrecondition};
 ghost use Rattle.hv_judge.specs.Verdicts.{IsVerdict};
-ghost use Rattle.hv_judge.specs.declared.answer.Answer.TheVariants as answers;
+ghost use Rattle.hv_answer.specs.declared.answer.Answer.TheVariants as answers;
 ghost use Rattle.hv_judge.specs.inside.Ends.{Ends, run_end};
 
-use crate::answer::{Cause, CauseKind};
 use crate::limit::first_above;
 use crate::not_solved::NotSolved;
 use crate::order::certificate;
+use hv_answer::{Cause, CauseKind};
 use hv_certificate::Certificate;
 use hv_match::Matcher;
 use hv_plan::{ActionLines, PlanText, Tree};

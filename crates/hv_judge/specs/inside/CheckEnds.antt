@@ -1,6 +1,6 @@
 -- What the check answers where a text is not read.
 use Rattle.hv_certificate.specs.declared.fault.CertFault.{CertFault}
-use Rattle.hv_judge.specs.declared.answer.Which.TheVariants as which
+use Rattle.hv_answer.specs.declared.answer.Which.TheVariants as which
 use Rattle.hv_judge.specs.declared.checking.CheckFault.{CheckFault}
 use Rattle.hv_judge.specs.declared.checking.CheckFault.TheVariants as faults
 use Rattle.hv_judge.specs.declared.not_solved.NotSolved.{NotSolved}

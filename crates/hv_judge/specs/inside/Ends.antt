@@ -12,19 +12,20 @@ use Rattle.hv_plan.specs.declared.cause.TreeFault.TheVariants as trees
 use Rattle.hv_order.specs.Settings.{IsSolved}
 use Rattle.hv_order.specs.declared.solution.RowFault.{RowFault}
 use Rattle.hv_order.specs.declared.solution.RowFault.TheVariants as rows
-use Rattle.hv_judge.specs.declared.answer.Answer.{Answer}
-use Rattle.hv_judge.specs.declared.answer.Answer.TheVariants as answers
-use Rattle.hv_judge.specs.declared.answer.CauseKind.{CauseKind}
-use Rattle.hv_judge.specs.declared.answer.CauseKind.TheVariants as causes
-use Rattle.hv_judge.specs.declared.answer.Fault.{Fault}
-use Rattle.hv_judge.specs.declared.answer.FaultKind.{FaultKind}
-use Rattle.hv_judge.specs.declared.answer.Which.{Which}
-use Rattle.hv_judge.specs.declared.answer.Which.TheVariants as which
+use Rattle.hv_answer.specs.declared.answer.Answer.{Answer}
+use Rattle.hv_answer.specs.declared.answer.Answer.TheVariants as answers
+use Rattle.hv_answer.specs.declared.answer.CauseKind.{CauseKind}
+use Rattle.hv_answer.specs.declared.answer.CauseKind.TheVariants as causes
+use Rattle.hv_answer.specs.declared.answer.Fault.{Fault}
+use Rattle.hv_answer.specs.declared.answer.FaultKind.{FaultKind}
+use Rattle.hv_answer.specs.declared.answer.Which.{Which}
+use Rattle.hv_answer.specs.declared.answer.Which.TheVariants as which
 use Rattle.hv_judge.specs.declared.not_solved.NotSolved.{NotSolved}
 use Rattle.hv_judge.specs.declared.not_solved.NotSolved.TheVariants.{Rejected, Fails, Undecided, Memory}
 use Rattle.hv_syntax.specs.Values.{Domain, Problem}
 use Rattle.hv_judge.specs.Solutions.{ReachesGoal, judged_without}
-use Rattle.hv_judge.specs.Causes.{cause_at, tree_cause, IsWithinLimit, IsCountWithin, IsCountAbove}
+use Rattle.hv_answer.specs.Places.{cause_at}
+use Rattle.hv_judge.specs.Causes.{tree_cause, IsWithinLimit, IsCountWithin, IsCountAbove}
 use Rattle.hv_judge.specs.Rejections.{reported_plan, fault_in, AreRead, IsRejectedPair}
 use Rattle.hv_judge.specs.Verdicts.{IsVerdict}
 

@@ -1,5 +1,5 @@
 use Rattle.std.proofs.Common.{rules}
-use Rattle.hv_judge.proofs.WriteLemmas.{same_err}
+use Rattle.hv_answer.proofs.WriteLemmas.{same_err}
 use Rattle.hddlv.specs.Ends.{line_of}
 use Rattle.hddlv.proofs.end.write_end.Goals as goal
 

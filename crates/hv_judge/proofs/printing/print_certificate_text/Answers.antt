@@ -1,6 +1,6 @@
 use Rattle.std.proofs.Common.{◌++◌, ap, ◌∙◌}
 use Rattle.hv_certificate.specs.Texts.{cert_text}
-use Rattle.hv_judge.specs.declared.answer.Which.TheVariants as texts
+use Rattle.hv_answer.specs.declared.answer.Which.TheVariants as texts
 use Rattle.hv_judge.specs.Prints.{IsPrint, IsDone, IsCertificateRejection}
 use Rattle.hv_judge.proofs.PrintingLemmas.{print_as, printed_certificate, rejected_certificate}
 use Rattle.hv_judge.proofs.printing.print_certificate_text.Goals as goal

@@ -1,7 +1,7 @@
 use Rattle.std.proofs.Common.{◌++◌, ap, ◌∙◌}
 use Rattle.hv_syntax.specs.DomainViews.{domain_view}
 use Rattle.hv_syntax.specs.CanonicalSections.{canonical_domain}
-use Rattle.hv_judge.specs.declared.answer.Which.TheVariants as texts
+use Rattle.hv_answer.specs.declared.answer.Which.TheVariants as texts
 use Rattle.hv_judge.specs.Prints.{IsPrint, IsDone, IsTextRejection}
 use Rattle.hv_judge.proofs.PrintingLemmas.{print_as, printed_domain, rejected_domain}
 use Rattle.hv_judge.proofs.printing.print_domain_text.Goals as goal

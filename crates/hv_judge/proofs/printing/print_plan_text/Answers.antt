@@ -1,7 +1,7 @@
 use Rattle.std.proofs.Common.{◌++◌, ap, ◌∙◌}
 use Rattle.hv_plan.specs.LineViews.{plan_view}
 use Rattle.hv_plan.specs.Canonical.{plan_text}
-use Rattle.hv_judge.specs.declared.answer.Which.TheVariants as texts
+use Rattle.hv_answer.specs.declared.answer.Which.TheVariants as texts
 use Rattle.hv_judge.specs.Prints.{IsPrint, IsDone, IsPlanRejection}
 use Rattle.hv_judge.proofs.PrintingLemmas.{print_as, printed_plan, rejected_plan}
 use Rattle.hv_judge.proofs.printing.print_plan_text.Goals as goal

@@ -3,7 +3,7 @@ use Rattle.std.proofs.lemmas.Result.{err_from_is_err_and}
 use Rattle.hv_world.specs.WorldViews.{world_view}
 use Rattle.hv_plan.specs.LineViews.{plan_view}
 use Rattle.hv_text.specs.declared.fault.TheConstants.{MOST_BYTES}
-use Rattle.hv_judge.specs.declared.answer.Which.TheVariants as which
+use Rattle.hv_answer.specs.declared.answer.Which.TheVariants as which
 use Rattle.hv_judge.specs.Checked.{IsRecheckOf, IsRejectedOfFour, too_long, certificate_too_long}
 use Rattle.hv_judge.specs.inside.Ends.{plan_end}
 use Rattle.hv_judge.proofs.RecheckLemmas.{judged_ends, cert_ends}

@@ -1,5 +1,5 @@
 use Rattle.std.proofs.Common.{refl}
-use Rattle.hv_judge.specs.declared.answer.Which.TheVariants as texts
+use Rattle.hv_answer.specs.declared.answer.Which.TheVariants as texts
 use Rattle.hv_judge.proofs.PrintingLemmas.{print_as}
 use Rattle.hv_judge.proofs.RunLemmas.{halted_as}
 use Rattle.hv_judge.proofs.RecheckLemmas.{from_read, from_unread, halt_read, halt_unread}

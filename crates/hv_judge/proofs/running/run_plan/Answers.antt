@@ -1,4 +1,4 @@
-use Rattle.hv_judge.specs.declared.answer.Which.TheVariants as texts
+use Rattle.hv_answer.specs.declared.answer.Which.TheVariants as texts
 use Rattle.hv_judge.proofs.RunLemmas.{wrote_as, judged_plan, unread_plan, halted_as, halted_text, wanted}
 use Rattle.hv_judge.proofs.running.run_plan.Goals as goal
 

@@ -1,0 +1,12 @@
+use Rattle.std.proofs.Common.{rules, codes}
+use Rattle.hv_certificate.specs.Texts.{ids_text}
+use Rattle.hv_answer.proofs.WriteLemmas.{first_fails, on_err, then_err}
+use Rattle.hv_answer.proofs.write.write_children.Goals as goal
+
+pub returns-in_err-write_all-clause-err : goal.returns-in_err-write_all-clause-err
+returns-in_err-write_all-clause-err g c =
+    on_err c.from_residual.result _ (first_fails _ _ (codes " children") _ (ids_text c.args.choice.now.children.items) (search rules) c.in_err-write_all.ensures.err)
+
+pub returns-clause-err : goal.returns-clause-err
+returns-clause-err g c =
+    then_err c.write_ids.result _ _ _ (codes " children") _ (ids_text c.args.choice.now.children.items) _ (search rules) (search rules) c.in_ok-write_all.ensures.ok c.write_ids.ensures.err

@@ -1,0 +1,9 @@
+//! Answers: what is said of a domain, a problem and a plan, and its text. How a verdict is found is not
+//! known here.
+#![tactic(auto)]
+
+mod answer;
+mod write;
+
+pub use answer::{Answer, Cause, CauseKind, Fault, FaultKind, Kind, Place, Which};
+pub use write::write_answer;
