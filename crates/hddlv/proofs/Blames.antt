@@ -1,5 +1,5 @@
 -- Which readers a run can blame.
-use Rattle.std.proofs.Common.{◌≢◌, ℕ, List, Option, Result, Ok, Err, IfErr}
+use Rattle.std.proofs.Common.{◌≡◌, ◌≢◌, ◌⊎◌, inl, inr, ℕ, List, Option, Result, Ok, Err, IfErr}
 use Rattle.hv_answer.specs.declared.answer.Kind.{Kind}
 use Rattle.hv_answer.specs.declared.answer.Which.{Which}
 use Rattle.hv_answer.specs.declared.answer.Which.TheVariants as texts
@@ -38,3 +38,11 @@ blames_no_certificate left_a a a' left_b b b' left_c c c' (Ok kind) halt = tt
 blames_no_certificate left_a a a' left_b b b' left_c c c' (Err (faults.Read w)) halt = blames_domain left_a a a' left_b b b' left_c c c' (faults.Read w) halt
 blames_no_certificate left_a a a' left_b b b' left_c c c' (Err faults.Memory) halt = λ e. cc
 blames_no_certificate left_a a a' left_b b b' left_c c c' (Err faults.Write) halt = λ e. cc
+
+-- what ends behind a run is blamed on the writer alone, or as the run is
+pub blamed_behind : {K : Type 0} (ended r : Result K RunFault) → IfErr ended (λ fault. fault ≢ faults.Read texts.Certificate)
+    → IfErr r (λ fault. (fault ≡ faults.Write) ⊎ (ended ≡ Err fault)) → IfErr r (λ fault. fault ≢ faults.Read texts.Certificate)
+blamed_behind ended (Ok k) before how = tt
+blamed_behind ended (Err f) before (inl is) e = let same : faults.Read texts.Certificate ≡ faults.Write = cc in cc
+blamed_behind (Err f) (Err g) before (inr is) e = let same : f ≡ g = cc in before (cc)
+blamed_behind (Ok k) (Err g) before (inr is) e = cc

@@ -5,7 +5,7 @@ mod end;
 #[cfg(test)]
 mod tests;
 
-ghost use Rattle.std.specs.Prelude.{◌≡◌, ◌≢◌, IfOk, IfErr, length};
+ghost use Rattle.std.specs.Prelude.{◌≡◌, ◌≢◌, ◌⊎◌, Err, IfOk, IfErr, length};
 ghost use Rattle.std.specs.Process.{exit_status};
 ghost use Rattle.hv_answer.specs.declared.answer.Which.TheVariants as texts;
 ghost use Rattle.hv_judge.specs.declared.running.RunFault.TheVariants as faults;
@@ -18,6 +18,7 @@ use hv_judge::{Kind, RecheckKind, RunFault, Which, run, run_print, run_recheck};
 use hv_text::{FromReader, ToWriter};
 use std::alloc::Global;
 use std::fs::{self, File};
+use std::io::{BufWriter, Write};
 use std::process::ExitCode;
 use std::{env, io};
 
@@ -51,7 +52,23 @@ fn open_four<'a>(
     Ok((domain, problem, plan, certificate))
 }
 
-// Judges open files and writes the verdict to standard output.
+// Writes out what the buffer of an output still holds, where the run came to its end.
+fn finish<W: Write + Drop, T: Drop>(
+    out: ToWriter<W>,
+    ended: Result<T, RunFault>,
+) -> Result<T, RunFault>
+    ensures { IfErr result (λ fault. (fault ≡ faults.Write) ⊎ (ended ≡ Err fault)) }
+{
+    let ended = ended?;
+    let ToWriter { mut writer, .. } = out;
+    match writer.flush() {
+        Ok(()) => Ok(ended),
+        Err(_) => Err(RunFault::Write),
+    }
+}
+
+// Judges open files and writes the verdict to standard output. A certificate has many short parts,
+// so they are gathered in a buffer.
 fn judge_open(
     rt: &HostRuntime,
     files: (File, File, File),
@@ -64,8 +81,11 @@ fn judge_open(
     let mut domain = FromReader::new(domain);
     let mut problem = FromReader::new(problem);
     let mut plan = FromReader::new(plan);
-    let mut out = ToWriter::new(io::writer(rt));
-    run(
+    let Ok(buffer) = BufWriter::new(rt.alloc(), io::writer(rt)) else {
+        return Err(RunFault::Memory);
+    };
+    let mut out = ToWriter::new(buffer);
+    let ended = run(
         rt.alloc(),
         &mut domain,
         &mut problem,
@@ -73,7 +93,8 @@ fn judge_open(
         limit,
         explain,
         &mut out,
-    )
+    );
+    finish(out, ended)
 }
 
 fn judge_files<'a>(rt: &HostRuntime, job: &'a Job) -> End<'a>
