@@ -48,6 +48,12 @@ pub record IsRowSoFar (Fit : ℕ → ℕ → Type 0) (n s : ℕ) (rs : List Run)
   pub rest : (rest : List Run) → IsRow Fit n s rest → IsRow Fit n 0 (rs ++ rest)
   pub apart : AreApart rs
 
+-- at first it is one run
+pub first_run : (Fit : ℕ → ℕ → Type 0) (n : ℕ) (r : Run) (rs : List Run) → rs ≡ r ∷ [] → IsRunOf Fit n 0 r → IsRowSoFar Fit n (r.last + 1) rs
+first_run Fit n r rs one is =
+    let far : IsRowSoFar Fit n (r.last + 1) (r ∷ []) = record { rest = λ rest h. (is, h); apart = (tt, tt) } in
+    subst (IsRowSoFar Fit n (r.last + 1)) (sym one) far
+
 module _ (Fit : ℕ → ℕ → Type 0) (n s : ℕ) (rs : List Run) (r : Run) (far : IsRowSoFar Fit n s rs) (is : IsRunOf Fit n s r) where
   behind : (EndsWith rs r.finish → ⊥) → IsRowSoFar Fit n (r.last + 1) (rs ++ r ∷ [])
   behind other = record {

@@ -8,7 +8,7 @@ use Rattle.hv_order.specs.LeastFinishes.{NodeCanBePlaced, LineCanBePlaced, IsLea
 use Rattle.hv_order.specs.Settings.{Setting, last, IsMeaning, HaveCandidates}
 use Rattle.hv_order.specs.Tables.{IsLeast}
 use Rattle.hv_order.specs.inside.PlanFacts.{IsSetting, FitsNode, plan_facts}
-use Rattle.hv_order.specs.inside.Runs.{AreRows, ArePlanRows}
+use Rattle.hv_order.specs.inside.Runs.{AreRows, ArePlanRows, runs_of}
 use Rattle.hv_order.specs.declared.runs.Row.{Row}
 use Rattle.hv_order.proofs.Different.{number_is}
 use Rattle.hv_order.proofs.Judgement.{line_placed}
@@ -92,6 +92,6 @@ plan_rows q rows is candidates as_many are = record {
   as_many_runs = λ v r e.
       let row = are v r e in
       let lt = slice_get_within rows v r e in
-      number_placed q is v (omega arith) (length r.runs.items)
-      (number_is (FitsNode q v) (λ s s' f le fits. (plan_nodes q is).fits.earlier v s s' f le fits) (last q) r.runs.items row.runs row.apart);
+      number_placed q is v (omega arith) (length (runs_of (last q) r))
+      (number_is (FitsNode q v) (λ s s' f le fits. (plan_nodes q is).fits.earlier v s s' f le fits) (last q) (runs_of (last q) r) row.runs row.apart);
 }

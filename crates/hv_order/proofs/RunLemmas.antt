@@ -1,11 +1,14 @@
 -- Rows as runs.
-use Rattle.std.proofs.Common.{◌≡◌, ℕ, zero, suc, ◌+◌, ◌≤◌, ◌<◌, ◌++◌, List, [], ◌∷◌, refl, ap, subst, inl, inr, arith, ◌⊎◌, Some, None, length, get_or}
+use Rattle.std.proofs.Common.{◌≡◌, ℕ, zero, suc, ◌+◌, ◌≤◌, ◌<◌, ◌++◌, List, [], ◌∷◌, refl, sym, ap, subst, inl, inr, arith, ◌⊎◌, Some, None, length, get_or}
 use Rattle.std.proofs.lemmas.Bool.{cases_lt}
+use Rattle.std.proofs.lemmas.Option.{slice_get-get_or}
+use Rattle.std.specs.Global.{Vec}
 use Rattle.std.specs.Prelude.{slice_get}
-use Rattle.hv_order.specs.inside.Facts.{IsRunOf}
-use Rattle.hv_order.specs.inside.Runs.{IsRow, AreRising, AreBefore}
+use Rattle.hv_order.specs.inside.Facts.{Facts, IsRunOf}
+use Rattle.hv_order.specs.inside.Runs.{IsRow, IsRowOf, AreRows, AreRising, AreBefore}
 use Rattle.hv_order.specs.declared.trial.Run.{Run}
 use Rattle.hv_order.specs.declared.runs.Row.{Row}
+use Rattle.hv_order.specs.declared.runs.Row.TheVariants as kinds
 
 pub appended : {X : Type 0} (xs : List X) (r : X) (rest : List X) → (xs ++ r ∷ []) ++ rest ≡ xs ++ r ∷ rest
 appended [] r rest = refl
@@ -78,3 +81,14 @@ pub has_row : (rows : List Row) (v : ℕ) → v < length rows → (r : Row) × (
 has_row [] v lt = absurd (omega arith)
 has_row (x ∷ xs) zero lt = (x, refl)
 has_row (x ∷ xs) (suc v) lt = has_row xs v (omega arith)
+
+-- the runs of a row that is kept as runs
+pub kept_runs : (q : Facts) (v : ℕ) (r : Row) (runs : Vec Run) (xs : List Run) → IsRowOf q v r → r ≡ kinds.Runs runs → xs ≡ runs.items → IsRow (q.fits v) q.last 0 xs
+kept_runs q v r runs xs row is e =
+    let kept : IsRowOf q v (kinds.Runs runs) = subst (IsRowOf q v) is row in
+    let P : List Run → Type 0 = λ ys. IsRow (q.fits v) q.last 0 ys in
+    subst P (sym e) kept.runs
+
+-- the row of a node among rows
+pub row_at : (q : Facts) (rows : List Row) (v : ℕ) (r : Row) → AreRows q rows → v < length rows → r ≡ get_or rows v r → IsRowOf q v r
+row_at q rows v r are lt at = subst (IsRowOf q v) (sym at) (are v (get_or rows v r) (slice_get-get_or rows v r lt))

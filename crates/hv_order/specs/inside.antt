@@ -10,6 +10,7 @@ pub mod Frames
 pub mod Winners
 pub mod Nodes
 pub mod Runs
+pub mod Idle
 pub mod Memos
 pub mod Tasks
 pub mod Walks

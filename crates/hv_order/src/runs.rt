@@ -4,18 +4,33 @@ ghost use Rattle.hv_order.specs.LeastFinishes.{IsCounted, IsNumberOfAnswers};
 ghost use Rattle.hv_order.specs.Tables.{IsLeast};
 ghost use Rattle.hv_order.specs.inside.Facts.{IsNodeRun};
 ghost use Rattle.hv_order.specs.inside.Nodes.{AreNodes};
-ghost use Rattle.hv_order.specs.inside.Runs.{IsRowOf, AreRows, AreRising, Reaches, EndsWith, IsTrimmed, IsPlace, AreFewOf};
+ghost use Rattle.hv_order.specs.inside.Runs.{IsRow, AreApart, IsRowOf, AreRows, AreRising, Reaches, EndsWith, IsTrimmed, IsPlace, AreFew, AreFewOf, runs_of};
+ghost use Rattle.hv_order.specs.declared.runs.Row.TheVariants as kinds;
 
+use crate::idle::is_idle;
 use crate::memory::Memory;
 use crate::nodes::Nodes;
 use crate::settle::settle;
 use crate::trial::Run;
 use std::alloc::Global;
 
-/// The row of one node: each run goes from behind the run before it.
+/// The row of one node.
 #[derive(Drop)]
-pub struct Row {
-    pub runs: Vec<Run>,
+pub enum Row {
+    /// The node finishes where it starts, whatever the start: a run for each start, none of them
+    /// kept.
+    Idle,
+    /// Runs, of which each goes from behind the run before it.
+    Runs(Vec<Run>),
+}
+
+impl Row {
+    /// Whether the node finishes where it starts, whatever the start.
+    pub fn is_idle(&self) -> bool
+        ensures { IsTrue result ↔ (self.now ≡ kinds.Idle) }
+    {
+        matches!(self, Row::Idle)
+    }
 }
 
 /// Whether two finishes are the same.
@@ -46,6 +61,33 @@ pub fn trim(runs: &mut Vec<Run>, finish: Option<u32>)
     runs.truncate(kept);
 }
 
+/// The runs of the node behind these rows, of which the first is known.
+pub fn make_runs<N: Nodes>(
+    alloc: Global,
+    nodes: &N,
+    rows: &[Row],
+    first: Run,
+) -> Result<Vec<Run>, Memory>
+    requires nodes { AreNodes (N.facts nodes.now) }
+    requires rows { AreRows (N.facts nodes.now) rows.now }
+    requires node { length rows.now < N.size nodes.now }
+    requires first { IsNodeRun (N.facts nodes.now) (length rows.now) 0 first }
+    ensures row { IfOk result (λ runs.
+        IsRow ((N.facts nodes.now).fits (length rows.now)) (N.facts nodes.now).last 0 runs.items) }
+    ensures apart { IfOk result (λ runs. AreApart runs.items) }
+{
+    let last = nodes.last();
+    let mut runs = vec![in alloc; first]?;
+    let mut start = first.last + 1;
+    while start <= last {
+        let settled = settle(alloc, nodes, rows, start)?;
+        start = settled.run.last + 1;
+        trim(&mut runs, settled.run.finish);
+        runs.push(settled.run)?;
+    }
+    Ok(runs)
+}
+
 /// The row of the node behind these rows.
 pub fn make_row<N: Nodes>(alloc: Global, nodes: &N, rows: &[Row]) -> Result<Row, Memory>
     requires nodes { AreNodes (N.facts nodes.now) }
@@ -53,16 +95,12 @@ pub fn make_row<N: Nodes>(alloc: Global, nodes: &N, rows: &[Row]) -> Result<Row,
     requires node { length rows.now < N.size nodes.now }
     ensures { IfOk result (IsRowOf (N.facts nodes.now) (length rows.now)) }
 {
-    let last = nodes.last();
-    let mut runs = Vec::new(alloc);
-    let mut start = 0;
-    while start <= last {
-        let settled = settle(alloc, nodes, rows, start)?;
-        start = settled.run.last + 1;
-        trim(&mut runs, settled.run.finish);
-        runs.push(settled.run)?;
+    let first = settle(alloc, nodes, rows, 0)?;
+    if is_idle(nodes, rows, &first) {
+        return Ok(Row::Idle);
     }
-    Ok(Row { runs })
+    let runs = make_runs(alloc, nodes, rows, first.run)?;
+    Ok(Row::Runs(runs))
 }
 
 /// The rows of the first `count` nodes, children first.
@@ -117,21 +155,42 @@ pub struct Found {
     pub looked: usize,
 }
 
-/// The run of a node in which a start lies, by the rows of the nodes.
-pub fn find<N: Nodes>(_nodes: &N, rows: &[Row], node: usize, start: u32) -> Found
-    requires rows { AreRows (N.facts _nodes.now) rows.now }
-    requires node { node < length rows.now }
+/// The run of a node in which a start lies, by the row of the node.
+pub fn find_in<N: Nodes>(_nodes: &N, row: &Row, _node: usize, start: u32) -> Found
+    requires row { IsRowOf (N.facts _nodes.now) _node row.now }
     requires start { start ≤ (N.facts _nodes.now).last }
-    ensures run { IsNodeRun (N.facts _nodes.now) node start result.run }
+    ensures run { IsNodeRun (N.facts _nodes.now) _node start result.run }
     ensures small { result.looked ≤ 64 }
-    ensures looked { AreFewOf rows.now node result.looked }
+    ensures looked { AreFew (runs_of (N.facts _nodes.now).last row.now) result.looked }
 {
-    let runs = &rows[node].runs;
-    let place = run_at(runs, start);
-    Found {
-        run: runs[place.at],
-        looked: place.looked,
+    match row {
+        Row::Idle => Found {
+            run: Run {
+                last: start,
+                finish: Some(start),
+            },
+            looked: 1,
+        },
+        Row::Runs(runs) => {
+            let place = run_at(runs, start);
+            Found {
+                run: runs[place.at],
+                looked: place.looked,
+            }
+        }
     }
+}
+
+/// The run of a node in which a start lies, by the rows of the nodes.
+pub fn find<N: Nodes>(nodes: &N, rows: &[Row], node: usize, start: u32) -> Found
+    requires rows { AreRows (N.facts nodes.now) rows.now }
+    requires node { node < length rows.now }
+    requires start { start ≤ (N.facts nodes.now).last }
+    ensures run { IsNodeRun (N.facts nodes.now) node start result.run }
+    ensures small { result.looked ≤ 64 }
+    ensures looked { AreFewOf (N.facts nodes.now).last rows.now node result.looked }
+{
+    find_in(nodes, &rows[node], node, start)
 }
 
 /// The least finish of a node for a start, by the rows of the nodes.
@@ -163,12 +222,22 @@ pub fn least_finish_counted<N: Nodes>(
     (found.run.finish, found.looked as u32)
 }
 
-/// How many different answers a node has for its starts, none counted as one.
-pub fn count_runs<N: Nodes>(_nodes: &N, rows: &[Row], node: usize) -> u64
-    requires nodes { AreNodes (N.facts _nodes.now) }
-    requires rows { AreRows (N.facts _nodes.now) rows.now }
-    requires node { node < length rows.now }
-    ensures { IsNumberOfAnswers ((N.facts _nodes.now).fits node) (N.facts _nodes.now).last result }
+/// How many runs a row of a node stands for.
+pub fn count_in<N: Nodes>(nodes: &N, row: &Row) -> u64
+    ensures { result ≡ length (runs_of (N.facts nodes.now).last row.now) }
 {
-    rows[node].runs.len() as u64
+    match row {
+        Row::Idle => u64::from(nodes.last()) + 1,
+        Row::Runs(runs) => runs.len() as u64,
+    }
+}
+
+/// How many different answers a node has for its starts, none counted as one.
+pub fn count_runs<N: Nodes>(nodes: &N, rows: &[Row], node: usize) -> u64
+    requires nodes { AreNodes (N.facts nodes.now) }
+    requires rows { AreRows (N.facts nodes.now) rows.now }
+    requires node { node < length rows.now }
+    ensures { IsNumberOfAnswers ((N.facts nodes.now).fits node) (N.facts nodes.now).last result }
+{
+    count_in(nodes, &rows[node])
 }

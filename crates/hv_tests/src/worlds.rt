@@ -4,6 +4,7 @@ ghost use Rattle.std.specs.Prelude.{IfSome};
 ghost use Rattle.hv_world.specs.WorldViews.{world_view};
 ghost use Rattle.hv_plan.specs.BuiltTrees.{tree_view};
 ghost use Rattle.hv_plan.specs.PlanTrees.{IsTreeIn};
+ghost use Rattle.hv_order.specs.Settings.{HasNoPrecondition};
 
 use hv_plan::{PlanText, Tree, read_plan};
 use hv_syntax::{read_domain, read_problem};
@@ -17,7 +18,9 @@ pub(crate) fn world_of<'s>(
     alloc: Global,
     domain: &'s [u8],
     problem: &'s [u8],
-) -> Option<Box<World<'s>>> {
+) -> Option<Box<World<'s>>>
+    ensures { IfSome result (λ w. HasNoPrecondition (world_view w.value)) }
+{
     let domain = read_domain(alloc, domain).ok()?;
     let problem = read_problem(alloc, problem).ok()?;
     let world = World::build(alloc, &domain, &problem).ok()?;

@@ -1,11 +1,12 @@
 -- The row of a node as runs of starts.
-use Rattle.std.specs.Prelude.{◌≡◌, ℕ, ◌+◌, ◌-◌, ◌<◌, ◌≤◌, ◌⊎◌, List, [], ◌∷◌, length, take, Option, Some, slice_get, get_or}
+use Rattle.std.specs.Prelude.{◌≡◌, ℕ, zero, suc, ◌+◌, ◌-◌, ◌<◌, ◌≤◌, ◌⊎◌, List, [], ◌∷◌, length, take, Option, Some, slice_get, get_or}
 use Rattle.hv_order.specs.LeastFinishes.{NodeCanBePlaced, IsNumberOfAnswers, HasDigits}
 use Rattle.hv_order.specs.Settings.{Setting, last, HaveCandidates}
 use Rattle.hv_order.specs.inside.Facts.{Facts, IsRunOf}
 use Rattle.hv_order.specs.inside.PlanFacts.{IsSetting, plan_facts}
 use Rattle.hv_order.specs.declared.trial.Run.{Run}
 use Rattle.hv_order.specs.declared.runs.Row.{Row}
+use Rattle.hv_order.specs.declared.runs.Row.TheVariants as kinds
 use Rattle.hv_order.specs.declared.runs.Place.{Place}
 
 -- runs cover the starts from s to n, one behind the other
@@ -23,10 +24,20 @@ abbrev pub AreApart : List Run → Type 0
 AreApart [] = Unit {0}
 AreApart (r ∷ rs) = IsApartFrom r rs × AreApart rs
 
+-- so many runs from s on, each of one start, which is its own finish
+abbrev pub idle_runs : ℕ → ℕ → List Run
+idle_runs s zero = []
+idle_runs s (suc count) = record { last = s; finish = Some s } ∷ idle_runs (s + 1) count
+
+-- the runs that a row stands for, where n is the last state
+abbrev pub runs_of : ℕ → Row → List Run
+runs_of n kinds.Idle = idle_runs 0 (suc n)
+runs_of n (kinds.Runs runs) = runs.items
+
 -- it is the row of a node
 pub record IsRowOf (q : Facts) (v : ℕ) (r : Row) : Type 0 where
-  pub runs : IsRow (q.fits v) q.last 0 r.runs.items
-  pub apart : AreApart r.runs.items
+  pub runs : IsRow (q.fits v) q.last 0 (runs_of q.last r)
+  pub apart : AreApart (runs_of q.last r)
 
 -- each row is that of the node of its number
 abbrev pub AreRows : Facts → List Row → Type 0
@@ -71,9 +82,9 @@ pub record AreFew (runs : List Run) (looked : ℕ) : Type 0 where
   pub one : 1 ≤ looked
   pub few : HasDigits (length runs) looked
 
--- so of the runs of a node
-abbrev pub AreFewOf : List Row → ℕ → ℕ → Type 0
-AreFewOf rows v looked = (r : Row) → slice_get rows v ≡ Some r → AreFew r.runs.items looked
+-- so of the runs of a node, where n is the last state
+abbrev pub AreFewOf : ℕ → List Row → ℕ → ℕ → Type 0
+AreFewOf n rows v looked = (r : Row) → slice_get rows v ≡ Some r → AreFew (runs_of n r) looked
 
 -- where a start was found among runs, and how many of them were looked at
 pub record IsPlace (runs : List Run) (start : ℕ) (p : Place) : Type 0 where
@@ -82,8 +93,8 @@ pub record IsPlace (runs : List Run) (start : ℕ) (p : Place) : Type 0 where
   pub here : Reaches runs p.at start
   pub few : AreFew runs p.looked
 
--- These are the rows of a plan's nodes, of which each has a candidate: a row for each node, with as many
--- runs as the node has different answers
+-- These are the rows of a plan's nodes, of which each has a candidate: a row for each node, that
+-- stands for as many runs as the node has different answers
 pub record ArePlanRows (q : Setting) (rows : List Row) : Type 0 where
   pub setting : IsSetting q
   pub candidates : HaveCandidates q
@@ -91,4 +102,4 @@ pub record ArePlanRows (q : Setting) (rows : List Row) : Type 0 where
   pub each : AreRows (plan_facts q) rows
   pub as_many_runs :
       (v : ℕ) (r : Row) → slice_get rows v ≡ Some r
-      → IsNumberOfAnswers (NodeCanBePlaced q v) (last q) (length r.runs.items)
+      → IsNumberOfAnswers (NodeCanBePlaced q v) (last q) (length (runs_of (last q) r))

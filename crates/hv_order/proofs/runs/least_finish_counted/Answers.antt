@@ -1,4 +1,5 @@
 use Rattle.std.proofs.Common.{arith, length}
+use Rattle.hv_order.specs.inside.Runs.{runs_of}
 use Rattle.hv_order.proofs.RunLemmas.{has_row}
 use Rattle.hv_order.proofs.Different.{number_is}
 use Rattle.hv_order.proofs.runs.least_finish_counted.Goals as goal
@@ -14,8 +15,8 @@ returns-clause-looked g c =
     let row = c.requires.rows v r is in
     let looked = c.find-found.ensures.looked r is in
     record {
-      answers = length r.runs.items;
-      is_number = number_is (q.fits v) (λ s s' f le h. c.requires.nodes.fits.earlier v s s' f le h) q.last r.runs.items row.runs row.apart;
+      answers = length (runs_of q.last r);
+      is_number = number_is (q.fits v) (λ s s' f le h. c.requires.nodes.fits.earlier v s s' f le h) q.last (runs_of q.last r) row.runs row.apart;
       one = looked.one;
       few = looked.few;
     }

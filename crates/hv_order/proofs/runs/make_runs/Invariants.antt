@@ -1,7 +1,7 @@
 use Rattle.std.proofs.Common.{◌+◌, ◌-◌, ◌++◌, ◌≤◌, length, List}
 use Rattle.hv_order.specs.inside.Runs.{IsRow, AreApart}
 use Rattle.hv_order.specs.declared.trial.Run.{Run}
-use Rattle.hv_order.proofs.runs.make_row.Given as goal
+use Rattle.hv_order.proofs.runs.make_runs.Given as goal
 
 -- what the rest comes to, the whole row does
 abbrev pub invariant-loop-start : goal.invariant-loop-start
