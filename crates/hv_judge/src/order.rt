@@ -14,8 +14,7 @@ use crate::not_solved::NotSolved;
 use hv_answer::{Cause, CauseKind};
 use hv_certificate::Certificate;
 use hv_match::Matcher;
-use hv_order::certified_plans::certified_plans_are_solved;
-use hv_order::solution::{RowFault, find_certificate, solution};
+use hv_order::solution::{RowFault, is_solvable, solution};
 use hv_plan::Tree;
 use hv_state::{BitState, Trace};
 use hv_world::World;
@@ -39,10 +38,11 @@ fn last_cause(
     ensures err { IfErr result
         (IsRowFault (judged_without (world_view world.now) (tree_view tree.now))) }
 {
-    certified_plans_are_solved();
-    match find_certificate(alloc, world, matcher, tree, trace, false)? {
-        Some(_) => Ok(CauseKind::PreconditionUnplaced),
-        None => Ok(CauseKind::OrderBroken),
+    let fits_in_order = is_solvable(alloc, world, matcher, tree, trace, false)?;
+    if fits_in_order {
+        Ok(CauseKind::PreconditionUnplaced)
+    } else {
+        Ok(CauseKind::OrderBroken)
     }
 }
 

@@ -1,6 +1,6 @@
 -- What is walked over the nodes of a plan certifies the plan: each node stands by a candidate, and what
 -- these candidates amount to has an executable sequence.
-use Rattle.std.proofs.Common.{◌≡◌, ℕ, ◌+◌, ◌<◌, ◌⊎◌, inl, inr, List, [], ◌∷◌, Option, Some, None, length, map, slice_get, refl, sym, ap, ◌∙◌, subst, arith, All, Contains, Bool}
+use Rattle.std.proofs.Common.{◌≡◌, ℕ, suc, ◌+◌, ◌<◌, ◌≤◌, ◌⊎◌, MatchBool, is_some, inl, inr, List, [], ◌∷◌, Option, Some, None, length, map, slice_get, refl, sym, ap, ◌∙◌, subst, arith, All, Contains, Bool}
 use Rattle.std.specs.List.{AllZip}
 use Rattle.std.proofs.lemmas.Option.{slice_get-get_or}
 use Rattle.std.proofs.lemmas.List.Elements.{All-head, All-tail, All-weaker}
@@ -37,7 +37,8 @@ use Rattle.hv_order.proofs.NodeFits.{as_many, item_is, method_before, before_met
 use Rattle.hv_order.proofs.Walked.{walked_sequence, stands_of}
 use Rattle.hv_order.proofs.Certifying.{writables, certifies}
 use Rattle.hv_order.proofs.TreeLines.{below_root}
-use Rattle.hv_order.proofs.RootNode.{unsolved}
+use Rattle.hv_order.proofs.RootNode.{solved_fits, unsolved}
+use Rattle.hv_order.proofs.Wider.{wider}
 
 -- a list of places with what stands at them
 zip_map : {A B : Type 0} (R : A → B → Type 0) (f : A → B) (xs : List A) → All (λ x. R x (f x)) xs → AllZip R xs (map f xs)
@@ -305,6 +306,18 @@ module _ (w : World) (t : PlanTree) (q : Setting) (over : IsSettingOver w t q) w
 
   pub says_over : (chosen : List Chosen) (s : Certificate) → SaysAll w t chosen s → SaysAll q.plan.world q.tree chosen s
   says_over chosen s h = rw (over.0, over.1) h
+
+-- what the run of the root's node from the first state says of a plan of so many nodes
+pub told_by_run : (q : Setting) → IsSetting q → (count : ℕ) → count ≡ length q.tree.nodes → (o : Option ℕ)
+    → IsLeast (FitsNode q (root_of count) 0) (last q) o → MatchBool (is_some o) (IsSolved q) (IsSolved q → ⊥)
+told_by_run q is count same None least =
+    let P : ℕ → Type 0 = λ n. IsLeast (FitsNode q (root_of n) 0) (last q) None in
+    unsolved q is (subst P same least)
+told_by_run q is count same (Some f) least =
+    let P : ℕ → Type 0 = λ n. FitsNode q (root_of n) 0 f in
+    let v = root_number q.tree in
+    let le : f ≤ last q = least.within in
+    (solved_fits q is).1 (wider (children_at q.tree.nodes) (IsMeaning q) (suc v) (Task v) 0 0 f (last q) (omega arith) le (subst P same least.reached))
 
 -- where the root of so many nodes has no finish, the plan is not solved
 pub none_walked : (q : Setting) (is : IsSetting q) (count : ℕ) (o : Option (Vec (Option Stand))) → count ≡ length q.tree.nodes

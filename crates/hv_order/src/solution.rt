@@ -1,6 +1,6 @@
 //! Whether a plan has a solution.
 
-ghost use Rattle.std.specs.Prelude.{◌≡◌, ◌<◌, ℕ, length, IfOk, IfErr, MatchOption};
+ghost use Rattle.std.specs.Prelude.{◌≡◌, ◌<◌, ℕ, length, IfOk, IfErr, MatchBool, MatchOption};
 ghost use Rattle.hv_world.specs.WorldViews.{world_view};
 ghost use Rattle.hv_state.specs.Plans.{plan};
 ghost use Rattle.hv_plan.specs.BuiltTrees.{tree_view};
@@ -11,7 +11,7 @@ ghost use Rattle.hv_order.specs.Certified.{Certifies, IsRowFault};
 use crate::first::first_without;
 use crate::memory::Memory;
 use crate::plan_nodes::PlanNodes;
-use crate::solved::certificate_of;
+use crate::solved::{certificate_of, is_solved};
 use hv_certificate::Certificate;
 use hv_match::Matcher;
 use hv_plan::Tree;
@@ -49,14 +49,37 @@ impl From<NoMemory> for RowFault {
     }
 }
 
-/// A certificate of a plan, exactly where it has a solution, the goal aside. Where `is_with` is
-/// false, each method's precondition is taken as true. That a node has no candidate is not told
-/// apart from other reasons, so this serves where it is known that each has one.
+/// Whether a plan has a solution, the goal aside. Where `is_with` is false, each method's
+/// precondition is taken as true. That a node has no candidate is not told apart from other reasons.
 ///
 /// # Errors
 ///
 /// `Memory` where a growth was refused.
-pub fn find_certificate<'s>(
+pub fn is_solvable<'s>(
+    alloc: Global,
+    world: &World<'s>,
+    matcher: &Matcher<'_, 's>,
+    tree: &Tree<'_, '_>,
+    trace: &Trace<'_, '_, BitState>,
+    is_with: bool,
+) -> Result<bool, Memory>
+    requires world { matcher.now ≡ world_view world.now }
+    requires top { HasNoPrecondition (world_view world.now) }
+    requires tree { IsTreeIn (world_view world.now) (tree_view tree.now) }
+    requires trace { trace.now ≡ plan (world_view world.now) (tree_view tree.now).actions }
+    requires small { length (tree_view tree.now).actions < 4294967295 }
+    ensures { IfOk result (λ b. MatchBool b
+        (IsSolved (setting (tree_view tree.now) trace.now is_with))
+        (IsSolved (setting (tree_view tree.now) trace.now is_with) → ⊥)) }
+{
+    world.is_sound();
+    let nodes = PlanNodes::new(alloc, world, matcher, tree, trace, is_with)?;
+    is_solved(alloc, &nodes)
+}
+
+// A certificate of a plan, exactly where it has a solution, the goal aside. That a node has no
+// candidate is not told apart from other reasons.
+fn find_certificate<'s>(
     alloc: Global,
     world: &World<'s>,
     matcher: &Matcher<'_, 's>,

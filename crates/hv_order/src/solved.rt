@@ -1,6 +1,6 @@
-//! A certificate of a plan, by a walk of its nodes.
+//! Whether a plan is solved, by the run of its root, and its certificate, by a walk of its nodes.
 
-ghost use Rattle.std.specs.Prelude.{length, IfOk, MatchOption};
+ghost use Rattle.std.specs.Prelude.{length, IfOk, MatchBool, MatchOption};
 ghost use Rattle.hv_world.specs.WorldViews.{world_view};
 ghost use Rattle.hv_plan.specs.BuiltTrees.{tree_view};
 ghost use Rattle.hv_order.specs.Certified.{Certifies};
@@ -13,7 +13,7 @@ use crate::certify::write_certificate;
 use crate::chosen::choose;
 use crate::memory::Memory;
 use crate::plan_nodes::PlanNodes;
-use crate::solve::new_memo;
+use crate::solve::{new_memo, run_for};
 use crate::walk::{Stand, walk};
 use hv_certificate::Certificate;
 use hv_plan::Tree;
@@ -36,6 +36,22 @@ fn by_walk<'s>(
     let chosen = choose(alloc, stands)?;
     let certificate = write_certificate(alloc, world, tree, &chosen)?;
     Ok(certificate)
+}
+
+/// Whether a plan has a solution, the goal aside. Only the finishes that this hangs on are worked
+/// out, and nothing is written down.
+pub fn is_solved(
+    alloc: Global,
+    nodes: &PlanNodes<'_, '_, '_, '_, '_, '_, '_>,
+) -> Result<bool, Memory>
+    requires setting { IsSetting nodes.now }
+    ensures { IfOk result (λ b. MatchBool b (IsSolved nodes.now) (IsSolved nodes.now → ⊥)) }
+{
+    let tree = nodes.tree();
+    let count = tree.node_count();
+    let mut memo = new_memo(alloc, nodes, count as usize)?;
+    let run = run_for(alloc, nodes, &mut memo, count - 1, 0)?;
+    Ok(run.finish.is_some())
 }
 
 /// A certificate of a plan, exactly where it has a solution, the goal aside. Only the finishes that
