@@ -9,5 +9,6 @@ run_for-requires-clause-nodes c = plan_nodes c.args.nodes.now c.requires.setting
 pub returns : goal.returns
 returns c =
     let count : c.node_count-count.result ≡ length c.args.nodes.now.tree.nodes = search rules in
-    told_by_run c.args.nodes.now c.requires.setting c.node_count-count.result count c.in_ok-run.run'.finish
-    (c.in_ok-run.ensures.run.least 0 (omega arith) c.in_ok-run.ensures.run.begun)
+    rw c.is_some.ensures
+    (told_by_run c.args.nodes.now c.requires.setting c.node_count-count.result count c.in_ok-run.run'.finish
+    (c.in_ok-run.ensures.run.least 0 (omega arith) c.in_ok-run.ensures.run.begun))
