@@ -43,6 +43,6 @@ blames_no_certificate left_a a a' left_b b b' left_c c c' (Err faults.Write) hal
 pub blamed_behind : {K : Type 0} (ended r : Result K RunFault) → IfErr ended (λ fault. fault ≢ faults.Read texts.Certificate)
     → IfErr r (λ fault. (fault ≡ faults.Write) ⊎ (ended ≡ Err fault)) → IfErr r (λ fault. fault ≢ faults.Read texts.Certificate)
 blamed_behind ended (Ok k) before how = tt
-blamed_behind ended (Err f) before (inl is) e = let same : faults.Read texts.Certificate ≡ faults.Write = cc in cc
-blamed_behind (Err f) (Err g) before (inr is) e = let same : f ≡ g = cc in before (cc)
-blamed_behind (Ok k) (Err g) before (inr is) e = cc
+blamed_behind ended (Err f) before (inl is) = λ e. let same : faults.Read texts.Certificate ≡ faults.Write = cc in cc
+blamed_behind (Err f) (Err g) before (inr is) = λ e. let same : f ≡ g = cc in before (cc)
+blamed_behind (Ok k) (Err g) before (inr is) = λ e. cc
