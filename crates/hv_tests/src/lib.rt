@@ -8,8 +8,6 @@ mod canonical;
 #[cfg(test)]
 mod plan;
 #[cfg(test)]
-mod rows;
-#[cfg(test)]
 mod state;
 #[cfg(test)]
 mod syntax;

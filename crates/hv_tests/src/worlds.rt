@@ -4,10 +4,9 @@ ghost use Rattle.std.specs.Prelude.{IfSome};
 ghost use Rattle.hv_world.specs.WorldViews.{world_view};
 ghost use Rattle.hv_plan.specs.BuiltTrees.{tree_view};
 ghost use Rattle.hv_plan.specs.PlanTrees.{IsTreeIn};
-ghost use Rattle.hv_order.specs.Settings.{HasNoPrecondition};
 
 use hv_plan::{PlanText, Tree, read_plan};
-use hv_syntax::{DomainText, ProblemText, read_domain, read_problem};
+use hv_syntax::{read_domain, read_problem};
 use hv_text::Name;
 use hv_world::{ObjectId, TypeId, World};
 use std::alloc::Global;
@@ -18,29 +17,11 @@ pub(crate) fn world_of<'s>(
     alloc: Global,
     domain: &'s [u8],
     problem: &'s [u8],
-) -> Option<Box<World<'s>>>
-    ensures { IfSome result (λ w. HasNoPrecondition (world_view w.value)) }
-{
+) -> Option<Box<World<'s>>> {
     let domain = read_domain(alloc, domain).ok()?;
     let problem = read_problem(alloc, problem).ok()?;
-    built(alloc, &domain, &problem)
-}
-
-// The world of what was read.
-fn built<'s>(
-    alloc: Global,
-    domain: &DomainText<'s>,
-    problem: &ProblemText<'s>,
-) -> Option<Box<World<'s>>>
-    ensures { IfSome result (λ w. HasNoPrecondition (world_view w.value)) }
-{
-    let Ok(world) = World::build(alloc, domain, problem) else {
-        return None;
-    };
-    match Box::new(alloc, world) {
-        Ok(world) => Some(world),
-        Err(_) => None,
-    }
+    let world = World::build(alloc, &domain, &problem).ok()?;
+    Box::new(alloc, world).ok()
 }
 
 /// The object of a name.
