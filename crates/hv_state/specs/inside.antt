@@ -4,4 +4,5 @@ pub mod Histories
 pub mod Notes
 pub mod Bits
 pub mod Codes
+pub mod Makings
 pub mod Parts

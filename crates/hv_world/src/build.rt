@@ -26,7 +26,7 @@ use crate::check::first_fault;
 use crate::fault::StaticFault;
 use crate::formula::{Atom, Formula};
 use crate::intern::lists::{
-    actions_in, add_object_pairs, goal_in, init_in, methods_in, predicate_names, tasks_in,
+    actions_in, add_eithers_pairs, add_object_pairs, goal_in, init_in, methods_in, predicate_names, tasks_in,
     type_pairs,
 };
 use crate::intern::sections::top_in;
@@ -51,13 +51,15 @@ fn typing_in<'s>(
     requires { IsInRange (typing_by (known_by tables.now) (domain_view domain.now) (problem_view problem.now)) }
     ensures { IfOk result (λ w. w ≡ typing_by (known_by tables.now) (domain_view domain.now) (problem_view problem.now)) }
 {
-    let parents = type_pairs(alloc, tables, domain.types())?;
+    let types = tables.type_count()?;
+    let mut parents = type_pairs(alloc, tables, domain.types())?;
+    add_eithers_pairs(tables, &mut parents)?;
     let mut declared = Vec::new(alloc);
     add_object_pairs(tables, &mut declared, domain.constants())?;
     add_object_pairs(tables, &mut declared, problem.objects())?;
     Types::new(
         alloc,
-        tables.types.len(),
+        types,
         tables.objects.len(),
         parents,
         declared,
@@ -290,8 +292,9 @@ impl<'s> World<'s> {
         requires methods { (n : List ℕ) → places_by places.methods n ≡ place_in (method_names (world_of_parts tables parts).methods) n }
         ensures { world_view result ≡ world_of_parts tables.entry parts.entry }
     {
+        let types = tables.types;
         World {
-            types: tables.types,
+            types: types.names,
             objects: tables.objects,
             typing: parts.kinds.typing,
             predicates: parts.kinds.predicates,

@@ -7,6 +7,7 @@ ghost use Rattle.hv_world.specs.Known.{known_in};
 ghost use Rattle.hv_world.specs.StaticRules.{IsStatic, first_fault};
 ghost use Rattle.hv_world.specs.inside.Tables.{known_by};
 
+mod effects;
 mod formulas;
 mod networks;
 mod sections;

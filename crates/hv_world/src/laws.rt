@@ -1,8 +1,8 @@
 //! Laws of the definitions. These functions do nothing: their contracts are the laws.
 
-ghost use Rattle.std.specs.Prelude.{◌≡◌, ◌<◌, ◌↔◌, ◌⊎◌, ◌∷◌, ◌++◌, [], ℕ, List, true, Some, slice_get, IsPermutation};
-ghost use Rattle.std.specs.List.{All};
-ghost use Rattle.hv_syntax.specs.Values.{Network, Domain, Problem};
+ghost use Rattle.std.specs.Prelude.{◌≡◌, ◌<◌, ◌↔◌, ◌⊎◌, ◌∷◌, ◌++◌, [], ℕ, List, true, Some, map, slice_get, IsPermutation};
+ghost use Rattle.std.specs.List.{All, Contains};
+ghost use Rattle.hv_syntax.specs.Values.{Variable, Network, Domain, Problem};
 ghost use Rattle.hv_text.specs.declared.span.Span.{Span};
 ghost use Rattle.hv_world.specs.declared.fault.StaticFault.{StaticFault};
 ghost use Rattle.hv_world.specs.declared.fault.StaticKind.TheVariants as kinds;
@@ -10,12 +10,13 @@ ghost use Rattle.hv_world.specs.declared.fault.Side.{Side};
 ghost use Rattle.hv_text.specs.Lists.{Once};
 ghost use Rattle.hv_world.specs.Bounds.{IsBound, IsSound};
 ghost use Rattle.hv_world.specs.Faults.{fault_on};
-ghost use Rattle.hv_world.specs.Known.{Declaration, Known, by_place, GoByPlace};
-ghost use Rattle.hv_world.specs.Names.{place_in};
+ghost use Rattle.hv_world.specs.Known.{Declaration, Known, known_in, by_place, GoByPlace};
+ghost use Rattle.hv_world.specs.Eithers.{all_variables};
+ghost use Rattle.hv_world.specs.Names.{place_in, number_in};
 ghost use Rattle.hv_world.specs.Values.{compound, primitive};
-ghost use Rattle.hv_world.specs.Worlds.{World, Task, Action, world_of, task_named};
+ghost use Rattle.hv_world.specs.Worlds.{World, Task, Action, world_of, task_named, variable_type};
 ghost use Rattle.hv_world.specs.Networks.{IsArrangeable, written_by};
-ghost use Rattle.hv_world.specs.Types.{Typing, IsInRange, Of};
+ghost use Rattle.hv_world.specs.Types.{Typing, IsInRange, Of, IsOfOne};
 ghost use Rattle.hv_world.specs.Orders.{Written, IsCyclic, Before};
 ghost use Rattle.hv_world.specs.StaticRules.{label_faults, order_faults, first_fault, IsStatic, IsFirstFault};
 ghost use Rattle.hv_world.specs.Cycles.{is_cyclic};
@@ -62,6 +63,13 @@ pub fn cyclic_orders_are_faults()
 /// Whether an object is of a type is decided.
 pub fn types_are_decided()
     ensures { (w : Typing) → IsInRange w → (o t : ℕ) → Of w o t ⊎ (Of w o t → ⊥) }
+{}
+
+/// An object is of the type of a variable just where it is of one of the types that its names name;
+/// where it has none, the type is `object`.
+pub fn eithers_are_unions()
+    ensures named { (d : Domain) (p : Problem) → IsStatic d p → (v : Variable) → Contains (all_variables d p) v → (v.of ≡ [] → ⊥) → (o : ℕ) → Of (world_of d p).typing o (variable_type (known_in d p) v) ↔ IsOfOne (world_of d p).typing o (map (λ w. number_in (known_in d p).types w.text) v.of) }
+    ensures none { (k : Known) (v : Variable) → v.of ≡ [] → variable_type k v ≡ 0 }
 {}
 
 /// Whether one subtask comes before another is decided.

@@ -1,10 +1,10 @@
--- Formulas as trees of numbers, which give them back: so a proof tells two worlds apart.
-use Rattle.std.specs.Prelude.{◌≡◌, ℕ, nat_eq, List, [], ◌∷◌, if◌then◌else◌}
+-- Formulas and effects as trees of numbers, which give them back: so a proof tells two worlds apart.
+use Rattle.std.specs.Prelude.{◌≡◌, ℕ, Bool, true, false, nat_eq, List, [], ◌∷◌, if◌then◌else◌}
 use Rattle.std.specs.Coded.{Coded, code_by}
 use Rattle.std.proofs.Math.Path.{refl, ap, ◌∙◌}
 use base.Stored.{Gv, gnil, gnum, gcons, num}
 use denote.Struct.Codes.{itself}
-use Rattle.hv_world.specs.Values.{Term, object, variable, atom, Formula, Formulas, holds, and, or, not, imply, forall, exists, equal, no_formulas, more_formulas}
+use Rattle.hv_world.specs.Values.{Term, object, variable, Atom, atom, Formula, Formulas, holds, and, or, not, imply, forall, exists, equal, no_formulas, more_formulas, Effect, Effects, becomes, for_each, no_effects, more_effects}
 
 abbrev node : ℕ → Gv → Gv → Gv
 node k a b = gcons (gnum k) (gcons a b)
@@ -35,6 +35,19 @@ abbrev mutual
   pub formulas_tree : Formulas → Gv
   formulas_tree no_formulas = gnil
   formulas_tree (more_formulas f fs) = gcons (formula_tree f) (formulas_tree fs)
+
+abbrev bool_tree : Bool → Gv
+bool_tree false = gnum 0
+bool_tree true = gnum 1
+
+abbrev mutual
+  pub effect_tree : Effect → Gv
+  effect_tree (becomes b a) = node 0 (bool_tree b) (gcons (gnum a.predicate) (terms_tree a.terms))
+  effect_tree (for_each ts es) = node 1 (types_tree ts) (effects_tree es)
+
+  pub effects_tree : Effects → Gv
+  effects_tree no_effects = gnil
+  effects_tree (more_effects e es) = gcons (effect_tree e) (effects_tree es)
 
 abbrev term_in : Gv → Term
 term_in gnil = object 0
@@ -72,6 +85,27 @@ abbrev mutual
   formulas_in (gnum n) = no_formulas
   formulas_in (gcons f fs) = more_formulas (formula_in f) (formulas_in fs)
 
+abbrev bool_in : Gv → Bool
+bool_in t = nat_eq (num t) 1
+
+abbrev atom_in : Gv → Atom
+atom_in gnil = atom 0 []
+atom_in (gnum n) = atom 0 []
+atom_in (gcons p xs) = atom (num p) (terms_in xs)
+
+abbrev mutual
+  pub effect_in : Gv → Effect
+  effect_in gnil = for_each [] no_effects
+  effect_in (gnum n) = for_each [] no_effects
+  effect_in (gcons k gnil) = for_each [] no_effects
+  effect_in (gcons k (gnum n)) = for_each [] no_effects
+  effect_in (gcons k (gcons a b)) = if nat_eq (num k) 0 then becomes (bool_in a) (atom_in b) else for_each (types_in a) (effects_in b)
+
+  pub effects_in : Gv → Effects
+  effects_in gnil = no_effects
+  effects_in (gnum n) = no_effects
+  effects_in (gcons e es) = more_effects (effect_in e) (effects_in es)
+
 term_again : (x : Term) → term_in (term_tree x) ≡ x
 term_again (object o) = refl
 term_again (variable v) = refl
@@ -101,3 +135,20 @@ mutual
 
 abbrev pub formula_code : Coded Formula
 formula_code = code_by Gv itself formula_tree formula_in formula_again
+
+bool_again : (b : Bool) → bool_in (bool_tree b) ≡ b
+bool_again false = refl
+bool_again true = refl
+
+mutual
+  pub effect_again : (e : Effect) → effect_in (effect_tree e) ≡ e
+  effect_again (becomes b a) = ap (λ c. becomes c (atom a.predicate (terms_in (terms_tree a.terms)))) (bool_again b) ∙ ap (λ xs. becomes b (atom a.predicate xs)) (terms_again a.terms)
+  effect_again (for_each ts es) = ap (λ us. for_each us (effects_in (effects_tree es))) (types_again ts) ∙ ap (for_each ts) (effects_again es)
+
+  pub effects_again : (es : Effects) → effects_in (effects_tree es) ≡ es
+  effects_again no_effects = refl
+  effects_again (more_effects e es) = ap (λ f. more_effects f (effects_in (effects_tree es))) (effect_again e) ∙ ap (more_effects e) (effects_again es)
+
+-- a world has a list of effects for each action
+abbrev pub effects_code : Coded Effects
+effects_code = code_by Gv itself effects_tree effects_in effects_again

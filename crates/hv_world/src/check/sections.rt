@@ -11,6 +11,7 @@ ghost use Rattle.hv_world.specs.Faults.{least};
 ghost use Rattle.hv_world.specs.StaticRules.{variable_faults, method_faults, action_faults, htn_faults, goal_faults, literals_faults};
 ghost use Rattle.hv_world.specs.inside.Tables.{known_by};
 
+use crate::check::effects::effect_fault;
 use crate::check::formulas::formula_fault;
 use crate::check::networks::network_fault;
 use crate::check::terms::{literals_fault, task_fault};
@@ -72,10 +73,9 @@ fn action_fault<'s>(
     let scope = Scope::Parameters(&names, list.len());
     let parameters = parameter_fault(tables, &names, side, list);
     let precondition = formula_fault(tables, &scope, side, action.precondition());
-    let effect = action.effect();
-    let literals = literals_fault(tables, &scope, side, effect.literals());
+    let effect = effect_fault(tables, &scope, side, action.effect().items());
     let head = earlier(parameters, precondition);
-    Ok(earlier(head, literals))
+    Ok(earlier(head, effect))
 }
 
 /// The first fault of the tasks that methods decompose.

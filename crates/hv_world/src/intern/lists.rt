@@ -1,6 +1,6 @@
 //! What a domain and a problem list, over numbers.
 
-ghost use Rattle.std.specs.Prelude.{◌≡◌, ◌++◌, [], map, option_map, All, IfOk, OnOk};
+ghost use Rattle.std.specs.Prelude.{◌≡◌, ◌++◌, [], length, map, option_map, All, IfOk, OnOk};
 ghost use Rattle.hv_text.specs.Names.{text_of};
 ghost use Rattle.hv_syntax.specs.Views.{typed_view, formula_view as said_formula, literal_view as said_literal};
 ghost use Rattle.hv_syntax.specs.DeclarationViews.{predicate_view as said_predicate, task_view as said_task, method_view as said_method, action_view as said_action};
@@ -10,7 +10,7 @@ ghost use Rattle.hv_world.specs.inside.Tables.{known_by};
 ghost use Rattle.hv_world.specs.Views.{atom_view, formula_view};
 ghost use Rattle.hv_world.specs.MethodViews.{method_view};
 ghost use Rattle.hv_world.specs.SectionViews.{task_view, action_view};
-ghost use Rattle.hv_world.specs.Worlds.{type_pair, object_pair, added, formula_in, method_in, task_by, action_in};
+ghost use Rattle.hv_world.specs.Worlds.{type_pair, object_pair, either_pairs, eithers_pairs, added, formula_in, method_in, task_by, action_in};
 
 use crate::action::Action;
 use crate::formula::{Atom, Formula};
@@ -44,6 +44,36 @@ pub(crate) fn type_pairs<'s>(
         pairs.push((number, type_of(tables, *typed)))?;
     }
     Ok(pairs)
+}
+
+// Puts each of the types that a list names, with the type that they make, behind others.
+fn add_either_pairs<'s>(
+    tables: &Tables<'s>,
+    pairs: &mut Vec<(TypeId, TypeId)>,
+    list: &[Name<'s>],
+    above: usize,
+) -> Result<(), Memory>
+    ensures { OnOk result (map (λ p. (p.0.0, p.1.0)) pairs.new.items ≡ map (λ p. (p.0.0, p.1.0)) pairs.old.items ++ either_pairs (known_by tables.now) above (map text_of list.now)) }
+{
+    for name in list {
+        pairs.push((TypeId(tables.type_number(*name)), TypeId(above)))?;
+    }
+    Ok(())
+}
+
+/// Puts the types that names make, each with those that it names, behind others.
+pub(crate) fn add_eithers_pairs<'s>(
+    tables: &Tables<'s>,
+    pairs: &mut Vec<(TypeId, TypeId)>,
+) -> Result<(), Memory>
+    ensures { OnOk result (map (λ p. (p.0.0, p.1.0)) pairs.new.items ≡ map (λ p. (p.0.0, p.1.0)) pairs.old.items ++ eithers_pairs (known_by tables.now) (length (known_by tables.now).types) (known_by tables.now).eithers) }
+{
+    let eithers = tables.types.eithers.as_slice();
+    for (place, list) in eithers.iter().enumerate() {
+        let above = tables.number_past(place)?;
+        add_either_pairs(tables, pairs, list, above)?;
+    }
+    Ok(())
 }
 
 /// Puts the constants or objects of a list, each with its type, behind others.

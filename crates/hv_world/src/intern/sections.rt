@@ -15,8 +15,8 @@ ghost use Rattle.hv_world.specs.Worlds.{network_in, method_in, top_in, task_by, 
 
 use crate::action::Action;
 use crate::formula::Formula;
+use crate::intern::effects::effects_in;
 use crate::intern::formulas::formula_in;
-use crate::intern::literals::{added, deleted};
 use crate::intern::networks::{constraints_in, subtasks_in, task_in};
 use crate::intern::terms::types_of;
 use crate::labels::numbered_pairs;
@@ -155,16 +155,13 @@ pub(crate) fn action_in<'s>(
     let list = action.parameters();
     let names = Names::of_variables(alloc, list)?;
     let scope = Scope::Parameters(&names, list.len());
-    let literals = action.effect().literals();
     let parameters = types_of(alloc, tables, list)?;
     let precondition = formula_in(alloc, tables, &scope, action.precondition())?;
-    let deletes = deleted(alloc, tables, &scope, literals)?;
-    let adds = added(alloc, tables, &scope, literals)?;
+    let effect = effects_in(alloc, tables, &scope, action.effect().items())?;
     Ok(Action {
         name: word.name(),
         parameters,
         precondition,
-        deletes,
-        adds,
+        effect,
     })
 }
