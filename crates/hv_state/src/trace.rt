@@ -48,7 +48,7 @@ pub struct Trace<'a, 's, S: State> {
 
 impl<'a, 's, S: State> Model for Trace<'a, 's, S> {
     ghost use Rattle.std.specs.Coded.{codes};
-    ghost use Rattle.hv_state.specs.inside.Codes.{formula_code, effects_code};
+    ghost use Rattle.hv_world.specs.Codes.{formula_code, effects_code};
     ghost use Rattle.hv_state.specs.Plans.{Plan, plan_of};
     ghost use Rattle.hv_state.specs.inside.Notes.{IsRecorded};
 

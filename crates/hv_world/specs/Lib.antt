@@ -1,6 +1,7 @@
 pub mod Values
 pub mod Names
 pub mod Eithers
+pub mod Codes
 pub mod Known
 pub mod Scopes
 pub mod Types
