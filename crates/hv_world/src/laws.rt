@@ -23,14 +23,16 @@ ghost use Rattle.hv_world.specs.Cycles.{is_cyclic};
 
 /// The test for a cycle finds the orders in which some subtask comes before itself.
 pub fn cycles_are_found()
-    ensures { (n : Written) → All (λ p. (p.0 < n.len) × (p.1 < n.len)) n.pairs → (is_cyclic n ≡ true) ↔ IsCyclic n }
+    ensures { (n : Written) → All (λ p. (p.0 < n.len) × (p.1 < n.len)) n.pairs
+        → (is_cyclic n ≡ true) ↔ IsCyclic n }
 {}
 
 /// A domain and a problem have no fault that is reported where they are static, and otherwise one,
 /// which is one of theirs before which none stands.
 pub fn a_world_or_a_fault()
     ensures none { (d : Domain) (p : Problem) → (first_fault d p ≡ None) ↔ IsStatic d p }
-    ensures first { (d : Domain) (p : Problem) (f : StaticFault) → first_fault d p ≡ Some f → IsFirstFault d p f }
+    ensures first { (d : Domain) (p : Problem) (f : StaticFault) → first_fault d p ≡ Some f
+        → IsFirstFault d p f }
 {}
 
 /// The numbers of a static world are those of what it has.
@@ -41,23 +43,30 @@ pub fn static_worlds_are_bound()
 /// A look-up of a name that stands once finds the number of the name; and so, in a sound world, of
 /// the names of tasks and actions, which are looked up together.
 pub fn names_are_found()
-    ensures names { (ns : List (List ℕ)) → Once ns → (k : ℕ) (n : List ℕ) → slice_get ns k ≡ Some n → place_in ns n ≡ Some k }
-    ensures tasks { (w : World) → IsSound w → (k : ℕ) (t : Task) → slice_get w.tasks k ≡ Some t → task_named w t.name ≡ Some (compound k) }
-    ensures actions { (w : World) → IsSound w → (k : ℕ) (a : Action) → slice_get w.actions k ≡ Some a → task_named w a.name ≡ Some (primitive k) }
+    ensures names { (ns : List (List ℕ)) → Once ns → (k : ℕ) (n : List ℕ) → slice_get ns k ≡ Some n
+        → place_in ns n ≡ Some k }
+    ensures tasks { (w : World) → IsSound w → (k : ℕ) (t : Task) → slice_get w.tasks k ≡ Some t
+        → task_named w t.name ≡ Some (compound k) }
+    ensures actions { (w : World) → IsSound w → (k : ℕ) (a : Action)
+        → slice_get w.actions k ≡ Some a → task_named w a.name ≡ Some (primitive k) }
 {}
 
 /// The tasks and actions of a domain in one list are those of the two lists, and they go by the
 /// places of their sections where those of each list do.
 pub fn declarations_go_by_place()
     ensures members { (ds es : List Declaration) → IsPermutation (ds ++ es) (by_place ds es) }
-    ensures order { (ds es : List Declaration) → GoByPlace ds → GoByPlace es → GoByPlace (by_place ds es) }
+    ensures order { (ds es : List Declaration) → GoByPlace ds → GoByPlace es
+        → GoByPlace (by_place ds es) }
 {}
 
 /// A network whose labels are sound is at fault for its order where some subtask comes before
 /// itself, and only there.
 pub fn cyclic_orders_are_faults()
-    ensures cyclic { (k : Known) (s : Side) (place : Span) (n : Network) → label_faults k s n ≡ [] → IsCyclic (written_by n) → order_faults k s place n ≡ fault_on kinds.CyclicOrdering s place ∷ [] }
-    ensures acyclic { (k : Known) (s : Side) (place : Span) (n : Network) → label_faults k s n ≡ [] → (IsCyclic (written_by n) → ⊥) → order_faults k s place n ≡ [] }
+    ensures cyclic { (k : Known) (s : Side) (place : Span) (n : Network) → label_faults k s n ≡ []
+        → IsCyclic (written_by n)
+        → order_faults k s place n ≡ fault_on kinds.CyclicOrdering s place ∷ [] }
+    ensures acyclic { (k : Known) (s : Side) (place : Span) (n : Network) → label_faults k s n ≡ []
+        → (IsCyclic (written_by n) → ⊥) → order_faults k s place n ≡ [] }
 {}
 
 /// Whether an object is of a type is decided.
@@ -68,7 +77,10 @@ pub fn types_are_decided()
 /// An object is of the type of a variable just where it is of one of the types that its names name;
 /// where it has none, the type is `object`.
 pub fn eithers_are_unions()
-    ensures named { (d : Domain) (p : Problem) → IsStatic d p → (v : Variable) → Contains (all_variables d p) v → (v.of ≡ [] → ⊥) → (o : ℕ) → Of (world_of d p).typing o (variable_type (known_in d p) v) ↔ IsOfOne (world_of d p).typing o (map (λ w. number_in (known_in d p).types w.text) v.of) }
+    ensures named { (d : Domain) (p : Problem) → IsStatic d p → (v : Variable)
+        → Contains (all_variables d p) v → (v.of ≡ [] → ⊥) → (o : ℕ)
+        → Of (world_of d p).typing o (variable_type (known_in d p) v)
+        ↔ IsOfOne (world_of d p).typing o (map (λ w. number_in (known_in d p).types w.text) v.of) }
     ensures none { (k : Known) (v : Variable) → v.of ≡ [] → variable_type k v ≡ 0 }
 {}
 

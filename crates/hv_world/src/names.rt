@@ -35,7 +35,8 @@ impl<'s> Names<'s> {
 
     /// The first places of the names of words.
     pub(crate) fn of(alloc: Global, words: &[Placed<'s>]) -> Result<Names<'s>, Memory>
-        ensures places { IfOk result (λ t. places_by t ≡ place_in (names (map word_view words.now))) }
+        ensures places { IfOk result
+            (λ t. places_by t ≡ place_in (names (map word_view words.now))) }
         ensures seed { IfOk result (λ t. seed_of t ≡ start_of (names (map word_view words.now))) }
     {
         let mut names = Names {
@@ -50,8 +51,10 @@ impl<'s> Names<'s> {
 
     /// The first places of the names of variables.
     pub(crate) fn of_variables(alloc: Global, list: &[VariableText<'s>]) -> Result<Names<'s>, Memory>
-        ensures places { IfOk result (λ t. places_by t ≡ place_in (variables (map variable_view list.now))) }
-        ensures seed { IfOk result (λ t. seed_of t ≡ start_of (variables (map variable_view list.now))) }
+        ensures places { IfOk result
+            (λ t. places_by t ≡ place_in (variables (map variable_view list.now))) }
+        ensures seed { IfOk result
+            (λ t. seed_of t ≡ start_of (variables (map variable_view list.now))) }
     {
         let mut names = Names {
             places: IndexMap::with_hasher(alloc, Seeded::new().with_variables(list)),
@@ -66,7 +69,8 @@ impl<'s> Names<'s> {
 
     // Notes a place, where the name has none.
     fn add(&mut self, name: Name<'s>, place: usize) -> Result<(), Memory>
-        ensures places { OnOk result (places_by self.new ≡ with_place (places_by self.old) (text_of name.entry) place) }
+        ensures places { OnOk result
+            (places_by self.new ≡ with_place (places_by self.old) (text_of name.entry) place) }
         ensures seed { seed_of self.new ≡ seed_of self.old }
     {
         if !self.places.contains_key(&name) {
@@ -133,7 +137,8 @@ pub(crate) fn repeated_variable<'s>(
     kind: StaticKind,
     side: Side,
 ) -> Option<StaticFault>
-    ensures { result ≡ least (faults_at kind side (repeated (typed_words (map variable_view variables.now)))) }
+    ensures { result
+        ≡ least (faults_at kind side (repeated (typed_words (map variable_view variables.now)))) }
 {
     let mut found = None;
     for place in 0..variables.len() {
@@ -154,7 +159,8 @@ pub(crate) fn repeated_parameter<'s>(
     side: Side,
 ) -> Option<StaticFault>
     requires { places_by table.now ≡ place_in (variables (map variable_view list.now)) }
-    ensures { result ≡ least (faults_at kind side (repeated (typed_words (map variable_view list.now)))) }
+    ensures { result
+        ≡ least (faults_at kind side (repeated (typed_words (map variable_view list.now)))) }
 {
     let mut found = None;
     for place in 0..list.len() {

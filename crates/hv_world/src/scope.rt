@@ -48,7 +48,9 @@ impl<'a, 's> Scope<'a, 's> {
     ///
     /// `Memory` where no number can say how many variables are in scope: they fill all memory.
     pub(crate) fn variable(&self, name: Name<'s>) -> Result<usize, Memory>
-        ensures { IfOk result (λ v. v ≡ number_or (size (scope_view self.now)) (variable_in (scope_view self.now) (text_of name.entry))) }
+        ensures { IfOk result
+            (λ v. v ≡ number_or (size (scope_view self.now))
+            (variable_in (scope_view self.now) (text_of name.entry))) }
     {
         match self.place(name)? {
             Some(number) => Ok(number),

@@ -44,7 +44,8 @@ impl Seeded {
 
     /// The start with the names of a typed list and their types taken in.
     pub(crate) fn with_typed(self, list: &[TypedText<'_>]) -> Seeded
-        ensures { result.start ≡ with_taken_in self.start (flat_map written_names (map typed_view list.now)) }
+        ensures { result.start
+            ≡ with_taken_in self.start (flat_map written_names (map typed_view list.now)) }
     {
         let mut seed = self;
         for typed in list {
@@ -91,7 +92,8 @@ impl Seeded {
 
     // No word holds a space: it ends each name.
     fn take_in(&mut self, name: Name<'_>)
-        ensures { self.new.start ≡ fold sip.write self.old.start (name_writes (text_of name.entry)) }
+        ensures { self.new.start
+            ≡ fold sip.write self.old.start (name_writes (text_of name.entry)) }
     {
         name.hash(&mut self.start);
         self.start.write_u8(b' ');

@@ -81,8 +81,11 @@ fn type_table<'s>(
     domain: &DomainText<'s>,
     problem: &ProblemText<'s>,
 ) -> Result<TypeTable<'s>, Memory>
-    ensures names { IfOk result (λ t. map text_of t.names.keys ≡ type_names (domain_view domain.now)) }
-    ensures eithers { IfOk result (λ t. map names_in t.eithers.keys ≡ either_types (domain_view domain.now) (problem_view problem.now)) }
+    ensures names { IfOk result
+        (λ t. map text_of t.names.keys ≡ type_names (domain_view domain.now)) }
+    ensures eithers { IfOk result
+        (λ t. map names_in t.eithers.keys
+        ≡ either_types (domain_view domain.now) (problem_view problem.now)) }
 {
     let names = type_names(alloc, domain.types())?;
     let eithers = either_types(alloc, domain, problem)?;
@@ -94,8 +97,12 @@ fn predicate_table<'s>(
     alloc: Global,
     predicates: &[PredicateText<'s>],
 ) -> Result<PredicateTable<'s>, Memory>
-    ensures places { IfOk result (λ t. places_by t.places ≡ place_in (names (predicate_words (map predicate_view predicates.now)))) }
-    ensures arities { IfOk result (λ t. t.arities.items ≡ map (λ q. length q.parameters) (map predicate_view predicates.now)) }
+    ensures places { IfOk result
+        (λ t. places_by t.places
+        ≡ place_in (names (predicate_words (map predicate_view predicates.now)))) }
+    ensures arities { IfOk result
+        (λ t. t.arities.items
+        ≡ map (λ q. length q.parameters) (map predicate_view predicates.now)) }
 {
     let words = predicate_words(alloc, predicates)?;
     let places = Names::of(alloc, &words)?;
@@ -105,8 +112,11 @@ fn predicate_table<'s>(
 
 // The table of tasks and actions.
 fn task_table<'s>(alloc: Global, domain: &DomainText<'s>) -> Result<TaskTable<'s>, Memory>
-    ensures places { IfOk result (λ t. places_by t.places ≡ place_in (names (declared_words (declarations (domain_view domain.now))))) }
-    ensures list { IfOk result (λ t. map declaration_view t.list.items ≡ declarations (domain_view domain.now)) }
+    ensures places { IfOk result
+        (λ t. places_by t.places
+        ≡ place_in (names (declared_words (declarations (domain_view domain.now))))) }
+    ensures list { IfOk result
+        (λ t. map declaration_view t.list.items ≡ declarations (domain_view domain.now)) }
 {
     let list = declarations(alloc, domain)?;
     let words = declared_words(alloc, &list)?;
@@ -125,7 +135,8 @@ impl<'s> Tables<'s> {
         domain: &DomainText<'s>,
         problem: &ProblemText<'s>,
     ) -> Result<Tables<'s>, Memory>
-        ensures { IfOk result (λ t. known_by t ≡ known_in (domain_view domain.now) (problem_view problem.now)) }
+        ensures { IfOk result
+            (λ t. known_by t ≡ known_in (domain_view domain.now) (problem_view problem.now)) }
     {
         let types = type_table(alloc, domain, problem)?;
         let objects = object_names(alloc, domain.constants(), problem.objects())?;
@@ -170,7 +181,8 @@ impl<'s> Tables<'s> {
     ///
     /// `Memory` where no number can say it: their names fill all memory.
     pub(crate) fn type_count(&self) -> Result<usize, Memory>
-        ensures { IfOk result (λ n. n ≡ length (known_by self.now).types + length (known_by self.now).eithers) }
+        ensures { IfOk result
+            (λ n. n ≡ length (known_by self.now).types + length (known_by self.now).eithers) }
     {
         self.number_past(self.types.eithers.len())
     }
@@ -208,7 +220,8 @@ impl<'s> Tables<'s> {
 
     /// A predicate, as it is declared first.
     pub(crate) fn predicate(&self, name: Name<'s>) -> Option<Signature>
-        ensures { option_map signature_view result ≡ (known_by self.now).predicate (text_of name.entry) }
+        ensures { option_map signature_view result
+            ≡ (known_by self.now).predicate (text_of name.entry) }
     {
         let place = self.predicates.places.place(name)?;
         let arity = self.predicates.arities.get(place)?;
@@ -220,7 +233,8 @@ impl<'s> Tables<'s> {
 
     /// A task or an action, as it is declared first.
     pub(crate) fn task(&self, name: Name<'s>) -> Option<Declared<'s>>
-        ensures { option_map declaration_view result ≡ (known_by self.now).task (text_of name.entry) }
+        ensures { option_map declaration_view result
+            ≡ (known_by self.now).task (text_of name.entry) }
     {
         let place = self.tasks.places.place(name)?;
         let declared = self.tasks.list.get(place)?;

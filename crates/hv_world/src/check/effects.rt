@@ -24,7 +24,9 @@ fn item_fault<'s>(
     side: Side,
     item: &ItemText<'s>,
 ) -> Option<StaticFault>
-    ensures { result ≡ least (item_faults (known_by tables.now) side (scope_view scope.now) (item_view item.now)) }
+    ensures { result
+        ≡ least (item_faults (known_by tables.now) side (scope_view scope.now)
+        (item_view item.now)) }
 {
     match item {
         ItemText::Literal(literal) => atom_fault(tables, scope, side, literal.atom()),
@@ -43,7 +45,11 @@ fn quantified_fault<'s>(
     list: &[VariableText<'s>],
     items: &[ItemText<'s>],
 ) -> Option<StaticFault>
-    ensures { result ≡ least (variable_faults (known_by tables.now) side (map variable_view list.now) ++ effect_faults (known_by tables.now) side (inside (scope_view scope.now) (variables (map variable_view list.now))) (effect (map item_view items.now))) }
+    ensures { result
+        ≡ least (variable_faults (known_by tables.now) side (map variable_view list.now)
+        ++ effect_faults (known_by tables.now) side
+        (inside (scope_view scope.now) (variables (map variable_view list.now)))
+        (effect (map item_view items.now))) }
 {
     let inner = Scope::Inside(&*scope, list);
     let variables = variable_fault(tables, side, list);
@@ -59,7 +65,9 @@ pub(crate) fn effect_fault<'s>(
     side: Side,
     items: &[ItemText<'s>],
 ) -> Option<StaticFault>
-    ensures { result ≡ least (effect_faults (known_by tables.now) side (scope_view scope.now) (effect (map item_view items.now))) }
+    ensures { result
+        ≡ least (effect_faults (known_by tables.now) side (scope_view scope.now)
+        (effect (map item_view items.now))) }
 {
     let mut found = None;
     for item in items {

@@ -24,7 +24,9 @@ pub(crate) fn formula_fault<'s>(
     side: Side,
     formula: &FormulaText<'s>,
 ) -> Option<StaticFault>
-    ensures { result ≡ least (formula_faults (known_by tables.now) side (scope_view scope.now) (formula_view formula.now)) }
+    ensures { result
+        ≡ least (formula_faults (known_by tables.now) side (scope_view scope.now)
+        (formula_view formula.now)) }
 {
     match formula {
         FormulaText::Holds(atom) => atom_fault(tables, scope, side, atom),
@@ -55,7 +57,11 @@ fn quantified_fault<'s>(
     list: &[VariableText<'s>],
     part: &FormulaText<'s>,
 ) -> Option<StaticFault>
-    ensures { result ≡ least (variable_faults (known_by tables.now) side (map variable_view list.now) ++ formula_faults (known_by tables.now) side (inside (scope_view scope.now) (variables (map variable_view list.now))) (formula_view part.now)) }
+    ensures { result
+        ≡ least (variable_faults (known_by tables.now) side (map variable_view list.now)
+        ++ formula_faults (known_by tables.now) side
+        (inside (scope_view scope.now) (variables (map variable_view list.now)))
+        (formula_view part.now)) }
 {
     let inner = Scope::Inside(&*scope, list);
     let variables = variable_fault(tables, side, list);
@@ -71,7 +77,9 @@ fn formulas_fault<'s>(
     side: Side,
     formulas: &[FormulaText<'s>],
 ) -> Option<StaticFault>
-    ensures { result ≡ least (all_formula_faults (known_by tables.now) side (scope_view scope.now) (formulas_of (map formula_view formulas.now))) }
+    ensures { result
+        ≡ least (all_formula_faults (known_by tables.now) side (scope_view scope.now)
+        (formulas_of (map formula_view formulas.now))) }
 {
     let mut found = None;
     for formula in formulas {

@@ -69,7 +69,8 @@ fn variable_types_fault<'s>(
     side: Side,
     list: &[VariableText<'s>],
 ) -> Option<StaticFault>
-    ensures { result ≡ least (variable_types_faults (known_by tables.now) side (map variable_view list.now)) }
+    ensures { result
+        ≡ least (variable_types_faults (known_by tables.now) side (map variable_view list.now)) }
 {
     let mut found = None;
     for variable in list {
@@ -85,7 +86,8 @@ pub(crate) fn variable_fault<'s>(
     side: Side,
     list: &[VariableText<'s>],
 ) -> Option<StaticFault>
-    ensures { result ≡ least (variable_faults (known_by tables.now) side (map variable_view list.now)) }
+    ensures { result
+        ≡ least (variable_faults (known_by tables.now) side (map variable_view list.now)) }
 {
     let unknown = variable_types_fault(tables, side, list);
     let repeated = repeated_variable(list, StaticKind::DuplicateVariable, side);
@@ -100,7 +102,8 @@ pub(crate) fn parameter_fault<'s>(
     list: &[VariableText<'s>],
 ) -> Option<StaticFault>
     requires { places_by names.now ≡ place_in (variables (map variable_view list.now)) }
-    ensures { result ≡ least (variable_faults (known_by tables.now) side (map variable_view list.now)) }
+    ensures { result
+        ≡ least (variable_faults (known_by tables.now) side (map variable_view list.now)) }
 {
     let unknown = variable_types_fault(tables, side, list);
     let repeated = repeated_parameter(names, list, StaticKind::DuplicateVariable, side);

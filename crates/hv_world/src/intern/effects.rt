@@ -26,7 +26,9 @@ fn effect_in<'s>(
     scope: &Scope<'_, 's>,
     item: &ItemText<'s>,
 ) -> Result<Effect, Memory>
-    ensures { IfOk result (λ e. effect_view e ≡ effect_in (known_by tables.now) (scope_view scope.now) (item_view item.now)) }
+    ensures { IfOk result
+        (λ e. effect_view e
+        ≡ effect_in (known_by tables.now) (scope_view scope.now) (item_view item.now)) }
 {
     match item {
         ItemText::Literal(literal) => {
@@ -50,7 +52,11 @@ fn quantified_in<'s>(
     list: &[VariableText<'s>],
     items: &[ItemText<'s>],
 ) -> Result<Vec<Effect>, Memory>
-    ensures { IfOk result (λ v. effects_of (map effect_view v.items) ≡ effects_in (known_by tables.now) (inside (scope_view scope.now) (variables (map variable_view list.now))) (effect (map item_view items.now))) }
+    ensures { IfOk result
+        (λ v. effects_of (map effect_view v.items)
+        ≡ effects_in (known_by tables.now)
+        (inside (scope_view scope.now) (variables (map variable_view list.now)))
+        (effect (map item_view items.now))) }
 {
     let inner = Scope::Inside(&*scope, list);
     effects_in(alloc, tables, &inner, items)
@@ -68,7 +74,10 @@ pub(crate) fn effects_in<'s>(
     scope: &Scope<'_, 's>,
     items: &[ItemText<'s>],
 ) -> Result<Vec<Effect>, Memory>
-    ensures { IfOk result (λ v. effects_of (map effect_view v.items) ≡ effects_in (known_by tables.now) (scope_view scope.now) (effect (map item_view items.now))) }
+    ensures { IfOk result
+        (λ v. effects_of (map effect_view v.items)
+        ≡ effects_in (known_by tables.now) (scope_view scope.now)
+        (effect (map item_view items.now))) }
 {
     let mut numbered = Vec::new(alloc);
     for item in items {

@@ -30,7 +30,9 @@ pub(crate) fn formula_in<'s>(
     scope: &Scope<'_, 's>,
     formula: &FormulaText<'s>,
 ) -> Result<Formula, Memory>
-    ensures { IfOk result (λ f. formula_view f ≡ formula_in (known_by tables.now) (scope_view scope.now) (said_formula formula.now)) }
+    ensures { IfOk result
+        (λ f. formula_view f
+        ≡ formula_in (known_by tables.now) (scope_view scope.now) (said_formula formula.now)) }
 {
     match formula {
         FormulaText::Holds(atom) => Ok(Formula::Holds(atom_in(alloc, tables, scope, atom)?)),
@@ -72,7 +74,11 @@ fn quantified_in<'s>(
     list: &[VariableText<'s>],
     part: &FormulaText<'s>,
 ) -> Result<Formula, Memory>
-    ensures { IfOk result (λ f. formula_view f ≡ formula_in (known_by tables.now) (inside (scope_view scope.now) (variables (map variable_view list.now))) (said_formula part.now)) }
+    ensures { IfOk result
+        (λ f. formula_view f
+        ≡ formula_in (known_by tables.now)
+        (inside (scope_view scope.now) (variables (map variable_view list.now)))
+        (said_formula part.now)) }
 {
     let inner = Scope::Inside(&*scope, list);
     formula_in(alloc, tables, &inner, part)
@@ -85,7 +91,10 @@ fn formulas_in<'s>(
     scope: &Scope<'_, 's>,
     formulas: &[FormulaText<'s>],
 ) -> Result<Vec<Formula>, Memory>
-    ensures { IfOk result (λ v. formulas_of (map formula_view v.items) ≡ formulas_in (known_by tables.now) (scope_view scope.now) (said_formulas_of (map said_formula formulas.now))) }
+    ensures { IfOk result
+        (λ v. formulas_of (map formula_view v.items)
+        ≡ formulas_in (known_by tables.now) (scope_view scope.now)
+        (said_formulas_of (map said_formula formulas.now))) }
 {
     let mut numbered = Vec::new(alloc);
     for formula in formulas {

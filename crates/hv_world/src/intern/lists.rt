@@ -36,7 +36,9 @@ pub(crate) fn type_pairs<'s>(
     tables: &Tables<'s>,
     list: &[TypedText<'s>],
 ) -> Result<Vec<(TypeId, TypeId)>, Memory>
-    ensures { IfOk result (λ v. map (λ p. (p.0.0, p.1.0)) v.items ≡ map (type_pair (known_by tables.now)) (map typed_view list.now)) }
+    ensures { IfOk result
+        (λ v. map (λ p. (p.0.0, p.1.0)) v.items
+        ≡ map (type_pair (known_by tables.now)) (map typed_view list.now)) }
 {
     let mut pairs = Vec::new(alloc);
     for typed in list {
@@ -53,7 +55,9 @@ fn add_either_pairs<'s>(
     list: &[Name<'s>],
     above: usize,
 ) -> Result<(), Memory>
-    ensures { OnOk result (map (λ p. (p.0.0, p.1.0)) pairs.new.items ≡ map (λ p. (p.0.0, p.1.0)) pairs.old.items ++ either_pairs (known_by tables.now) above (map text_of list.now)) }
+    ensures { OnOk result
+        (map (λ p. (p.0.0, p.1.0)) pairs.new.items ≡ map (λ p. (p.0.0, p.1.0)) pairs.old.items
+        ++ either_pairs (known_by tables.now) above (map text_of list.now)) }
 {
     for name in list {
         pairs.push((TypeId(tables.type_number(*name)), TypeId(above)))?;
@@ -66,7 +70,10 @@ pub(crate) fn add_eithers_pairs<'s>(
     tables: &Tables<'s>,
     pairs: &mut Vec<(TypeId, TypeId)>,
 ) -> Result<(), Memory>
-    ensures { OnOk result (map (λ p. (p.0.0, p.1.0)) pairs.new.items ≡ map (λ p. (p.0.0, p.1.0)) pairs.old.items ++ eithers_pairs (known_by tables.now) (length (known_by tables.now).types) (known_by tables.now).eithers) }
+    ensures { OnOk result
+        (map (λ p. (p.0.0, p.1.0)) pairs.new.items ≡ map (λ p. (p.0.0, p.1.0)) pairs.old.items
+        ++ eithers_pairs (known_by tables.now) (length (known_by tables.now).types)
+        (known_by tables.now).eithers) }
 {
     let eithers = tables.types.eithers.as_slice();
     for (place, list) in eithers.iter().enumerate() {
@@ -82,7 +89,9 @@ pub(crate) fn add_object_pairs<'s>(
     pairs: &mut Vec<(ObjectId, TypeId)>,
     list: &[TypedText<'s>],
 ) -> Result<(), Memory>
-    ensures { OnOk result (map (λ p. (p.0.0, p.1.0)) pairs.new.items ≡ map (λ p. (p.0.0, p.1.0)) pairs.old.items ++ map (object_pair (known_by tables.now)) (map typed_view list.now)) }
+    ensures { OnOk result
+        (map (λ p. (p.0.0, p.1.0)) pairs.new.items ≡ map (λ p. (p.0.0, p.1.0)) pairs.old.items
+        ++ map (object_pair (known_by tables.now)) (map typed_view list.now)) }
 {
     for typed in list {
         let number = ObjectId(tables.object_number(typed.name().name()));
@@ -96,7 +105,8 @@ pub(crate) fn predicate_names<'s>(
     alloc: Global,
     predicates: &[PredicateText<'s>],
 ) -> Result<Vec<Name<'s>>, Memory>
-    ensures { IfOk result (λ v. map text_of v.items ≡ map (λ q. q.name.text) (map said_predicate predicates.now)) }
+    ensures { IfOk result
+        (λ v. map text_of v.items ≡ map (λ q. q.name.text) (map said_predicate predicates.now)) }
 {
     let mut names = Vec::new(alloc);
     for predicate in predicates {
@@ -112,7 +122,9 @@ pub(crate) fn tasks_in<'s>(
     tables: &Tables<'s>,
     tasks: &[TaskText<'s>],
 ) -> Result<Vec<Task<'s>>, Memory>
-    ensures { IfOk result (λ v. map task_view v.items ≡ map (task_by (known_by tables.now)) (map said_task tasks.now)) }
+    ensures { IfOk result
+        (λ v. map task_view v.items
+        ≡ map (task_by (known_by tables.now)) (map said_task tasks.now)) }
 {
     let mut numbered = Vec::new(alloc);
     for task in tasks {
@@ -128,7 +140,9 @@ pub(crate) fn methods_in<'s>(
     methods: &[MethodText<'s>],
 ) -> Result<Vec<Method<'s>>, Memory>
     requires { All (λ m. IsArrangeable (written_by (said_method m).network)) methods.now }
-    ensures { IfOk result (λ v. map method_view v.items ≡ map (method_in (known_by tables.now)) (map said_method methods.now)) }
+    ensures { IfOk result
+        (λ v. map method_view v.items
+        ≡ map (method_in (known_by tables.now)) (map said_method methods.now)) }
 {
     let mut numbered = Vec::new(alloc);
     for method in methods {
@@ -143,7 +157,9 @@ pub(crate) fn actions_in<'s>(
     tables: &Tables<'s>,
     actions: &[ActionText<'s>],
 ) -> Result<Vec<Action<'s>>, Memory>
-    ensures { IfOk result (λ v. map action_view v.items ≡ map (action_in (known_by tables.now)) (map said_action actions.now)) }
+    ensures { IfOk result
+        (λ v. map action_view v.items
+        ≡ map (action_in (known_by tables.now)) (map said_action actions.now)) }
 {
     let mut numbered = Vec::new(alloc);
     for action in actions {
@@ -158,7 +174,9 @@ pub(crate) fn init_in<'s>(
     tables: &Tables<'s>,
     literals: &[LiteralText<'s>],
 ) -> Result<Vec<Atom>, Memory>
-    ensures { IfOk result (λ v. map atom_view v.items ≡ added (known_by tables.now) (parameters []) (map said_literal literals.now)) }
+    ensures { IfOk result
+        (λ v. map atom_view v.items
+        ≡ added (known_by tables.now) (parameters []) (map said_literal literals.now)) }
 {
     let names = Names::none(alloc);
     added(alloc, tables, &Scope::Parameters(&names, 0), literals)
@@ -170,7 +188,10 @@ pub(crate) fn goal_in<'s>(
     tables: &Tables<'s>,
     goal: Option<&FormulaText<'s>>,
 ) -> Result<Option<Formula>, Memory>
-    ensures { IfOk result (λ o. option_map formula_view o ≡ option_map (formula_in (known_by tables.now) (parameters [])) (option_map (λ f. said_formula f.now) goal.entry)) }
+    ensures { IfOk result
+        (λ o. option_map formula_view o
+        ≡ option_map (formula_in (known_by tables.now) (parameters []))
+        (option_map (λ f. said_formula f.now) goal.entry)) }
 {
     let Some(goal) = goal else {
         return Ok(None);

@@ -25,7 +25,9 @@ pub(crate) fn added<'s>(
     scope: &Scope<'_, 's>,
     literals: &[LiteralText<'s>],
 ) -> Result<Vec<Atom>, Memory>
-    ensures { IfOk result (λ v. map atom_view v.items ≡ added (known_by tables.now) (scope_view scope.now) (map said_literal literals.now)) }
+    ensures { IfOk result
+        (λ v. map atom_view v.items
+        ≡ added (known_by tables.now) (scope_view scope.now) (map said_literal literals.now)) }
 {
     let mut atoms = Vec::new(alloc);
     for literal in literals {

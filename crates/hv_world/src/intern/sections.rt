@@ -51,7 +51,9 @@ fn network_in<'s>(
     network: &NetworkText<'s>,
 ) -> Result<Network, Memory>
     requires { IsArrangeable (written_by (said_network network.now)) }
-    ensures { IfOk result (λ n. network_view n ≡ network_in (known_by tables.now) (scope_view scope.now) (said_network network.now)) }
+    ensures { IfOk result
+        (λ n. network_view n
+        ≡ network_in (known_by tables.now) (scope_view scope.now) (said_network network.now)) }
 {
     let subtasks = subtasks_in(alloc, tables, scope, network.subtasks())?;
     let order = order_of(alloc, network)?;
@@ -70,7 +72,8 @@ pub(crate) fn method_in<'s>(
     method: &MethodText<'s>,
 ) -> Result<Method<'s>, Memory>
     requires { IsArrangeable (written_by (said_method method.now).network) }
-    ensures { IfOk result (λ m. method_view m ≡ method_in (known_by tables.now) (said_method method.now)) }
+    ensures { IfOk result
+        (λ m. method_view m ≡ method_in (known_by tables.now) (said_method method.now)) }
 {
     let word = method.name();
     let list = method.parameters();
@@ -149,7 +152,8 @@ pub(crate) fn action_in<'s>(
     tables: &Tables<'s>,
     action: &ActionText<'s>,
 ) -> Result<Action<'s>, Memory>
-    ensures { IfOk result (λ a. action_view a ≡ action_in (known_by tables.now) (said_action action.now)) }
+    ensures { IfOk result
+        (λ a. action_view a ≡ action_in (known_by tables.now) (said_action action.now)) }
 {
     let word = action.name();
     let list = action.parameters();

@@ -43,7 +43,10 @@ fn either_of<'s>(
     tables: &Tables<'s>,
     words: &[Placed<'s>],
 ) -> Result<TypeId, Memory>
-    ensures { IfOk result (λ t. type_number t ≡ either_number (known_by tables.now) (either_place (known_by tables.now).eithers (names (map word_view words.now)))) }
+    ensures { IfOk result
+        (λ t. type_number t
+        ≡ either_number (known_by tables.now)
+        (either_place (known_by tables.now).eithers (names (map word_view words.now)))) }
 {
     let list = names_of(alloc, words)?;
     match tables.either_place(&list) {
@@ -58,7 +61,8 @@ fn variable_type<'s>(
     tables: &Tables<'s>,
     variable: &VariableText<'s>,
 ) -> Result<TypeId, Memory>
-    ensures { IfOk result (λ t. type_number t ≡ variable_type (known_by tables.now) (variable_view variable.now)) }
+    ensures { IfOk result
+        (λ t. type_number t ≡ variable_type (known_by tables.now) (variable_view variable.now)) }
 {
     match variable.types() {
         [] => Ok(TypeId(0)),
@@ -73,7 +77,9 @@ pub(crate) fn types_of<'s>(
     tables: &Tables<'s>,
     list: &[VariableText<'s>],
 ) -> Result<Vec<TypeId>, Memory>
-    ensures { IfOk result (λ v. map type_number v.items ≡ types_of (known_by tables.now) (map variable_view list.now)) }
+    ensures { IfOk result
+        (λ v. map type_number v.items
+        ≡ types_of (known_by tables.now) (map variable_view list.now)) }
 {
     let mut types = Vec::new(alloc);
     for variable in list {
@@ -92,7 +98,9 @@ pub(crate) fn term_in<'s>(
     scope: &Scope<'_, 's>,
     term: TermText<'s>,
 ) -> Result<Term, Memory>
-    ensures { IfOk result (λ x. term_view x ≡ term_in (known_by tables.now) (scope_view scope.now) (said_term term.entry)) }
+    ensures { IfOk result
+        (λ x. term_view x
+        ≡ term_in (known_by tables.now) (scope_view scope.now) (said_term term.entry)) }
 {
     match term {
         TermText::Constant(word) => Ok(Term::Object(ObjectId(tables.object_number(word.name())))),
@@ -107,7 +115,9 @@ pub(crate) fn terms_in<'s>(
     scope: &Scope<'_, 's>,
     terms: &[TermText<'s>],
 ) -> Result<Vec<Term>, Memory>
-    ensures { IfOk result (λ v. map term_view v.items ≡ terms_in (known_by tables.now) (scope_view scope.now) (map said_term terms.now)) }
+    ensures { IfOk result
+        (λ v. map term_view v.items
+        ≡ terms_in (known_by tables.now) (scope_view scope.now) (map said_term terms.now)) }
 {
     let mut numbered = Vec::new(alloc);
     for term in terms {
@@ -133,7 +143,9 @@ pub(crate) fn atom_in<'s>(
     scope: &Scope<'_, 's>,
     atom: &AtomText<'s>,
 ) -> Result<Atom, Memory>
-    ensures { IfOk result (λ a. atom_view a ≡ atom_in (known_by tables.now) (scope_view scope.now) (said_atom atom.now)) }
+    ensures { IfOk result
+        (λ a. atom_view a
+        ≡ atom_in (known_by tables.now) (scope_view scope.now) (said_atom atom.now)) }
 {
     let predicate = predicate_of(tables, atom.symbol());
     let terms = terms_in(alloc, tables, scope, atom.terms())?;

@@ -31,7 +31,9 @@ fn add_lists<'s>(
     lists: &[Vec<Name<'s>>],
 ) -> Result<(), Memory>
     ensures seed { hasher_of eithers.new ≡ hasher_of eithers.old }
-    ensures keys { OnOk result (map names_in eithers.new.keys ≡ with_lists (map names_in eithers.old.keys) (map names_in lists.now)) }
+    ensures keys { OnOk result
+        (map names_in eithers.new.keys
+        ≡ with_lists (map names_in eithers.old.keys) (map names_in lists.now)) }
 {
     for list in lists {
         let names = copy_of(alloc, list)?;
@@ -50,7 +52,9 @@ pub(crate) fn either_types<'s>(
     domain: &DomainText<'s>,
     problem: &ProblemText<'s>,
 ) -> Result<IndexSet<Vec<Name<'s>>, Seeded>, Memory>
-    ensures keys { IfOk result (λ t. map names_in t.keys ≡ either_types (domain_view domain.now) (problem_view problem.now)) }
+    ensures keys { IfOk result
+        (λ t. map names_in t.keys
+        ≡ either_types (domain_view domain.now) (problem_view problem.now)) }
     ensures seed { IfOk result (λ t. IsSeededBy (map names_in t.keys) (hasher_of t).start) }
 {
     let lists = gathered(alloc, domain, problem)?;

@@ -86,7 +86,8 @@ fn add_variable<'s>(
     lists: &mut Vec<Vec<Name<'s>>>,
     variable: &VariableText<'s>,
 ) -> Result<(), Memory>
-    ensures { OnOk result (AreGathered (lists_in lists.old) (variable_view variable.now ∷ []) (lists_in lists.new)) }
+    ensures { OnOk result
+        (AreGathered (lists_in lists.old) (variable_view variable.now ∷ []) (lists_in lists.new)) }
 {
     let words = variable.types();
     if !is_either(words) {
@@ -105,7 +106,8 @@ fn add_variables<'s>(
     lists: &mut Vec<Vec<Name<'s>>>,
     variables: &[VariableText<'s>],
 ) -> Result<(), Memory>
-    ensures { OnOk result (AreGathered (lists_in lists.old) (map variable_view variables.now) (lists_in lists.new)) }
+    ensures { OnOk result
+        (AreGathered (lists_in lists.old) (map variable_view variables.now) (lists_in lists.new)) }
 {
     for variable in variables {
         add_variable(alloc, lists, variable)?;
@@ -120,7 +122,9 @@ fn add_formula<'s>(
     lists: &mut Vec<Vec<Name<'s>>>,
     formula: &FormulaText<'s>,
 ) -> Result<(), Memory>
-    ensures { OnOk result (AreGathered (lists_in lists.old) (formula_variables (formula_view formula.now)) (lists_in lists.new)) }
+    ensures { OnOk result
+        (AreGathered (lists_in lists.old) (formula_variables (formula_view formula.now))
+        (lists_in lists.new)) }
 {
     match formula {
         FormulaText::Holds(_) => Ok(()),
@@ -144,7 +148,10 @@ fn add_quantified<'s>(
     variables: &[VariableText<'s>],
     part: &FormulaText<'s>,
 ) -> Result<(), Memory>
-    ensures { OnOk result (AreGathered (lists_in lists.old) (map variable_view variables.now ++ formula_variables (formula_view part.now)) (lists_in lists.new)) }
+    ensures { OnOk result
+        (AreGathered (lists_in lists.old)
+        (map variable_view variables.now ++ formula_variables (formula_view part.now))
+        (lists_in lists.new)) }
 {
     add_variables(alloc, lists, variables)?;
     add_formula(alloc, lists, part)?;
@@ -157,7 +164,9 @@ fn add_formulas<'s>(
     lists: &mut Vec<Vec<Name<'s>>>,
     formulas: &[FormulaText<'s>],
 ) -> Result<(), Memory>
-    ensures { OnOk result (AreGathered (lists_in lists.old) (formulas_variables (formulas_of (map formula_view formulas.now))) (lists_in lists.new)) }
+    ensures { OnOk result
+        (AreGathered (lists_in lists.old)
+        (formulas_variables (formulas_of (map formula_view formulas.now))) (lists_in lists.new)) }
 {
     for formula in formulas {
         add_formula(alloc, lists, formula)?;
@@ -172,7 +181,9 @@ fn add_item<'s>(
     lists: &mut Vec<Vec<Name<'s>>>,
     item: &ItemText<'s>,
 ) -> Result<(), Memory>
-    ensures { OnOk result (AreGathered (lists_in lists.old) (item_variables (item_view item.now)) (lists_in lists.new)) }
+    ensures { OnOk result
+        (AreGathered (lists_in lists.old) (item_variables (item_view item.now))
+        (lists_in lists.new)) }
 {
     match item {
         ItemText::Literal(_) => Ok(()),
@@ -187,7 +198,10 @@ fn add_for_all<'s>(
     variables: &[VariableText<'s>],
     items: &[ItemText<'s>],
 ) -> Result<(), Memory>
-    ensures { OnOk result (AreGathered (lists_in lists.old) (map variable_view variables.now ++ effect_variables (effect (map item_view items.now))) (lists_in lists.new)) }
+    ensures { OnOk result
+        (AreGathered (lists_in lists.old)
+        (map variable_view variables.now ++ effect_variables (effect (map item_view items.now)))
+        (lists_in lists.new)) }
 {
     add_variables(alloc, lists, variables)?;
     add_effect(alloc, lists, items)?;
@@ -200,7 +214,9 @@ fn add_effect<'s>(
     lists: &mut Vec<Vec<Name<'s>>>,
     items: &[ItemText<'s>],
 ) -> Result<(), Memory>
-    ensures { OnOk result (AreGathered (lists_in lists.old) (effect_variables (effect (map item_view items.now))) (lists_in lists.new)) }
+    ensures { OnOk result
+        (AreGathered (lists_in lists.old) (effect_variables (effect (map item_view items.now)))
+        (lists_in lists.new)) }
 {
     for item in items {
         add_item(alloc, lists, item)?;
@@ -213,7 +229,9 @@ fn add_tasks<'s>(
     lists: &mut Vec<Vec<Name<'s>>>,
     tasks: &[TaskText<'s>],
 ) -> Result<(), Memory>
-    ensures { OnOk result (AreGathered (lists_in lists.old) (flat_map (λ t. t.parameters) (map task_view tasks.now)) (lists_in lists.new)) }
+    ensures { OnOk result
+        (AreGathered (lists_in lists.old) (flat_map (λ t. t.parameters) (map task_view tasks.now))
+        (lists_in lists.new)) }
 {
     for task in tasks {
         add_variables(alloc, lists, task.parameters())?;
@@ -226,7 +244,9 @@ fn add_method<'s>(
     lists: &mut Vec<Vec<Name<'s>>>,
     method: &MethodText<'s>,
 ) -> Result<(), Memory>
-    ensures { OnOk result (AreGathered (lists_in lists.old) (method_variables (method_view method.now)) (lists_in lists.new)) }
+    ensures { OnOk result
+        (AreGathered (lists_in lists.old) (method_variables (method_view method.now))
+        (lists_in lists.new)) }
 {
     add_variables(alloc, lists, method.parameters())?;
     add_formula(alloc, lists, method.precondition())?;
@@ -238,7 +258,9 @@ fn add_methods<'s>(
     lists: &mut Vec<Vec<Name<'s>>>,
     methods: &[MethodText<'s>],
 ) -> Result<(), Memory>
-    ensures { OnOk result (AreGathered (lists_in lists.old) (flat_map method_variables (map method_view methods.now)) (lists_in lists.new)) }
+    ensures { OnOk result
+        (AreGathered (lists_in lists.old) (flat_map method_variables (map method_view methods.now))
+        (lists_in lists.new)) }
 {
     for method in methods {
         add_method(alloc, lists, method)?;
@@ -251,7 +273,9 @@ fn add_action<'s>(
     lists: &mut Vec<Vec<Name<'s>>>,
     action: &ActionText<'s>,
 ) -> Result<(), Memory>
-    ensures { OnOk result (AreGathered (lists_in lists.old) (action_variables (action_view action.now)) (lists_in lists.new)) }
+    ensures { OnOk result
+        (AreGathered (lists_in lists.old) (action_variables (action_view action.now))
+        (lists_in lists.new)) }
 {
     add_variables(alloc, lists, action.parameters())?;
     add_formula(alloc, lists, action.precondition())?;
@@ -264,7 +288,9 @@ fn add_actions<'s>(
     lists: &mut Vec<Vec<Name<'s>>>,
     actions: &[ActionText<'s>],
 ) -> Result<(), Memory>
-    ensures { OnOk result (AreGathered (lists_in lists.old) (flat_map action_variables (map action_view actions.now)) (lists_in lists.new)) }
+    ensures { OnOk result
+        (AreGathered (lists_in lists.old) (flat_map action_variables (map action_view actions.now))
+        (lists_in lists.new)) }
 {
     for action in actions {
         add_action(alloc, lists, action)?;
@@ -277,7 +303,9 @@ fn add_domain<'s>(
     lists: &mut Vec<Vec<Name<'s>>>,
     domain: &DomainText<'s>,
 ) -> Result<(), Memory>
-    ensures { OnOk result (AreGathered (lists_in lists.old) (domain_variables (domain_view domain.now)) (lists_in lists.new)) }
+    ensures { OnOk result
+        (AreGathered (lists_in lists.old) (domain_variables (domain_view domain.now))
+        (lists_in lists.new)) }
 {
     add_tasks(alloc, lists, domain.tasks())?;
     add_methods(alloc, lists, domain.methods())?;
@@ -290,7 +318,9 @@ fn add_goal<'s>(
     lists: &mut Vec<Vec<Name<'s>>>,
     goal: Option<&FormulaText<'s>>,
 ) -> Result<(), Memory>
-    ensures { OnOk result (AreGathered (lists_in lists.old) (goal_variables (option_map (λ g. formula_view g.now) goal.entry)) (lists_in lists.new)) }
+    ensures { OnOk result
+        (AreGathered (lists_in lists.old)
+        (goal_variables (option_map (λ g. formula_view g.now) goal.entry)) (lists_in lists.new)) }
 {
     match goal {
         Some(goal) => add_formula(alloc, lists, goal),
@@ -303,7 +333,9 @@ fn add_problem<'s>(
     lists: &mut Vec<Vec<Name<'s>>>,
     problem: &ProblemText<'s>,
 ) -> Result<(), Memory>
-    ensures { OnOk result (AreGathered (lists_in lists.old) (problem_variables (problem_view problem.now)) (lists_in lists.new)) }
+    ensures { OnOk result
+        (AreGathered (lists_in lists.old) (problem_variables (problem_view problem.now))
+        (lists_in lists.new)) }
 {
     add_variables(alloc, lists, problem.htn().parameters())?;
     add_goal(alloc, lists, problem.goal())?;
@@ -320,7 +352,9 @@ pub(crate) fn gathered<'s>(
     domain: &DomainText<'s>,
     problem: &ProblemText<'s>,
 ) -> Result<Vec<Vec<Name<'s>>>, Memory>
-    ensures { IfOk result (λ v. AreGathered [] (all_variables (domain_view domain.now) (problem_view problem.now)) (lists_in v)) }
+    ensures { IfOk result
+        (λ v. AreGathered [] (all_variables (domain_view domain.now) (problem_view problem.now))
+        (lists_in v)) }
 {
     let mut lists = Vec::new(alloc);
     add_domain(alloc, &mut lists, domain)?;
