@@ -46,6 +46,3 @@ atoms_again (g ∷ gs) = ap (λ hs. g ∷ hs) (atoms_again gs)
 
 pub atoms_are : (rows : List (List ℕ)) (gs : List GroundAtom) → rows ≡ map row_of gs → map atom_of rows ≡ gs
 atoms_are rows gs e = ap (map atom_of) e ∙ atoms_again gs
-
-pub rows_are : (rows : List (List ℕ)) (gs : List GroundAtom) → rows ≡ map row_of gs → rows ≡ map row_of (map atom_of rows)
-rows_are rows gs e = e ∙ ap (map row_of) (sym (atoms_are rows gs e))

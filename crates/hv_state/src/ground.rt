@@ -3,18 +3,18 @@
 ghost use Rattle.std.specs.Prelude.{◌≡◌, ◌++◌, ◌∷◌, [], map, IfOk, OnOk, OnErr};
 ghost use Rattle.std.specs.List.{Contains};
 ghost use Rattle.hv_world.specs.Values.{effects_of};
-ghost use Rattle.hv_world.specs.Views.{atom_view, effect_view};
+ghost use Rattle.hv_world.specs.Views.{effect_view};
 ghost use Rattle.hv_world.specs.WorldViews.{world_view};
 ghost use Rattle.hv_world.specs.Bindings.{objects_in};
 ghost use Rattle.hv_world.specs.Effects.{SomeMakes};
-ghost use Rattle.hv_state.specs.Atoms.{Same, atoms_under, atom_read};
+ghost use Rattle.hv_state.specs.Atoms.{Same, atom_read};
 ghost use Rattle.hv_state.specs.inside.Rows.{row_of, rows_in};
 
 use crate::atom::AtomView;
 use crate::made::push_made;
-use crate::rows::{Row, row_of, rows_of};
+use crate::rows::{Row, row_of};
 use hv_text::Memory;
-use hv_world::{Atom, Binding, Effect, World};
+use hv_world::{Binding, Effect, World};
 use std::alloc::Global;
 use std::marker::Model;
 
@@ -45,19 +45,6 @@ impl GroundAtoms {
         GroundAtoms {
             rows: Vec::new(alloc),
         }
-    }
-
-    /// Atoms with the objects of a binding.
-    ///
-    /// # Errors
-    ///
-    /// `Memory` where a growth was refused.
-    pub fn of(alloc: Global, atoms: &[Atom], binding: &Binding<'_>) -> Result<GroundAtoms, Memory>
-        ensures { IfOk result
-            (λ a. a ≡ atoms_under (objects_in binding.now) (map atom_view atoms.now)) }
-    {
-        let rows = rows_of(alloc, atoms, binding)?;
-        Ok(GroundAtoms { rows })
     }
 
     /// The atoms that effects make true, or false, with the objects of a binding: also those that an

@@ -3,13 +3,13 @@
 use crate::formula::Atom;
 use crate::id::TypeId;
 
-/// What an action brings about (PDDL's effect). All deletes come before all adds: an atom that both
-/// become is true.
+/// A part of what an action does to a state (PDDL's effect). An action first deletes all that its
+/// effects make false, and then adds all that they make true: an atom that they make both is true.
 #[derive(Drop)]
 pub enum Effect {
-    /// The atom becomes true, or false.
+    /// The atom becomes true (an add) or false (a delete).
     Becomes(bool, Atom),
-    /// All of these effects, for all objects of these types; their variables are numbered behind
-    /// those around, as those of a quantifier are.
+    /// Each of these effects for every choice of objects of these types (PDDL's `forall`). Its
+    /// variables are numbered behind those around it, as a quantifier's are.
     Forall(Vec<TypeId>, Vec<Effect>),
 }
