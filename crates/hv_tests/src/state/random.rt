@@ -252,5 +252,5 @@ fn stopped(alloc: Global, count: usize) -> Option<usize> {
 
 #[test]
 fn random_plans_pass_the_states_of_a_slow_list(rt: HostRuntime) {
-    assert!(rt; stopped(rt.alloc(), 1000) > Some(100));
+    assert!(rt; stopped(rt.alloc(), 3000) > Some(300));
 }
