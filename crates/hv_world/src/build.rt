@@ -26,8 +26,8 @@ use crate::check::first_fault;
 use crate::fault::StaticFault;
 use crate::formula::{Atom, Formula};
 use crate::intern::lists::{
-    actions_in, add_eithers_pairs, add_object_pairs, goal_in, init_in, methods_in, predicate_names, tasks_in,
-    type_pairs,
+    actions_in, add_eithers_pairs, add_object_pairs, goal_in, init_in, methods_in, predicate_names,
+    tasks_in, type_pairs,
 };
 use crate::intern::sections::top_in;
 use crate::method::Method;
@@ -60,13 +60,7 @@ fn typing_in<'s>(
     let mut declared = Vec::new(alloc);
     add_object_pairs(tables, &mut declared, domain.constants())?;
     add_object_pairs(tables, &mut declared, problem.objects())?;
-    Types::new(
-        alloc,
-        types,
-        tables.objects.len(),
-        parents,
-        declared,
-    )
+    Types::new(alloc, types, tables.objects.len(), parents, declared)
 }
 
 // The places of the names of tasks.

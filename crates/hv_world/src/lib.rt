@@ -39,7 +39,8 @@ pub use grounding::{GroundAction, GroundActions};
 pub use id::{ActionId, MethodId, ObjectId, PredicateId, TaskId, TaskName, TypeId};
 pub use laws::{
     a_world_or_a_fault, cycles_are_found, cyclic_orders_are_faults, declarations_go_by_place,
-    eithers_are_unions, names_are_found, orders_are_decided, static_worlds_are_bound, types_are_decided,
+    eithers_are_unions, names_are_found, orders_are_decided, static_worlds_are_bound,
+    types_are_decided,
 };
 pub use method::Method;
 pub use network::Network;

@@ -50,7 +50,10 @@ impl<'s> Names<'s> {
     }
 
     /// The first places of the names of variables.
-    pub(crate) fn of_variables(alloc: Global, list: &[VariableText<'s>]) -> Result<Names<'s>, Memory>
+    pub(crate) fn of_variables(
+        alloc: Global,
+        list: &[VariableText<'s>],
+    ) -> Result<Names<'s>, Memory>
         ensures places { IfOk result
             (λ t. places_by t ≡ place_in (variables (map variable_view list.now))) }
         ensures seed { IfOk result

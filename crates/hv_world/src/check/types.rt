@@ -22,11 +22,7 @@ fn type_word_fault<'s>(tables: &Tables<'s>, side: Side, word: Placed<'s>) -> Opt
 }
 
 // The fault of the type of a name.
-fn type_fault<'s>(
-    tables: &Tables<'s>,
-    side: Side,
-    of: TypeText<'s>,
-) -> Option<StaticFault>
+fn type_fault<'s>(tables: &Tables<'s>, side: Side, of: TypeText<'s>) -> Option<StaticFault>
     ensures { result ≡ least (type_faults (known_by tables.now) side (type_view of.entry)) }
 {
     match of {

@@ -38,11 +38,7 @@ pub(crate) fn type_of<'s>(tables: &Tables<'s>, typed: TypedText<'s>) -> TypeId
 }
 
 // The number of the type that several names make; of `object` where they make none.
-fn either_of<'s>(
-    alloc: Global,
-    tables: &Tables<'s>,
-    words: &[Placed<'s>],
-) -> Result<TypeId, Memory>
+fn either_of<'s>(alloc: Global, tables: &Tables<'s>, words: &[Placed<'s>]) -> Result<TypeId, Memory>
     ensures { IfOk result
         (λ t. type_number t
         ≡ either_number (known_by tables.now)

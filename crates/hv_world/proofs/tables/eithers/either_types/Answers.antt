@@ -17,5 +17,5 @@ returns-clause-seed c = (
   lists_in c.in_ok-lists.lists,
   sym (c.in_ok-add_lists.ensures.keys ∙ (λ i. with_lists (map names_in (c.with_hasher-eithers.ensures.empty i)) (map names_in (c.deref-2.ensures.value i)))),
   ap (λ (h : Seeded). h.start) (c.in_ok-add_lists.ensures.seed ∙ c.with_hasher-eithers.ensures.hasher) ∙ c.with_lists.ensures
-  ∙ (λ i. with_taken_in (c.new.ensures i) (flat_map names_in (c.deref.ensures.value i))) ∙ ap start_of (flat_names c.in_ok-lists.lists.items),
+      ∙ (λ i. with_taken_in (c.new.ensures i) (flat_map names_in (c.deref.ensures.value i))) ∙ ap start_of (flat_names c.in_ok-lists.lists.items),
 )
