@@ -16,6 +16,8 @@ def types_of(world, thing):
 
 
 def is_of(world, thing, type):
+    if isinstance(type, tuple):
+        return any(is_of(world, thing, name) for name in type)
     return type == "object" or type in types_of(world, thing)
 
 
@@ -73,9 +75,20 @@ def is_applicable(world, action, things, state):
     return is_true(world, action.precondition, action_binding(action, things), state)
 
 
-def result(action, things, state):
+def literals(world, effects, binding):
+    """What effects add and delete: pairs of whether it is added, and a ground atom."""
+    for effect in effects:
+        if effect[0] == "forall":
+            _, variables, inner = effect
+            for chosen in bindings(world, variables):
+                yield from literals(world, inner, {**binding, **chosen})
+        else:
+            adds, atom = effect
+            yield adds, ground(atom, binding)
+
+
+def result(world, action, things, state):
     """The next state: what the action deletes is taken away, then what it adds is put in."""
-    binding = action_binding(action, things)
-    added = {ground(atom, binding) for adds, atom in action.effects if adds}
-    deleted = {ground(atom, binding) for adds, atom in action.effects if not adds}
-    return (state - deleted) | added
+    changes = set(literals(world, action.effects, action_binding(action, things)))
+    deleted = {atom for adds, atom in changes if not adds}
+    return (state - deleted) | {atom for adds, atom in changes if adds}

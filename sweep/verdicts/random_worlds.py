@@ -34,6 +34,13 @@ def random_type(rng, types):
     return "object" if some(rng, 0.6) else rng.choice(type_names(types))
 
 
+def random_kind(rng, types):
+    """The type of a variable: at times it is of either of several."""
+    if some(rng, 0.15):
+        return tuple(rng.choices(type_names(types), k=rng.randint(2, 3)))
+    return random_type(rng, types)
+
+
 def random_objects(rng, types):
     """Constants and objects; one of them declared a second time at times."""
     names = [f"o{k}" for k in range(1, rng.randint(2, 4) + 1)]
@@ -47,7 +54,7 @@ def random_objects(rng, types):
 
 def random_parameters(rng, types, most):
     variables = rng.sample(VARIABLES, rng.randint(0, most))
-    return tuple((variable, random_type(rng, types)) for variable in variables)
+    return tuple((variable, random_kind(rng, types)) for variable in variables)
 
 
 class Maker:
@@ -108,12 +115,22 @@ class Maker:
         parameters = random_parameters(self.rng, self.types, 2)
         scope = [variable for variable, _ in parameters]
         count = self.rng.choice([0, 1, 1, 2, 3])
-        effects = [(some(self.rng, 0.6), self.atom(scope)) for _ in range(count)]
-        if effects and some(self.rng, 0.2):
-            adds, atom = self.rng.choice(effects)
+        effects = [self.effect(scope, 2) for _ in range(count)]
+        literals = [effect for effect in effects if effect[0] != "forall"]
+        if literals and some(self.rng, 0.2):
+            adds, atom = self.rng.choice(literals)
             effects.insert(self.rng.randint(0, count), (not adds, atom))
         precondition = self.precondition(scope, 0.3, 0.1)
         return Action(name, parameters, precondition, tuple(effects))
+
+    def effect(self, scope, depth):
+        """A literal, or what holds for all objects of some variables."""
+        if not depth or some(self.rng, 0.8):
+            return some(self.rng, 0.6), self.atom(scope)
+        variables = self.quantified(scope)
+        inner = [variable for variable, _ in variables] + list(scope)
+        effects = [self.effect(inner, depth - 1) for _ in range(self.rng.choice([0, 1, 1, 2]))]
+        return "forall", variables, tuple(effects)
 
     def subtask(self, scope, before):
         """A subtask, at times of the name of one before it."""
@@ -153,13 +170,13 @@ class Maker:
         free = self.rng.sample(VARIABLES, len(VARIABLES))
         for _, type in self.tasks[task]:
             if some(self.rng, 0.85):
-                own = type if some(self.rng, 0.7) else random_type(self.rng, self.types)
+                own = type if some(self.rng, 0.7) else random_kind(self.rng, self.types)
                 parameters.append((free.pop(), own))
                 terms.append(parameters[-1][0])
             else:
                 terms.append(self.term([variable for variable, _ in parameters]))
         for _ in range(self.rng.choice([0, 0, 1, 1, 2])):
-            parameters.append((free.pop(), random_type(self.rng, self.types)))
+            parameters.append((free.pop(), random_kind(self.rng, self.types)))
         self.rng.shuffle(parameters)
         scope = [variable for variable, _ in parameters]
         precondition = self.precondition(scope, 0.4, 0.25)

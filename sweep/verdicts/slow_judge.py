@@ -160,7 +160,8 @@ class SlowJudge:
         """The state before the first action, and the state after each."""
         states = [self.world.initial]
         for line in self.actions:
-            states.append(result(self.world.actions[line.name], line.arguments, states[-1]))
+            action = self.world.actions[line.name]
+            states.append(result(self.world, action, line.arguments, states[-1]))
         return states
 
     # --- candidates and their count ---

@@ -6,7 +6,7 @@ a plan. Where there is nothing to change it gives both back as they are.
 
 from dataclasses import replace
 
-from random_worlds import random_type, some
+from random_worlds import random_kind, random_type, some
 from slow_judge import SlowJudge
 
 
@@ -224,7 +224,7 @@ def change_type_of_parameter(rng, world, plan):
     if method.parameters:
         parameters = list(method.parameters)
         place = rng.randrange(len(parameters))
-        parameters[place] = (parameters[place][0], random_type(rng, world.types))
+        parameters[place] = (parameters[place][0], random_kind(rng, world.types))
         changed = replace(method, parameters=tuple(parameters))
         top = method is world.top
         world = replace(world, top=changed) if top else with_method(world, changed)

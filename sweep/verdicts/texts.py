@@ -4,8 +4,12 @@ PREFACE = ["; found after 3 seconds", "", "cost: 7", "(a line of another tool", 
 GAPS = ["", "   ", "; a comment", "\t; 1 root ->"]
 
 
+def type_text(type):
+    return f"(either {' '.join(type)})" if isinstance(type, tuple) else type
+
+
 def typed(things):
-    return " ".join(f"{name} - {type}" for name, type in things)
+    return " ".join(f"{name} - {type_text(type)}" for name, type in things)
 
 
 def atom_text(atom):
@@ -34,6 +38,17 @@ def listed(rng, items):
 
 def literal_text(positive, atom):
     return atom_text(atom) if positive else f"(not {atom_text(atom)})"
+
+
+def effect_text(rng, effect):
+    if effect[0] != "forall":
+        return literal_text(*effect)
+    _, variables, inner = effect
+    return f"(forall ({typed(variables)}) {effects_text(rng, inner)})"
+
+
+def effects_text(rng, effects):
+    return listed(rng, [effect_text(rng, effect) for effect in effects])
 
 
 def subtask_text(rng, network, place):
@@ -103,8 +118,7 @@ def action_text(rng, action):
     fields = parameter_fields(rng, action.parameters)
     fields += precondition_fields(rng, action.precondition)
     if action.effects:
-        effects = [literal_text(*effect) for effect in action.effects]
-        fields.append(f":effect {listed(rng, effects)}")
+        fields.append(f":effect {effects_text(rng, action.effects)}")
     return section(rng, f":action {action.name}", fields)
 
 

@@ -95,7 +95,7 @@ class Walk:
         action, things = self.world.actions[item.line.name], item.line.arguments
         if careful and not is_applicable(self.world, action, things, self.state):
             return False
-        self.state = result(action, things, self.state)
+        self.state = result(self.world, action, things, self.state)
         self.actions.append(item.line)
         self.close(item)
         return True

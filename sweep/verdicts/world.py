@@ -7,8 +7,9 @@ a predicate and its terms. A formula is one of these tuples:
     ("and", formula..)  ("or", formula..)
     ("forall", variables, formula)  ("exists", variables, formula)
 
-Variables with their types are a tuple of pairs, as are objects with theirs. All names are in
-lower case.
+Variables with their types are a tuple of pairs, as are objects with theirs. The type of a variable
+may be a tuple of names: it is of either of them. An effect is a pair of whether it adds, and the
+atom, or ("forall", variables, effects). All names are in lower case.
 """
 
 from dataclasses import dataclass, replace
@@ -43,7 +44,7 @@ class Method:
 
 @dataclass(frozen=True)
 class Action:
-    """An action; each effect is a pair of whether it adds, and the atom."""
+    """An action, with a tuple of effects."""
 
     name: str
     parameters: tuple

@@ -8,11 +8,11 @@ import argparse
 import random
 import sys
 import time
-from dataclasses import replace
+from dataclasses import fields, is_dataclass, replace
 from itertools import product
 from math import prod
 
-from meaning import action_binding, ground, is_true, objects_of
+from meaning import action_binding, is_true, literals, objects_of
 from random_cases import random_cases
 from slow_judge import SlowJudge, TooManyChoices
 
@@ -168,8 +168,8 @@ class Effects(SlowJudge):
         for line in self.actions:
             action, state = self.world.actions[line.name], set(states[-1])
             binding = action_binding(action, line.arguments)
-            for adds, atom in self.in_order(action.effects):
-                (state.add if adds else state.discard)(ground(atom, binding))
+            for adds, atom in self.in_order(literals(self.world, action.effects, binding)):
+                (state.add if adds else state.discard)(atom)
             states.append(frozenset(state))
         return states
 
@@ -182,6 +182,55 @@ class AddsBeforeDeletes(Effects):
 class LastEffectWins(Effects):
     def in_order(self, effects):
         return effects
+
+
+def with_kinds(value, change):
+    """The same value with other types of those variables that are of either of several."""
+    if is_dataclass(value):
+        parts = {field.name: getattr(value, field.name) for field in fields(value)}
+        return replace(value, **{name: with_kinds(part, change) for name, part in parts.items()})
+    if isinstance(value, dict):
+        return {name: with_kinds(part, change) for name, part in value.items()}
+    match value:
+        case (str(variable), tuple(names)) if variable.startswith("?"):
+            return variable, change(names)
+        case tuple():
+            return tuple(with_kinds(part, change) for part in value)
+    return value
+
+
+class LastOfEitherAlone(SlowJudge):
+    def __init__(self, world, plan):
+        super().__init__(with_kinds(world, lambda names: names[-1]), plan)
+
+
+class EitherOfAll(SlowJudge):
+    def __init__(self, world, plan):
+        super().__init__(with_kinds(world, lambda names: "object"), plan)
+
+
+class OuterVariablesSeen(SlowJudge):
+    """A variable of an effect is the outer one where an inner one hides it."""
+
+    @property
+    def states(self):
+        states = [self.world.initial]
+        for line in self.actions:
+            action, state = self.world.actions[line.name], states[-1]
+            outer = action_binding(action, line.arguments)
+            changes = set(self.changes(action.effects, outer))
+            deleted = {atom for adds, atom in changes if not adds}
+            states.append((state - deleted) | {atom for adds, atom in changes if adds})
+        return states
+
+    def changes(self, effects, outer):
+        for effect in effects:
+            if effect[0] == "forall":
+                _, variables, inner = effect
+                seen = tuple(pair for pair in variables if pair[0] not in outer)
+                yield from literals(self.world, (("forall", seen, inner),), outer)
+            else:
+                yield from literals(self.world, (effect,), outer)
 
 
 class FirstParentOnly(SlowJudge):

@@ -4,7 +4,7 @@ use Rattle.std.proofs.Common.{◌≡◌, ◌++◌, ℕ, Bool, true, false, not, 
 use Rattle.std.specs.List.{flat_map}
 use Rattle.std.specs.Option.{option_or}
 use Rattle.hv_text.specs.declared.span.Span.{Span}
-use Rattle.hv_syntax.specs.Values.{WordAt, Task, Term, constant, variable, Atom, TypeOf, no_type, of_type, Typed, Formula, Formulas, holds, and, or, imply, forall, exists, equal, no_formulas, more_formulas, Literal, Subtask, Pair, Constraint, Network, Method, Action, Domain, Htn, Problem}
+use Rattle.hv_syntax.specs.Values.{WordAt, Task, Term, constant, variable, Atom, TypeOf, no_type, of_type, Typed, Variable, Formula, Formulas, holds, and, or, imply, forall, exists, equal, no_formulas, more_formulas, Literal, Effect, no_items, more_items, Item, becomes, for_each, Subtask, Pair, Constraint, Network, Method, Action, Domain, Htn, Problem}
 use Rattle.hv_syntax.specs.Values.{not as negation}
 use Rattle.hv_world.specs.declared.fault.StaticKind.{StaticKind}
 use Rattle.hv_world.specs.declared.fault.StaticKind.TheVariants as kinds
@@ -17,7 +17,7 @@ use Rattle.hv_world.specs.Known.{Known, known_in, variables, typed_words, predic
 use Rattle.hv_world.specs.Names.{is_among, repeated}
 use Rattle.hv_world.specs.Networks.{labels, label_names, written_by}
 use Rattle.hv_world.specs.Scopes.{Scope, parameters, inside, is_bound}
-use Rattle.hv_world.specs.StaticRules.{at_word_if, head_faults, signature_arity, declared_arity, arity_of_task, type_faults, typed_faults, variable_faults, term_faults, terms_faults, atom_faults, formula_faults, all_formula_faults, literals_faults, task_faults, subtask_faults, subtasks_faults, constraints_faults, pair_faults, label_faults, order_faults, network_faults, method_faults, action_faults, htn_faults, goal_faults, method_words, duplicate_faults, domain_faults_by, problem_faults_by, domain_faults, problem_faults, first_fault}
+use Rattle.hv_world.specs.StaticRules.{at_word_if, head_faults, signature_arity, declared_arity, arity_of_task, type_word_faults, type_faults, typed_faults, types_faults, variable_types_faults, variable_faults, term_faults, terms_faults, atom_faults, formula_faults, all_formula_faults, literals_faults, effect_faults, item_faults, task_faults, subtask_faults, subtasks_faults, constraints_faults, pair_faults, label_faults, order_faults, network_faults, method_faults, action_faults, htn_faults, goal_faults, method_words, duplicate_faults, domain_faults_by, problem_faults_by, domain_faults, problem_faults, first_fault}
 use Rattle.hv_answer.specs.declared.answer.FaultKind.{FaultKind}
 use Rattle.hv_answer.specs.declared.answer.FaultKind.TheVariants as faults
 use Rattle.hv_judge.specs.Rejections.{reported_static}
@@ -91,17 +91,27 @@ head kind s w None n is = more (fault_at kind s w) [] is none
 head kind s w (Some m) n is = at_word (not (nat_eq m n)) kinds.Arity s w arity
 
 module _ (k : Known) (s : Side) where
+  type_word : (w : WordAt) → Reported (type_word_faults k s w)
+  type_word w = at_word (not (is_among k.types w.text)) kinds.UnknownType s w unknown_type
+
   type : (t : TypeOf) → Reported (type_faults k s t)
   type no_type = none
-  type (of_type w) = at_word (not (is_among k.types w.text)) kinds.UnknownType s w unknown_type
+  type (of_type w) = type_word w
 
   typed : (vs : List Typed) → Reported (typed_faults k s vs)
   typed vs = flat (λ (v : Typed). type_faults k s v.of) (λ (v : Typed). type v.of) vs
 
-  variable_list : (vs : List Typed) → Reported (variable_faults k s vs)
+  types : (ws : List WordAt) → Reported (types_faults k s ws)
+  types ws = flat (type_word_faults k s) type_word ws
+
+  variable_types : (vs : List Variable) → Reported (variable_types_faults k s vs)
+  variable_types vs =
+      flat (λ (v : Variable). types_faults k s v.of) (λ (v : Variable). types v.of) vs
+
+  variable_list : (vs : List Variable) → Reported (variable_faults k s vs)
   variable_list vs =
-      append (typed_faults k s vs)
-      (faults_at kinds.DuplicateVariable s (repeated (typed_words vs))) (typed vs)
+      append (variable_types_faults k s vs)
+      (faults_at kinds.DuplicateVariable s (repeated (typed_words vs))) (variable_types vs)
       (words kinds.DuplicateVariable s (repeated (typed_words vs)) duplicate_variable)
 
   term : (scope : Scope) (x : Term) → Reported (term_faults k s scope x)
@@ -151,6 +161,19 @@ module _ (k : Known) (s : Side) where
   literals : (scope : Scope) (ls : List Literal) → Reported (literals_faults k s scope ls)
   literals scope ls =
       flat (λ (l : Literal). atom_faults k s scope l.atom) (λ (l : Literal). atom scope l.atom) ls
+
+  mutual
+    effects : (scope : Scope) (e : Effect) → Reported (effect_faults k s scope e)
+    effects scope no_items = none
+    effects scope (more_items i e) =
+        append (item_faults k s scope i) (effect_faults k s scope e) (item scope i)
+        (effects scope e)
+
+    item : (scope : Scope) (i : Item) → Reported (item_faults k s scope i)
+    item scope (becomes l) = atom scope l.atom
+    item scope (for_each vs e) =
+        append (variable_faults k s vs) (effect_faults k s (inside scope (variables vs)) e)
+        (variable_list vs) (effects (inside scope (variables vs)) e)
 
   task : (scope : Scope) (a : Atom) → Reported (task_faults k s scope a)
   task scope a =
@@ -222,9 +245,9 @@ module _ (k : Known) (s : Side) where
       let scope = parameters (variables a.parameters) in
       let vs = variable_faults k s a.parameters in
       let fs = formula_faults k s scope a.precondition in
-      append (vs ++ fs) (literals_faults k s scope a.effect.literals)
+      append (vs ++ fs) (effect_faults k s scope a.effect)
       (append vs fs (variable_list a.parameters) (formula scope a.precondition))
-      (literals scope a.effect.literals)
+      (effects scope a.effect)
 
   goal : (o : Option Formula) → Reported (goal_faults k s o)
   goal None = none

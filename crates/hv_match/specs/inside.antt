@@ -11,4 +11,3 @@ pub mod Ranges
 pub mod Parts
 pub mod Checks
 pub mod Ways
-pub mod Codes

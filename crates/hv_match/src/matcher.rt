@@ -29,12 +29,12 @@ impl<'w, 's> Model for Matcher<'w, 's> {
     ghost use Rattle.std.specs.Coded.{codes};
     ghost use Rattle.hv_world.specs.Worlds.{World};
     ghost use Rattle.hv_world.specs.WorldViews.{world_view};
-    ghost use Rattle.hv_match.specs.inside.Codes.{formula_code};
+    ghost use Rattle.hv_world.specs.Codes.{formula_code, effects_code};
     ghost use Rattle.hv_match.specs.inside.Ranges.{AreTablesOf};
 
     ghost Value = { World };
 
-    ghost coded = { Prim.hlevel (codes, formula_code) };
+    ghost coded = { Prim.hlevel (codes, formula_code, effects_code) };
 
     ghost view = { λ s. world_view s.world.now };
 

@@ -91,7 +91,7 @@ module _ (q : Setting) (is : IsSetting q) (v : ℕ) (node : Node) (has_node : sl
   order_decided = before_is_decided method.network.order sound_network.arrangeable.pairs
 
   pub truth_decided : (B : List ℕ) (k : ℕ) → HoldsAt q method B k ⊎ (HoldsAt q method B k → ⊥)
-  truth_decided B k = by q.is_with refl (true_decided q.plan.world.typing (of_is_decided q.plan.world.typing is.sound.typing) (StateAt q.plan k) (λ g. state_decided q.plan k g) method.precondition B)
+  truth_decided B k = by q.is_with refl (true_decided q.plan.world.typing (of_is_decided q.plan.world.typing is.sound.typing) (StateAt q.plan k) (state_decided q.plan (of_is_decided q.plan.world.typing is.sound.typing) k) method.precondition B)
     where
       by : (b : Bool) → q.is_with ≡ b → True q.plan.world.typing (StateAt q.plan k) method.precondition B ⊎ (True q.plan.world.typing (StateAt q.plan k) method.precondition B → ⊥) → HoldsAt q method B k ⊎ (HoldsAt q method B k → ⊥)
       by b e (inl t) = inl (λ h. t)

@@ -40,14 +40,14 @@ pub struct PlanNodes<'a, 's, 'm, 'p, 't, 'c, 'd> {
 
 impl<'a, 's, 'm, 'p, 't, 'c, 'd> Model for PlanNodes<'a, 's, 'm, 'p, 't, 'c, 'd> {
     ghost use Rattle.std.specs.Coded.{codes};
-    ghost use Rattle.hv_match.specs.inside.Codes.{formula_code};
+    ghost use Rattle.hv_world.specs.Codes.{formula_code, effects_code};
     ghost use Rattle.hv_plan.specs.BuiltTrees.{tree_view};
     ghost use Rattle.hv_order.specs.Settings.{Setting, setting};
     ghost use Rattle.hv_order.specs.inside.PlanNodes.{ArePlanNodes};
 
     ghost Value = { Setting };
 
-    ghost coded = { Prim.hlevel (codes, formula_code) };
+    ghost coded = { Prim.hlevel (codes, formula_code, effects_code) };
 
     ghost view = { λ s. setting (tree_view s.tree.now) s.trace.now s.is_with };
 

@@ -51,13 +51,13 @@ pub struct Rows<'a, 's, 'm, 'p, 't, 'c, 'd> {
 
 impl<'a, 's, 'm, 'p, 't, 'c, 'd> Model for Rows<'a, 's, 'm, 'p, 't, 'c, 'd> {
     ghost use Rattle.std.specs.Coded.{codes};
-    ghost use Rattle.hv_match.specs.inside.Codes.{formula_code};
+    ghost use Rattle.hv_world.specs.Codes.{formula_code, effects_code};
     ghost use Rattle.hv_order.specs.Settings.{Setting};
     ghost use Rattle.hv_order.specs.inside.Runs.{ArePlanRows};
 
     ghost Value = { Setting };
 
-    ghost coded = { Prim.hlevel (codes, formula_code) };
+    ghost coded = { Prim.hlevel (codes, formula_code, effects_code) };
 
     ghost view = { λ s. s.nodes };
 

@@ -3,7 +3,8 @@ use Rattle.std.proofs.Common.{◌≡◌, ◌<◌, ◌≤◌, ◌+◌, ◌++◌, 
 use Rattle.std.proofs.lemmas.Bool.{cases_lt}
 use Rattle.hv_world.specs.Types.{Typing}
 use Rattle.hv_world.specs.Values.{Formula, Formulas, holds, and, or, not, imply, forall, exists, equal, no_formulas, more_formulas}
-use Rattle.hv_state.specs.Atoms.{GroundAtom, Atoms, atom_under}
+use Rattle.hv_world.specs.Bindings.{GroundAtom, atom_under}
+use Rattle.hv_state.specs.Atoms.{Atoms}
 use Rattle.hv_state.specs.Truth.{ForEach, ForSome, True, AllTrue, SomeTrue}
 use Rattle.hv_state.specs.Plans.{Plan, StateAt}
 use Rattle.hv_state.specs.Changes.{Change, Stays, AreChanges, none_yet, stays, turns, told_from, told, TrueAfter, Mentions, SomeMention}

@@ -7,7 +7,7 @@ use Rattle.std.proofs.lemmas.Bool.{cases_lt}
 use Rattle.std.proofs.lemmas.List.{get_or-map, get_or_default, length-map}
 use Rattle.hv_state.specs.declared.changes.Change as code
 use Rattle.hv_state.specs.declared.changes.History.{History}
-use Rattle.hv_state.specs.Atoms.{GroundAtom}
+use Rattle.hv_world.specs.Bindings.{GroundAtom}
 use Rattle.hv_state.specs.inside.Bits.{Has}
 use Rattle.hv_state.specs.inside.Rows.{row_of, atom_of, IsBelow, Ascend, IsGap}
 use Rattle.hv_state.specs.Changes.{Change, told_from, told}

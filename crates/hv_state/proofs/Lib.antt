@@ -1,5 +1,6 @@
 pub mod Levels
 pub mod FormulaLemmas
+pub mod EffectLevels
 pub mod Chosen
 pub mod TermLemmas
 pub mod RowLemmas
@@ -10,6 +11,8 @@ pub mod ChangeLemmas
 pub mod HistoryLemmas
 pub mod GrowLemmas
 pub mod NoteLemmas
+pub mod SomeLemmas
+pub mod MadeLemmas
 pub mod NextLemmas
 pub mod DecisionLemmas
 pub mod WordLemmas

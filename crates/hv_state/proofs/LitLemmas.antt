@@ -4,7 +4,8 @@ use Rattle.std.specs.List.{Contains}
 use Rattle.hv_state.specs.declared.rows.Row.{Row}
 use Rattle.std.proofs.lemmas.List.{get_or_default, get_or-map, length-map, map_push}
 use Rattle.std.proofs.lemmas.List.Elements.{Contains-append_left, Contains-append_right, Contains-append_cases, Contains-push, Contains-push_cases}
-use Rattle.hv_state.specs.Atoms.{GroundAtom, Same, After}
+use Rattle.hv_world.specs.Bindings.{GroundAtom}
+use Rattle.hv_state.specs.Atoms.{Same, After}
 use Rattle.hv_state.specs.inside.Rows.{row_of, rows_in, Ascend, HasSameRows, IsGap}
 use Rattle.hv_state.specs.inside.Bits.{Has, Bits, Lit, Shown, Knows, AreBits, AreLit, AreDark, AreLacking, IsChanged}
 use Rattle.hv_state.proofs.RowLemmas.{gap_lacks, contains_cases, contains_none}
@@ -135,7 +136,7 @@ pub shown_same : (b old : Bits) → b ≡ old → Same (Shown b) (Shown old)
 shown_same b old e g = (λ l. subst (λ x. Shown x g) e l, λ l. subst (λ x. Shown x g) (sym e) l)
 
 pub shown_changed : (old mid : Bits) (new : List ℕ) (gone come : List (List ℕ)) (deletes adds : List GroundAtom) → gone ≡ map row_of deletes → come ≡ map row_of adds → ((r : List ℕ) → Lit mid r ↔ Lit old r)
-    → IsChanged mid.0 mid.1 gone come new → Same (Shown (mid.0, new)) (After (Shown old) deletes adds)
+    → IsChanged mid.0 mid.1 gone come new → Same (Shown (mid.0, new)) (After (Shown old) (Contains deletes) (Contains adds))
 shown_changed old mid new gone come deletes adds is_gone is_come same change g = (λ l. from ((change (row_of g)).0 l), to)
   where
     deleted : Contains deletes g → Contains gone (row_of g)
@@ -144,10 +145,10 @@ shown_changed old mid new gone come deletes adds is_gone is_come same change g =
     of_deleted : Contains gone (row_of g) → Contains deletes g
     of_deleted m = atom_listed deletes g (subst (λ xs. Contains xs (row_of g)) is_gone m)
 
-    from : (Lit mid (row_of g) × (Contains gone (row_of g) → ⊥)) ⊎ Contains come (row_of g) → After (Shown old) deletes adds g
+    from : (Lit mid (row_of g) × (Contains gone (row_of g) → ⊥)) ⊎ Contains come (row_of g) → After (Shown old) (Contains deletes) (Contains adds) g
     from (inl (l, kept)) = inl ((same (row_of g)).0 l, λ m. kept (deleted m))
     from (inr m) = inr (atom_listed adds g (subst (λ xs. Contains xs (row_of g)) is_come m))
 
-    to : After (Shown old) deletes adds g → Shown (mid.0, new) g
+    to : After (Shown old) (Contains deletes) (Contains adds) g → Shown (mid.0, new) g
     to (inl (l, kept)) = (change (row_of g)).1 (inl ((same (row_of g)).1 l, λ m. kept (of_deleted m)))
     to (inr m) = (change (row_of g)).1 (inr (subst (λ xs. Contains xs (row_of g)) (sym is_come) (row_listed adds g m)))

@@ -3,33 +3,23 @@ use Rattle.std.proofs.Common.{◌≡◌, ◌<◌, ◌≤◌, ◌+◌, ◌-◌, �
 use Rattle.std.specs.List.{Contains}
 use Rattle.std.specs.List.Sorted.{IsPartitionPoint}
 use Rattle.std.proofs.lemmas.Bool.{cases_lt, leb-true, leb-false}
-use Rattle.std.proofs.lemmas.List.{take_more, get_or-map, length-map}
+use Rattle.std.proofs.lemmas.List.{get_or-map, length-map}
 use Rattle.std.proofs.lemmas.List.Elements.{Contains-append_left, Contains-push, Contains-push_cases}
 use Rattle.hv_world.specs.declared.formula.Formula.{Formula}
-use Rattle.hv_world.specs.declared.id.ObjectId.{ObjectId}
-use Rattle.hv_world.specs.Types.{Typing, Of, object_numbers}
+use Rattle.hv_world.specs.Bindings.{GroundAtom}
+use Rattle.hv_world.specs.Types.{Typing}
 use Rattle.hv_world.specs.Values.{formulas_of}
 use Rattle.hv_world.specs.Views.{formula_view}
 use Rattle.hv_state.specs.declared.changes.Change as code
-use Rattle.hv_state.specs.Atoms.{GroundAtom, Atoms}
-use Rattle.hv_state.specs.Truth.{ForSome, True}
+use Rattle.hv_state.specs.Atoms.{Atoms}
+use Rattle.hv_state.specs.Truth.{True}
 use Rattle.hv_state.specs.Plans.{Plan, StateAt}
 use Rattle.hv_state.specs.Changes.{Change, Stays, AreChanges, none_yet, stays, turns, Mentions, SomeMention, IsNextChange, AreFalse, IsFirstTrue}
 use Rattle.hv_state.specs.inside.Histories.{Rise, change_view, Table, kept, IsNext, IsNextIn, IsLeast}
 use Rattle.hv_state.specs.inside.Notes.{IsRecorded}
 use Rattle.hv_state.proofs.RowLemmas.{some_of}
+use Rattle.hv_state.proofs.SomeLemmas.{SomeOf, some_more, taken}
 use Rattle.hv_state.proofs.ChangeLemmas.{unchanged}
-
--- one of these is so
-abbrev pub SomeOf : {X : Type 0} → (X → Type 0) → List X → Type 0
-SomeOf P [] = ⊥
-SomeOf P (x ∷ xs) = P x ⊎ SomeOf P xs
-
-some_push : {X : Type 0} (P : X → Type 0) (xs : List X) (y : X) → (SomeOf P xs ⊎ P y) ↔ SomeOf P (xs ++ y ∷ [])
-some_push P [] y = (λ m. elim m [ inl a ↦ absurd a | inr b ↦ inl b ], λ m. elim m [ inl b ↦ inr b | inr a ↦ absurd a ])
-some_push P (x ∷ xs) y =
-    let rest = some_push P xs y in
-    (λ m. elim m [ inl a ↦ (elim a [ inl p ↦ inl p | inr s ↦ inr (rest.0 (inl s)) ]) | inr b ↦ inr (rest.0 (inr b)) ], λ m. elim m [ inl p ↦ inl (inl p) | inr s ↦ (elim (rest.1 s) [ inl a ↦ inl (inr a) | inr b ↦ inr b ]) ])
 
 module _ (t : Table) (k end : ℕ) where
   pub next_like : (M N : GroundAtom → Type 0) (j : ℕ) → ((g : GroundAtom) → M g ↔ N g) → IsNext t k end M j → IsNext t k end N j
@@ -59,44 +49,17 @@ module _ (t : Table) (k end : ℕ) where
   module _ {X : Type 0} (P : X → GroundAtom → Type 0) (xs : List X) (i : ℕ) where
     pub next_push : (x : X) (u e c : ℕ) → i < length xs → x ≡ get_or xs i x → IsNext t k end (λ g. SomeOf (λ y. P y g) (take i xs)) u → IsNext t k end (P x) e → IsLeast u e c → IsNext t k end (λ g. SomeOf (λ y. P y g) (take (i + 1) xs)) c
     next_push x u e c lt is so_far next least =
-        let more : take (i + 1) xs ≡ take i xs ++ x ∷ [] = take_more xs i x lt ∙ ap (λ y. take i xs ++ y ∷ []) (sym is) in
-        subst (λ ys. IsNext t k end (λ g. SomeOf (λ y. P y g) ys) c) (sym more)
-        (next_like (λ g. SomeOf (λ y. P y g) (take i xs) ⊎ P x g) (λ g. SomeOf (λ y. P y g) (take i xs ++ x ∷ [])) c (λ g. some_push (λ y. P y g) (take i xs) x) (next_both (λ g. SomeOf (λ y. P y g) (take i xs)) (P x) u e c so_far next least))
+        next_like (λ g. SomeOf (λ y. P y g) (take i xs) ⊎ P x g) (λ g. SomeOf (λ y. P y g) (take (i + 1) xs)) c (λ g. some_more (λ y. P y g) xs i x lt is) (next_both (λ g. SomeOf (λ y. P y g) (take i xs)) (P x) u e c so_far next least)
 
     pub next_all : (u : ℕ) → length xs ≤ i → IsNext t k end (λ g. SomeOf (λ y. P y g) (take i xs)) u → IsNext t k end (λ g. SomeOf (λ y. P y g) xs) u
     next_all u le = subst (λ ys. IsNext t k end (λ g. SomeOf (λ y. P y g) ys) u) (taken xs i le)
-      where
-        taken : (ys : List X) (n : ℕ) → length ys ≤ n → take n ys ≡ ys
-        taken [] zero h = refl
-        taken [] (suc n) h = refl
-        taken (y ∷ ys) zero h = absurd (omega (arith, h))
-        taken (y ∷ ys) (suc n) h = ap (λ zs. y ∷ zs) (taken ys n (omega (arith, h)))
 
--- the parts of a formula, and the objects of a type
+-- the parts of a formula
 pub mentioned_parts : (w : Typing) (g : GroundAtom) (env : List ℕ) (xs : List Formula) → SomeOf (λ f. Mentions w g (formula_view f) env) xs ↔ SomeMention w g (formulas_of (map formula_view xs)) env
 mentioned_parts w g env [] = (λ m. m, λ m. m)
 mentioned_parts w g env (x ∷ xs) =
     let rest = mentioned_parts w g env xs in
     (λ m. elim m [ inl a ↦ inl a | inr b ↦ inr (rest.0 b) ], λ m. elim m [ inl a ↦ inl a | inr b ↦ inr (rest.1 b) ])
-
-some_at : {X : Type 0} (P : X → Type 0) (xs : List X) (i : ℕ) (d : X) → i < length xs → P (get_or xs i d) → SomeOf P xs
-some_at P [] i d lt p = absurd (omega (arith, lt))
-some_at P (x ∷ xs) zero d lt p = inl p
-some_at P (x ∷ xs) (suc i) d lt p = inr (some_at P xs i d (omega (arith, lt)) p)
-
-some_number : (P : ℕ → Type 0) (os : List ObjectId) (n : ℕ) → Contains (object_numbers os) n → P n → SomeOf (λ o. P o.0) os
-some_number P [] n m p = absurd (omega (arith, m.1))
-some_number P (o ∷ os) n (zero, lt, e) p = inl (subst P (sym e) p)
-some_number P (o ∷ os) n (suc i, lt, e) p = inr (some_number P os n (i, omega (arith, lt), e) p)
-
-number_of_some : (P : ℕ → Type 0) (os : List ObjectId) → SomeOf (λ o. P o.0) os → (n : ℕ) × Contains (object_numbers os) n × P n
-number_of_some P [] m = absurd m
-number_of_some P (o ∷ os) (inl p) = (o.0, (0, omega arith, refl), p)
-number_of_some P (o ∷ os) (inr m) = let (n, at, p) = number_of_some P os m in (n, (suc at.0, omega (arith, at.1), at.2), p)
-
-pub mentioned_objects : (w : Typing) (t : ℕ) (os : List ObjectId) (exact : (o : ℕ) → Contains (object_numbers os) o ↔ Of w o t) (P : List ℕ → Type 0) (ts env : List ℕ) → SomeOf (λ o. ForSome w P ts (env ++ o.0 ∷ [])) os ↔ ForSome w P (t ∷ ts) env
-mentioned_objects w t os exact P ts env =
-    (λ m. (let h = number_of_some (λ n. ForSome w P ts (env ++ n ∷ [])) os m in (h.0, (exact h.0).0 h.1, h.2)), λ m. some_number (λ n. ForSome w P ts (env ++ n ∷ [])) os m.0 ((exact m.0).1 m.1) m.2)
 
 -- the changes behind those up to an index
 module _ (cs : List code.Change) (k past : ℕ) (rise : Rise (map change_view cs)) (point : IsPartitionPoint (λ c. nat_le c.from k ≡ true) (λ c. nat_le c.from k ≡ false) cs past) where

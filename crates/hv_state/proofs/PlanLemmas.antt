@@ -4,9 +4,10 @@ use Rattle.std.specs.List.{Contains}
 use Rattle.std.proofs.lemmas.List.{take_more}
 use Rattle.hv_world.specs.Values.{Formula, Formulas, holds, and, or, not, imply, forall, exists, equal, no_formulas, more_formulas}
 use Rattle.hv_world.specs.Types.{Typing}
-use Rattle.hv_world.specs.Bindings.{GroundAction}
+use Rattle.hv_world.specs.Bindings.{GroundAtom, GroundAction, atom_under}
+use Rattle.hv_world.specs.Effects.{Adds, Deletes}
 use Rattle.hv_world.specs.Worlds.{World, Action}
-use Rattle.hv_state.specs.Atoms.{GroundAtom, Atoms, Same, After, atoms_under, atom_under}
+use Rattle.hv_state.specs.Atoms.{Atoms, Same, After}
 use Rattle.hv_state.specs.Truth.{ForEach, ForSome, True, AllTrue, SomeTrue}
 use Rattle.hv_state.specs.Plans.{Plan, IsApplicableIn, AfterAction, AfterActions, Start, StateAt, IsApplicable}
 
@@ -20,22 +21,31 @@ same_back S T e g = ((e g).1, (e g).0)
 pub same_through : (S T U : Atoms) → Same S T → Same T U → Same S U
 same_through S T U e f g = (λ m. (f g).0 ((e g).0 m), λ m. (e g).1 ((f g).1 m))
 
-after_half : (S T : Atoms) (deletes adds : List GroundAtom) → Same S T → (g : GroundAtom) → After S deletes adds g → After T deletes adds g
+after_half : (S T deletes adds : Atoms) → Same S T → (g : GroundAtom) → After S deletes adds g → After T deletes adds g
 after_half S T deletes adds e g (inl (m, out)) = inl ((e g).0 m, out)
 after_half S T deletes adds e g (inr m) = inr m
 
-after_sets : (S T : Atoms) (deletes adds : List GroundAtom) → Same S T → Same (After S deletes adds) (After T deletes adds)
+after_sets : (S T deletes adds : Atoms) → Same S T → Same (After S deletes adds) (After T deletes adds)
 after_sets S T deletes adds e g = (after_half S T deletes adds e g, after_half T S deletes adds (same_back S T e) g)
+
+-- the same deletes and the same adds
+after_changes_half : (S deletes adds gone come : Atoms) → Same deletes gone → Same adds come → (g : GroundAtom) → After S deletes adds g → After S gone come g
+after_changes_half S deletes adds gone come ds as' g (inl (m, out)) = inl (m, λ d. out ((ds g).1 d))
+after_changes_half S deletes adds gone come ds as' g (inr m) = inr ((as' g).0 m)
+
+after_changes : (S deletes adds gone come : Atoms) → Same deletes gone → Same adds come → Same (After S deletes adds) (After S gone come)
+after_changes S deletes adds gone come ds as' g =
+    (after_changes_half S deletes adds gone come ds as' g, after_changes_half S gone come deletes adds (same_back deletes gone ds) (same_back adds come as') g)
 
 pub after_same : (w : World) (S T : Atoms) (a : GroundAction) → Same S T → Same (AfterAction w S a) (AfterAction w T a)
 after_same w S T a e = by (slice_get w.actions a.action)
   where
     after : Option Action → Atoms → Atoms
-    after found U = elim found [ None ↦ U | Some b ↦ After U (atoms_under a.objects b.deletes) (atoms_under a.objects b.adds) ]
+    after found U = elim found [ None ↦ U | Some b ↦ After U (Deletes w.typing a.objects b.effect) (Adds w.typing a.objects b.effect) ]
 
     by : (found : Option Action) → Same (after found S) (after found T)
     by None = e
-    by (Some b) = after_sets S T (atoms_under a.objects b.deletes) (atoms_under a.objects b.adds) e
+    by (Some b) = after_sets S T (Deletes w.typing a.objects b.effect) (Adds w.typing a.objects b.effect) e
 
 -- truth is a matter of which atoms are in the state
 each_half : (w : Typing) (P Q : List ℕ → Type 0) → ((env : List ℕ) → P env → Q env) → (ts : List ℕ) (env : List ℕ) → ForEach w P ts env → ForEach w Q ts env
@@ -82,10 +92,12 @@ module _ (w : World) (S : Atoms) (g : GroundAction) (a : Action) (there : slice_
   pub applies : (f : Formula) (env : List ℕ) → f ≡ a.precondition → env ≡ g.objects → True w.typing S f env → IsApplicableIn w S g
   applies f env fs os h = subst (λ o. IsSomeAnd o (λ b. True w.typing S b.precondition g.objects)) (sym there) (subst (λ x. True w.typing S x g.objects) fs (subst (True w.typing S f) os h))
 
-  pub acted : (T : Atoms) (deletes adds : List GroundAtom) → deletes ≡ atoms_under g.objects a.deletes → adds ≡ atoms_under g.objects a.adds → Same T (After S deletes adds) → Same T (AfterAction w S g)
+  pub acted : (T deletes adds : Atoms) → Same deletes (Deletes w.typing g.objects a.effect) → Same adds (Adds w.typing g.objects a.effect) → Same T (After S deletes adds) → Same T (AfterAction w S g)
   acted T deletes adds ds as' h =
-      subst (λ o. Same T (elim o [ None ↦ S | Some b ↦ After S (atoms_under g.objects b.deletes) (atoms_under g.objects b.adds) ])) (sym there)
-      (subst (λ xs. Same T (After S xs (atoms_under g.objects a.adds))) ds (subst (λ xs. Same T (After S deletes xs)) as' h))
+      let gone = Deletes w.typing g.objects a.effect in
+      let come = Adds w.typing g.objects a.effect in
+      subst (λ o. Same T (elim o [ None ↦ S | Some b ↦ After S (Deletes w.typing g.objects b.effect) (Adds w.typing g.objects b.effect) ])) (sym there)
+      (same_through T (After S deletes adds) (After S gone come) h (after_changes S deletes adds gone come ds as'))
 
 -- one action more
 after_push : (w : World) (xs : List GroundAction) (a : GroundAction) (S : Atoms) → Same (AfterActions w S (xs ++ a ∷ [])) (AfterAction w (AfterActions w S xs) a)
@@ -118,17 +130,17 @@ push_at P (x ∷ xs) y h q zero d lt = h 0 d (omega arith)
 push_at P (x ∷ xs) y h q (suc j) d lt = push_at (λ n. P (suc n)) xs y (λ n e l. h (suc n) e (omega arith)) q j d (omega arith)
 
 -- what is true after deletes and adds
-module _ (old deletes adds : List GroundAtom) (g : GroundAtom) where
-  pub added_is : Contains adds g → After (Contains old) deletes adds g
+module _ (old deletes adds : Atoms) (g : GroundAtom) where
+  pub added_is : adds g → After old deletes adds g
   added_is m = inr m
 
-  pub deleted_is_not : Contains deletes g → (Contains adds g → ⊥) → After (Contains old) deletes adds g → ⊥
+  pub deleted_is_not : deletes g → (adds g → ⊥) → After old deletes adds g → ⊥
   deleted_is_not gone out (inl m) = m.1 gone
   deleted_is_not gone out (inr m) = out m
 
-  still : (Contains adds g → ⊥) → After (Contains old) deletes adds g → Contains old g
+  still : (adds g → ⊥) → After old deletes adds g → old g
   still out (inl m) = m.0
   still out (inr m) = absurd (out m)
 
-  pub other_stays : (Contains deletes g → ⊥) → (Contains adds g → ⊥) → After (Contains old) deletes adds g ↔ Contains old g
+  pub other_stays : (deletes g → ⊥) → (adds g → ⊥) → After old deletes adds g ↔ old g
   other_stays kept out = (still out, λ m. inl (m, kept))

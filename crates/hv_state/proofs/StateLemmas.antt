@@ -2,7 +2,8 @@
 use Rattle.std.proofs.Common.{◌≡◌, ◌<◌, ◌⊎◌, inl, inr, ℕ, List, [], ◌∷◌, length, map, Result, Ok, Err, OnErr, refl, sym, ap, ◌∙◌, subst, arith}
 use Rattle.std.specs.List.{Contains}
 use Rattle.std.proofs.lemmas.List.{get_or-map, length-map}
-use Rattle.hv_state.specs.Atoms.{GroundAtom, Same, After}
+use Rattle.hv_world.specs.Bindings.{GroundAtom}
+use Rattle.hv_state.specs.Atoms.{Atoms, Same, After}
 use Rattle.hv_state.specs.inside.Rows.{row_of, atom_of, Listed, IsWithoutAll, IsWithAll, HasSameRows}
 
 -- a row is of one atom
@@ -27,14 +28,14 @@ on_err (Err e) P p = p
 pub begun : (rows new : List (List ℕ)) (gs : List GroundAtom) → rows ≡ map row_of gs → HasSameRows rows new → Same (Listed new) (Contains gs)
 begun rows new gs is same g = (λ m. atom_listed gs g (subst (λ xs. Contains xs (row_of g)) is ((same (row_of g)).0 m)), λ m. (same (row_of g)).1 (subst (λ xs. Contains xs (row_of g)) (sym is) (row_listed gs g m)))
 
-pub applied : (old mid rows new : List (List ℕ)) (deletes adds : List GroundAtom) → IsWithoutAll old (map row_of deletes) mid → rows ≡ map row_of adds → IsWithAll mid rows new → Same (Listed new) (After (Listed old) deletes adds)
+pub applied : (old mid rows new : List (List ℕ)) (deletes adds : List GroundAtom) → IsWithoutAll old (map row_of deletes) mid → rows ≡ map row_of adds → IsWithAll mid rows new → Same (Listed new) (After (Listed old) (Contains deletes) (Contains adds))
 applied old mid rows new deletes adds without is all g = (λ m. from ((all (row_of g)).0 m), to)
   where
-    from : Contains mid (row_of g) ⊎ Contains rows (row_of g) → After (Listed old) deletes adds g
+    from : Contains mid (row_of g) ⊎ Contains rows (row_of g) → After (Listed old) (Contains deletes) (Contains adds) g
     from (inl m) = let kept = (without (row_of g)).0 m in inl (kept.0, λ gone. kept.1 (row_listed deletes g gone))
     from (inr m) = inr (atom_listed adds g (subst (λ xs. Contains xs (row_of g)) is m))
 
-    to : After (Listed old) deletes adds g → Listed new g
+    to : After (Listed old) (Contains deletes) (Contains adds) g → Listed new g
     to (inl (m, kept)) = (all (row_of g)).1 (inl ((without (row_of g)).1 (m, λ gone. kept (atom_listed deletes g gone))))
     to (inr m) = (all (row_of g)).1 (inr (subst (λ xs. Contains xs (row_of g)) (sym is) (row_listed adds g m)))
 
@@ -45,6 +46,3 @@ atoms_again (g ∷ gs) = ap (λ hs. g ∷ hs) (atoms_again gs)
 
 pub atoms_are : (rows : List (List ℕ)) (gs : List GroundAtom) → rows ≡ map row_of gs → map atom_of rows ≡ gs
 atoms_are rows gs e = ap (map atom_of) e ∙ atoms_again gs
-
-pub rows_are : (rows : List (List ℕ)) (gs : List GroundAtom) → rows ≡ map row_of gs → rows ≡ map row_of (map atom_of rows)
-rows_are rows gs e = e ∙ ap (map row_of) (sym (atoms_are rows gs e))

@@ -1,22 +1,13 @@
--- Atoms without variables, and the sets of them that states are.
+-- Sets of atoms without variables, which states are.
 use Rattle.std.specs.Prelude.{ℕ, ◌↔◌, ◌⊎◌, List, map}
-use Rattle.std.specs.List.{Contains}
 use Rattle.hv_world.specs.Values.{Atom}
 use Rattle.hv_world.specs.Views.{term_view}
-use Rattle.hv_world.specs.Bindings.{objects_in, object_of}
+use Rattle.hv_world.specs.Bindings.{GroundAtom, ground_atom, atom_under, objects_in, object_of}
 use Rattle.hv_state.specs.declared.atom.AtomView.{AtomView}
 use Rattle.hv_state.specs.declared.atom.Objects.{Objects}
 use Rattle.hv_state.specs.declared.atom.Objects.TheVariants.{OfTerms, Given}
 
--- a predicate's number, and the numbers of its objects
-pub record GroundAtom : Type 0 where
-  pub predicate : ℕ
-  pub objects : List ℕ
-
-abbrev pub ground_atom : ℕ → List ℕ → GroundAtom
-ground_atom p os = record { predicate = p; objects = os }
-
--- a set of such atoms, by which are in it
+-- a set of atoms without variables, by which are in it
 abbrev pub Atoms : Type 1
 Atoms = GroundAtom → Type 0
 
@@ -24,16 +15,13 @@ Atoms = GroundAtom → Type 0
 abbrev pub Same : Atoms → Atoms → Type 0
 Same S T = (g : GroundAtom) → S g ↔ T g
 
--- an atom, with the objects that its terms stand for
-abbrev pub atom_under : List ℕ → Atom → GroundAtom
-atom_under env a = ground_atom a.predicate (map (object_of env) a.terms)
-
+-- atoms, with the objects that their terms stand for
 abbrev pub atoms_under : List ℕ → List Atom → List GroundAtom
 atoms_under env xs = map (atom_under env) xs
 
--- what is true after deletes and then adds: an atom both deleted and added is true
-abbrev pub After : Atoms → List GroundAtom → List GroundAtom → Atoms
-After S deletes adds g = (S g × (Contains deletes g → ⊥)) ⊎ Contains adds g
+-- what is true after all deletes and then all adds: an atom both deleted and added is true
+abbrev pub After : Atoms → Atoms → Atoms → Atoms
+After S deletes adds g = (S g × (deletes g → ⊥)) ⊎ adds g
 
 -- the objects, and the atom, that the code reads
 abbrev pub objects_read : Objects → List ℕ

@@ -2,7 +2,8 @@
 use Rattle.std.specs.Prelude.{◌≡◌, ℕ, suc, ◌+◌, ◌<◌, ◌≤◌, ◌↔◌, ◌⊎◌, Bool, IsTrue, List, [], ◌∷◌, ◌++◌, length, Option, Some, None, nat_le, if◌then◌else◌}
 use Rattle.hv_world.specs.Values.{Formula, Formulas, holds, and, or, not, imply, forall, exists, equal, no_formulas, more_formulas}
 use Rattle.hv_world.specs.Types.{Typing}
-use Rattle.hv_state.specs.Atoms.{GroundAtom, Atoms, atom_under}
+use Rattle.hv_world.specs.Bindings.{GroundAtom, atom_under}
+use Rattle.hv_state.specs.Atoms.{Atoms}
 use Rattle.hv_state.specs.Truth.{ForSome, True}
 use Rattle.hv_state.specs.Plans.{Plan, StateAt}
 

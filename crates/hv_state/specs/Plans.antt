@@ -2,6 +2,7 @@
 use Rattle.std.specs.Prelude.{ℕ, ◌<◌, List, [], ◌∷◌, take, length, slice_get, IsSomeAnd, MatchOption, Some, None}
 use Rattle.std.specs.List.{Contains}
 use Rattle.hv_world.specs.Bindings.{GroundAction, objects_in, ground_actions_view}
+use Rattle.hv_world.specs.Effects.{Adds, Deletes}
 use Rattle.hv_world.specs.Views.{formula_view}
 use Rattle.hv_world.specs.WorldViews.{world_view}
 use Rattle.hv_world.specs.declared.binding.Binding.{Binding}
@@ -30,9 +31,9 @@ plan_of w actions = plan (world_view w) (ground_actions_view actions)
 abbrev pub IsApplicableIn : World → Atoms → GroundAction → Type 0
 IsApplicableIn w S g = IsSomeAnd (slice_get w.actions g.action) (λ a. True w.typing S a.precondition g.objects)
 
--- what is true after an action; one that the world does not have changes nothing
+-- what is true after an action, with its objects: all that its effect deletes, and then all that it adds; an action that the world does not have changes nothing
 abbrev pub AfterAction : World → Atoms → GroundAction → Atoms
-AfterAction w S g = elim (slice_get w.actions g.action) [ None ↦ S | Some a ↦ After S (atoms_under g.objects a.deletes) (atoms_under g.objects a.adds) ]
+AfterAction w S g = elim (slice_get w.actions g.action) [ None ↦ S | Some a ↦ After S (Deletes w.typing g.objects a.effect) (Adds w.typing g.objects a.effect) ]
 
 -- what is true after actions, one after another
 abbrev pub AfterActions : World → Atoms → List GroundAction → Atoms

@@ -7,8 +7,8 @@ use Rattle.hv_world.specs.WorldViews.{world_view}
 use Rattle.hv_world.specs.declared.binding.Binding.{Binding}
 use Rattle.hv_world.specs.declared.formula.Formula as code_formula
 use Rattle.hv_world.specs.declared.world.World as code_world
-use Rattle.hv_state.specs.Atoms.{Atoms, atom_under}
-use Rattle.hv_world.specs.Bindings.{objects_in, object_of}
+use Rattle.hv_world.specs.Bindings.{atom_under, objects_in, object_of}
+use Rattle.hv_state.specs.Atoms.{Atoms}
 
 -- it is so, or it is not
 abbrev pub IsDecided : Type 0 → Type 0

@@ -3,5 +3,5 @@ pub mod Rows
 pub mod Histories
 pub mod Notes
 pub mod Bits
-pub mod Codes
+pub mod Makings
 pub mod Parts

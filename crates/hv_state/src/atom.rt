@@ -2,8 +2,8 @@
 
 ghost use Rattle.std.specs.Prelude.{◌≡◌};
 ghost use Rattle.hv_world.specs.Views.{term_view, atom_view};
-ghost use Rattle.hv_world.specs.Bindings.{objects_in, object_of};
-ghost use Rattle.hv_state.specs.Atoms.{atom_under, atom_read};
+ghost use Rattle.hv_world.specs.Bindings.{atom_under, objects_in, object_of};
+ghost use Rattle.hv_state.specs.Atoms.{atom_read};
 
 use hv_world::{Atom, Binding, ObjectId, PredicateId, Term};
 

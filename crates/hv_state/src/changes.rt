@@ -2,7 +2,8 @@
 
 ghost use Rattle.std.specs.Prelude.{◌≡◌, ◌↔◌, ◌<◌, ℕ, Bool, false, List, [], ◌∷◌, length, map};
 ghost use Rattle.std.specs.Prelude.{IsTrue, IfOk, OnOk, OnErr};
-ghost use Rattle.hv_state.specs.Atoms.{GroundAtom, atom_read};
+ghost use Rattle.hv_world.specs.Bindings.{GroundAtom};
+ghost use Rattle.hv_state.specs.Atoms.{atom_read};
 ghost use Rattle.hv_state.specs.inside.Rows.{row_of, rows_in, Ascend, IsPlace};
 ghost use Rattle.hv_state.specs.inside.Histories.{Rise, kept, IsNext, IsNextIn, IsLeast};
 ghost use Rattle.hv_state.specs.inside.Histories.{AreFlagged, change_view, history_view, rows_of};
@@ -202,7 +203,7 @@ impl Changes {
         atom: &AtomView<'_>,
     ) -> Result<(), Memory>
         ensures { IfOk result (λ _. AreNoted (S.atoms first.now) (S.atoms state.now) from
-            (atom_read atom.now ∷ []) self.old self.new) }
+            (λ g. atom_read atom.now ≡ g) self.old self.new) }
     {
         if let Ok(place) = find_history(&self.list, atom) {
             let is_true = state.holds(atom);

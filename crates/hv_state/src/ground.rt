@@ -1,15 +1,20 @@
 //! Atoms without variables, as actions delete and add them.
 
 ghost use Rattle.std.specs.Prelude.{◌≡◌, ◌++◌, ◌∷◌, [], map, IfOk, OnOk, OnErr};
-ghost use Rattle.hv_world.specs.Views.{atom_view};
+ghost use Rattle.std.specs.List.{Contains};
+ghost use Rattle.hv_world.specs.Values.{effects_of};
+ghost use Rattle.hv_world.specs.Views.{effect_view};
+ghost use Rattle.hv_world.specs.WorldViews.{world_view};
 ghost use Rattle.hv_world.specs.Bindings.{objects_in};
-ghost use Rattle.hv_state.specs.Atoms.{atoms_under, atom_read};
+ghost use Rattle.hv_world.specs.Effects.{SomeMakes};
+ghost use Rattle.hv_state.specs.Atoms.{Same, atom_read};
 ghost use Rattle.hv_state.specs.inside.Rows.{row_of, rows_in};
 
 use crate::atom::AtomView;
-use crate::rows::{Row, row_of, rows_of};
+use crate::made::push_made;
+use crate::rows::{Row, row_of};
 use hv_text::Memory;
-use hv_world::{Atom, Binding};
+use hv_world::{Binding, Effect, World};
 use std::alloc::Global;
 use std::marker::Model;
 
@@ -21,7 +26,7 @@ pub struct GroundAtoms {
 
 impl Model for GroundAtoms {
     ghost use Rattle.std.specs.Prelude.{◌≡◌, List, map};
-    ghost use Rattle.hv_state.specs.Atoms.{GroundAtom};
+    ghost use Rattle.hv_world.specs.Bindings.{GroundAtom};
     ghost use Rattle.hv_state.specs.inside.Rows.{row_of, atom_of, rows_in};
 
     ghost Value = { List GroundAtom };
@@ -42,16 +47,25 @@ impl GroundAtoms {
         }
     }
 
-    /// Atoms with the objects of a binding.
+    /// The atoms that effects make true, or false, with the objects of a binding: also those that an
+    /// effect makes so for some objects of its variables. One may stand there more than once.
     ///
     /// # Errors
     ///
     /// `Memory` where a growth was refused.
-    pub fn of(alloc: Global, atoms: &[Atom], binding: &Binding<'_>) -> Result<GroundAtoms, Memory>
-        ensures { IfOk result
-            (λ a. a ≡ atoms_under (objects_in binding.now) (map atom_view atoms.now)) }
+    pub fn made(
+        alloc: Global,
+        world: &World<'_>,
+        effects: &[Effect],
+        is_true: bool,
+        binding: &Binding<'_>,
+    ) -> Result<GroundAtoms, Memory>
+        ensures { IfOk result (λ a. Same (Contains a)
+            (SomeMakes (world_view world.now).typing is_true (objects_in binding.now)
+            (effects_of (map effect_view effects.now)))) }
     {
-        let rows = rows_of(alloc, atoms, binding)?;
+        let mut rows = Vec::new(alloc);
+        push_made(world, &mut rows, effects, is_true, binding)?;
         Ok(GroundAtoms { rows })
     }
 

@@ -12,6 +12,7 @@ mod ground;
 mod lanes;
 mod laws;
 mod lit;
+mod made;
 mod next;
 mod pass;
 mod rows;

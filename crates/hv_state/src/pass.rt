@@ -1,6 +1,7 @@
 //! One action of a plan, and what it changes.
 
 ghost use Rattle.std.specs.Prelude.{◌≡◌, map, Bool, true, false, IfOk};
+ghost use Rattle.std.specs.List.{Contains};
 ghost use Rattle.hv_world.specs.Bindings.{ground_action_view};
 ghost use Rattle.hv_world.specs.WorldViews.{world_view};
 ghost use Rattle.hv_state.specs.Plans.{IsApplicableIn};
@@ -25,7 +26,7 @@ fn note_all<S: State>(
     rows: &[Row],
 ) -> Result<(), Memory>
     ensures { IfOk result (λ _. AreNoted (S.atoms first.now) (S.atoms state.now) from
-        (map atom_of (rows_in rows.now)) changes.old changes.new) }
+        (Contains (map atom_of (rows_in rows.now))) changes.old changes.new) }
 {
     for row in rows {
         changes.note(first, state, from, &row.atom())?;
@@ -57,8 +58,8 @@ pub(crate) fn pass<S: State>(
     if !truth(world, &*state, action.precondition(), &objects) {
         return Ok(false);
     }
-    let deletes = GroundAtoms::of(alloc, action.deletes(), &objects)?;
-    let adds = GroundAtoms::of(alloc, action.adds(), &objects)?;
+    let deletes = GroundAtoms::made(alloc, world, action.effect(), false, &objects)?;
+    let adds = GroundAtoms::made(alloc, world, action.effect(), true, &objects)?;
     state.apply(&deletes, &adds)?;
     note_all(changes, first, &*state, from, deletes.rows())?;
     note_all(changes, first, &*state, from, adds.rows())?;

@@ -158,8 +158,8 @@ pub(crate) fn row_of(alloc: Global, atom: &AtomView<'_>) -> Result<Row, Memory>
     Ok(Row { numbers })
 }
 
-/// Puts the rows of atoms behind others.
-pub(crate) fn push_rows(
+// Puts the rows of atoms behind others.
+fn push_rows(
     alloc: Global,
     rows: &mut Vec<Row>,
     atoms: &[Atom],

@@ -1,8 +1,10 @@
 //! States: sets of atoms without variables.
 
 ghost use Rattle.std.specs.Prelude.{◌↔◌, IsTrue, IfOk, OnOk, OnErr};
+ghost use Rattle.std.specs.List.{Contains};
+ghost use Rattle.hv_world.specs.Bindings.{GroundAtom};
 ghost use Rattle.hv_world.specs.WorldViews.{world_view};
-ghost use Rattle.hv_state.specs.Atoms.{GroundAtom, Same, After, atom_read};
+ghost use Rattle.hv_state.specs.Atoms.{Same, After, atom_read};
 ghost use Rattle.hv_state.specs.Plans.{Start};
 
 use crate::atom::AtomView;
@@ -56,7 +58,7 @@ pub trait State: Sized + Drop {
     ///
     /// `Memory` where a growth was refused; the same atoms are true then as before.
     fn apply(&mut self, deletes: &GroundAtoms, adds: &GroundAtoms) -> Result<(), Memory>
-        ensures ok { OnOk result
-            (Same (atoms self.new) (After (atoms self.old) deletes.now adds.now)) }
+        ensures ok { OnOk result (Same (atoms self.new)
+            (After (atoms self.old) (Contains deletes.now) (Contains adds.now))) }
         ensures err { OnErr result (Same (atoms self.new) (atoms self.old)) };
 }

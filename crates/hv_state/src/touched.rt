@@ -1,29 +1,32 @@
 //! The atoms that the actions of a plan touch.
 
 ghost use Rattle.std.specs.Prelude.{IfOk};
-ghost use Rattle.hv_state.specs.inside.Rows.{rows_in, HaveCome, Ascend, HasSameRows};
-ghost use Rattle.hv_state.specs.inside.Notes.{rows_touched_by, rows_touched_in};
+ghost use Rattle.hv_world.specs.Bindings.{ground_action_view, ground_actions_view};
+ghost use Rattle.hv_world.specs.WorldViews.{world_view};
+ghost use Rattle.hv_state.specs.inside.Rows.{rows_in, HaveJoined, AreRowsOf, Ascend, HasSameRows};
+ghost use Rattle.hv_state.specs.inside.Notes.{TouchedBy, TouchedIn};
 
-use crate::rows::{Row, push_rows};
+use crate::made::push_made;
+use crate::rows::Row;
 use hv_text::Memory;
 use hv_world::{Binding, GroundAction, GroundActions, World};
 use std::alloc::Global;
 
 // Puts the rows of what an action deletes and adds behind others.
 fn push_touched(
-    alloc: Global,
     rows: &mut Vec<Row>,
     world: &World<'_>,
     step: &GroundAction<'_>,
 ) -> Result<(), Memory>
-    ensures { IfOk result
-        (λ _. HaveCome rows.old.items (rows_touched_by world.now step.now) rows.new.items) }
+    ensures { IfOk result (λ _. HaveJoined rows.old.items
+        (TouchedBy (world_view world.now) (ground_action_view step.now)) rows.new.items) }
 {
-    if let Some(action) = world.action(step.action()) {
-        let objects = Binding::Given(step.objects());
-        push_rows(alloc, rows, action.deletes(), &objects)?;
-        push_rows(alloc, rows, action.adds(), &objects)?;
-    }
+    let Some(action) = world.action(step.action()) else {
+        return Ok(());
+    };
+    let objects = Binding::Given(step.objects());
+    push_made(world, rows, action.effect(), false, &objects)?;
+    push_made(world, rows, action.effect(), true, &objects)?;
     Ok(())
 }
 
@@ -48,13 +51,13 @@ pub(crate) fn touched(
     actions: &GroundActions,
 ) -> Result<Vec<Row>, Memory>
     ensures ascend { IfOk result (λ rows. Ascend (rows_in rows.items)) }
-    ensures exact { IfOk result
-        (λ rows. HasSameRows (rows_touched_in world.now actions.now) (rows_in rows.items)) }
+    ensures exact { IfOk result (λ rows. AreRowsOf
+        (TouchedIn (world_view world.now) (ground_actions_view actions.now)) rows.items) }
 {
     let mut rows = Vec::new(alloc);
     let mut distinct = 0;
     for number in 0..actions.len() {
-        push_touched(alloc, &mut rows, world, &actions.at(number))?;
+        push_touched(&mut rows, world, &actions.at(number))?;
         if rows.len() / 2 > distinct {
             merge_distinct(&mut rows)?;
             distinct = rows.len();

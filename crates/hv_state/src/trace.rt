@@ -48,13 +48,13 @@ pub struct Trace<'a, 's, S: State> {
 
 impl<'a, 's, S: State> Model for Trace<'a, 's, S> {
     ghost use Rattle.std.specs.Coded.{codes};
-    ghost use Rattle.hv_state.specs.inside.Codes.{formula_code};
+    ghost use Rattle.hv_world.specs.Codes.{formula_code, effects_code};
     ghost use Rattle.hv_state.specs.Plans.{Plan, plan_of};
     ghost use Rattle.hv_state.specs.inside.Notes.{IsRecorded};
 
     ghost Value = { Plan };
 
-    ghost coded = { Prim.hlevel (codes, formula_code) };
+    ghost coded = { Prim.hlevel (codes, formula_code, effects_code) };
 
     ghost view = { λ t. plan_of t.world.now t.actions.now };
 

@@ -1,5 +1,5 @@
 -- The canonical expressions of words, terms, atoms and lists are read as what they are of, places aside.
-use Rattle.std.proofs.Common.{◌≡◌, ◌==◌, ℕ, Bool, true, false, List, [], ◌∷◌, ◌++◌, map, Option, Some, None, option_map, refl, codes, arith, if◌then◌else◌}
+use Rattle.std.proofs.Common.{◌≡◌, ◌==◌, ℕ, Bool, true, false, List, [], ◌∷◌, ◌++◌, map, Option, Some, None, option_map, refl, ap, codes, arith, if◌then◌else◌}
 use Rattle.std.proofs.lemmas.Grind.{common_steps}
 use Rattle.std.specs.Prelude.{IfSome}
 use Rattle.hv_text.specs.Trees.{Tree, word, list, Trees, none, more}
@@ -8,17 +8,17 @@ use Rattle.hv_syntax.specs.declared.word.Sort.{Sort}
 use Rattle.hv_syntax.specs.declared.word.Sort.TheVariants as sorts
 use Rattle.hv_syntax.specs.declared.word.Head.{Head}
 use Rattle.hv_syntax.specs.declared.word.Head.TheVariants as heads
-use Rattle.hv_syntax.specs.Values.{WordAt, word_at, Term, atom_with, TypeOf, no_type, of_type, type_name, Typed}
+use Rattle.hv_syntax.specs.Values.{WordAt, word_at, Term, atom_with, no_type, of_type, TypedBy, Typed, Variable}
 use Rattle.hv_syntax.specs.Words.{is, sort_of, is_sort, same_sort, head_of}
 use Rattle.hv_syntax.specs.inside.Words.{symbol_by, symbol_of, sorted_word_of}
-use Rattle.hv_syntax.specs.inside.Reading.{both, every, behind}
+use Rattle.hv_syntax.specs.inside.Reading.{both, every}
 use Rattle.hv_syntax.specs.inside.Terms.{term_by, term_of, atom_of}
 use Rattle.hv_syntax.specs.TypedLists.{with_type}
-use Rattle.hv_syntax.specs.inside.TypedLists.{is_empty, typed_by, typed_list_of}
+use Rattle.hv_syntax.specs.inside.TypedLists.{is_empty, with_rest, typed_by, type_name_of, typed_list_of, some_names, type_of, typed_variables_of}
 use Rattle.hv_syntax.specs.Lists.{conjuncts}
 use Rattle.hv_syntax.specs.inside.Lists.{single, listed_by, listed}
-use Rattle.hv_syntax.specs.Canonical.{each, conjunction, word_expression, term_expression, atom_expression, typed_members}
-use Rattle.hv_syntax.specs.Bare.{bare_word, bare_term, bare_atom, bare_typed}
+use Rattle.hv_syntax.specs.Canonical.{each, conjunction, word_expression, term_expression, atom_expression, type_name_expression, type_expression, members_by, typed_members, variable_members}
+use Rattle.hv_syntax.specs.Bare.{bare_word, bare_term, bare_atom, bare_by, bare_type_name, bare_typed, bare_type, bare_variable}
 
 -- what holds of the parts holds of the whole
 pub if_map : {A B : Type 0} (f : A → B) (P : A → Type 0) (Q : B → Type 0) → ((a : A) → P a → Q (f a)) → (o : Option A) → IfSome o P → IfSome (option_map f o) Q
@@ -112,53 +112,6 @@ atom_again (list (more t ts) s) =
     if_both atom_with (IsReadAgain symbol_of word_expression bare_word) (AreReadAgain term_of term_expression bare_term) (IsReadAgain atom_of atom_expression bare_atom) atom_from
     (symbol_of t) (every term_of ts) (symbol_again t) (terms_again ts)
 
--- typed lists: the names are of their sort, and the types are names
-abbrev pub AreTyped : Sort → List Typed → Type 0
-AreTyped sort [] = Unit {0}
-AreTyped sort (v ∷ vs) = (is_sort sort v.name.text ≡ true) × (is_sort sorts.Name (type_name v.of) ≡ true) × AreTyped sort vs
-
-abbrev Wait : Sort → List WordAt → Type 0
-Wait sort [] = Unit {0}
-Wait sort (w ∷ ws) = (is_sort sort w.text ≡ true) × Wait sort ws
-
-module _ (sort : Sort) where
-  wait_more : (ws : List WordAt) (w : WordAt) → Wait sort ws → is_sort sort w.text ≡ true → Wait sort (ws ++ w ∷ [])
-  wait_more [] w h e = (e, tt)
-  wait_more (v ∷ ws) w h e = (h.0, wait_more ws w h.1 e)
-
-  with_type_good : (t : TypeOf) (ws : List WordAt) → is_sort sorts.Name (type_name t) ≡ true → Wait sort ws → AreTyped sort (with_type t ws)
-  with_type_good t [] e h = tt
-  with_type_good t (w ∷ ws) e h = (h.0, e, with_type_good t ws e h.1)
-
-  typed_append : (xs ys : List Typed) → AreTyped sort xs → AreTyped sort ys → AreTyped sort (xs ++ ys)
-  typed_append [] ys h k = k
-  typed_append (x ∷ xs) ys h k = (h.0, h.1, typed_append xs ys h.2 k)
-
-  at_type : (w : List ℕ) (s : Span) (ws : List WordAt) (b : Bool) → is_sort sorts.Name w ≡ b → Wait sort ws → (r : Option (List Typed)) → IfSome r (AreTyped sort)
-      → IfSome (if b then behind (with_type (of_type (word_at w s)) ws) r else None) (AreTyped sort)
-  at_type w s ws false e h r k = tt
-  at_type w s ws true e h None k = tt
-  at_type w s ws true e h (Some xs) k = typed_append (with_type (of_type (word_at w s)) ws) xs (with_type_good (of_type (word_at w s)) ws e h) k
-
-  at_name : (d m b : Bool) (r q : Option (List Typed)) → IfSome r (AreTyped sort) → (b ≡ true → IfSome q (AreTyped sort))
-      → IfSome (if d then (if m then None else r) else if b then q else None) (AreTyped sort)
-  at_name true true b r q k l = tt
-  at_name true false b r q k l = k
-  at_name false m true r q k l = l refl
-  at_name false m false r q k l = tt
-
-  typed_good : (ts : Trees) (b : Bool) (ws : List WordAt) → Wait sort ws → IfSome (typed_by sort b ws ts) (AreTyped sort)
-  typed_good none false ws h = with_type_good no_type ws refl h
-  typed_good none true ws h = tt
-  typed_good (more (list us p) ts) b ws h = tt
-  typed_good (more (word w s) ts) true ws h = at_type w s ws (is_sort sorts.Name w) refl h (typed_by sort false [] ts) (typed_good ts false [] tt)
-  typed_good (more (word w s) ts) false ws h =
-      at_name (is w (codes "-")) (is_empty ws) (is_sort sort w) (typed_by sort true ws ts) (typed_by sort false (ws ++ word_at w s ∷ []) ts) (typed_good ts true ws h)
-      (λ e. typed_good ts false (ws ++ word_at w s ∷ []) (wait_more ws (word_at w s) h e))
-
-  pub typed_list_good : (ts : Trees) → IfSome (typed_list_of sort ts) (AreTyped sort)
-  typed_list_good ts = typed_good ts false [] tt
-
 not_the_dash : (sort : Sort) (d : Bool) (b : ℕ) → same_sort (sort_of (b ∷ [])) sort ≡ true → (b == 45) ≡ d → is (b ∷ []) (codes "-") ≡ false
 not_the_dash sort true b h e = grind (arith, common_steps, h, e)
 not_the_dash sort false b h e = grind (arith, common_steps, e)
@@ -169,13 +122,100 @@ not_dash sort [] h = refl
 not_dash sort (b ∷ []) h = not_the_dash sort (b == 45) b h refl
 not_dash sort (b ∷ c ∷ bs) h = grind (arith, common_steps)
 
--- the expression of a typed list is read as it, places aside
-abbrev pub AreTypedAgain : Sort → List Typed → Type 0
-AreTypedAgain sort vs = typed_list_of sort (typed_members vs) ≡ Some (map bare_typed vs)
+-- typed lists
+abbrev Wait : Sort → List WordAt → Type 0
+Wait sort [] = Unit {0}
+Wait sort (w ∷ ws) = (is_sort sort w.text ≡ true) × Wait sort ws
 
-typed_members_again : (sort : Sort) (vs : List Typed) → AreTyped sort vs → AreTypedAgain sort vs
-typed_members_again sort [] h = refl
-typed_members_again sort (v ∷ vs) h = rw (not_dash sort v.name.text h.0, h.0, h.1, typed_members_again sort vs h.2) refl
+wait_more : (sort : Sort) (ws : List WordAt) (w : WordAt) → Wait sort ws → is_sort sort w.text ≡ true → Wait sort (ws ++ w ∷ [])
+wait_more sort [] w h e = (e, tt)
+wait_more sort (v ∷ ws) w h e = (h.0, wait_more sort ws w h.1 e)
 
-pub typed_list_again : (sort : Sort) (ts : Trees) → IfSome (typed_list_of sort ts) (AreTypedAgain sort)
-typed_list_again sort ts = if_some (AreTyped sort) (AreTypedAgain sort) (typed_members_again sort) (typed_list_of sort ts) (typed_list_good sort ts)
+module _ {T : Type 0} (read : Tree → Option T) (write : T → Tree) (bare : T → T) (not_written : T) (sort : Sort) where
+  -- the words are of their sort, and the types are read again
+  abbrev AreTyped : List (TypedBy T) → Type 0
+  AreTyped [] = Unit {0}
+  AreTyped (v ∷ vs) = (is_sort sort v.name.text ≡ true) × IsReadAgain read write bare v.of × AreTyped vs
+
+  with_type_good : (t : T) (ws : List WordAt) → IsReadAgain read write bare t → Wait sort ws → AreTyped (with_type t ws)
+  with_type_good t [] e h = tt
+  with_type_good t (w ∷ ws) e h = (h.0, e, with_type_good t ws e h.1)
+
+  typed_append : (xs ys : List (TypedBy T)) → AreTyped xs → AreTyped ys → AreTyped (xs ++ ys)
+  typed_append [] ys h k = k
+  typed_append (x ∷ xs) ys h k = (h.0, h.1, typed_append xs ys h.2 k)
+
+  at_name : (d m b : Bool) (r q : Option (List (TypedBy T))) → IfSome r AreTyped → (b ≡ true → IfSome q AreTyped)
+      → IfSome (if d then (if m then None else r) else if b then q else None) AreTyped
+  at_name true true b r q k l = tt
+  at_name true false b r q k l = k
+  at_name false m true r q k l = l refl
+  at_name false m false r q k l = tt
+
+  module _ (type_again : (t : Tree) → IfSome (read t) (IsReadAgain read write bare)) (not_written_again : IsReadAgain read write bare not_written) where
+    typed_good : (ts : Trees) (b : Bool) (ws : List WordAt) → Wait sort ws → IfSome (typed_by read not_written sort b ws ts) AreTyped
+    typed_good none false ws h = with_type_good not_written ws not_written_again h
+    typed_good none true ws h = tt
+    typed_good (more t ts) true ws h =
+        if_both (with_rest ws) (IsReadAgain read write bare) AreTyped AreTyped (λ n xs k l. typed_append (with_type n ws) xs (with_type_good n ws k h) l)
+        (read t) (typed_by read not_written sort false [] ts) (type_again t) (typed_good ts false [] tt)
+    typed_good (more (list us p) ts) false ws h = tt
+    typed_good (more (word w s) ts) false ws h =
+        at_name (is w (codes "-")) (is_empty ws) (is_sort sort w) (typed_by read not_written sort true ws ts) (typed_by read not_written sort false (ws ++ word_at w s ∷ []) ts) (typed_good ts true ws h)
+        (λ e. typed_good ts false (ws ++ word_at w s ∷ []) (wait_more sort ws (word_at w s) h e))
+
+    members_again : (vs : List (TypedBy T)) → AreTyped vs → typed_by read not_written sort false [] (members_by write vs) ≡ Some (map (bare_by bare) vs)
+    members_again [] h = refl
+    members_again (v ∷ vs) h = rw (not_dash sort v.name.text h.0, h.0, h.1, members_again vs h.2) refl
+
+    pub list_again : (ts : Trees) → IfSome (typed_by read not_written sort false [] ts) (λ vs. typed_by read not_written sort false [] (members_by write vs) ≡ Some (map (bare_by bare) vs))
+    list_again ts =
+        if_some AreTyped (λ vs. typed_by read not_written sort false [] (members_by write vs) ≡ Some (map (bare_by bare) vs)) members_again
+        (typed_by read not_written sort false [] ts) (typed_good ts false [] tt)
+
+-- the expression of a typed list of names is read as it, places aside
+abbrev pub AreTypedAgain : List Typed → Type 0
+AreTypedAgain vs = typed_list_of (typed_members vs) ≡ Some (map bare_typed vs)
+
+type_name_again : (t : Tree) → IfSome (type_name_of t) (IsReadAgain type_name_of type_name_expression bare_type_name)
+type_name_again t =
+    if_map of_type (IsReadAgain (sorted_word_of sorts.Name) word_expression bare_word) (IsReadAgain type_name_of type_name_expression bare_type_name) (λ n h. ap (option_map of_type) h)
+    (sorted_word_of sorts.Name t) (sorted_again sorts.Name t)
+
+pub typed_list_again : (ts : Trees) → IfSome (typed_list_of ts) AreTypedAgain
+typed_list_again = list_again type_name_of type_name_expression bare_type_name no_type sorts.Name type_name_again refl
+
+-- the expression of a typed list of variables is read as it, places aside
+abbrev pub AreVariablesAgain : List Variable → Type 0
+AreVariablesAgain vs = typed_variables_of (variable_members vs) ≡ Some (map bare_variable vs)
+
+abbrev IsTypeAgain : List WordAt → Type 0
+IsTypeAgain ns = IsReadAgain type_of type_expression bare_type ns
+
+abbrev AreNamesAgain : List WordAt → Type 0
+AreNamesAgain ns = AreReadAgain (sorted_word_of sorts.Name) word_expression bare_word ns
+
+alone : (o : Option WordAt) (ns : List WordAt) → both ◌∷◌ o (Some []) ≡ Some ns → option_map single o ≡ Some ns
+alone None ns h = h
+alone (Some n) ns h = h
+
+names_from : (ns : List WordAt) → AreNamesAgain ns → IsTypeAgain ns
+names_from [] h = refl
+names_from (n ∷ []) h = alone (sorted_word_of sorts.Name (word_expression n)) (bare_word n ∷ []) h
+names_from (n ∷ m ∷ ns) h = h
+
+either_again : (b : Bool) (ts : Trees) → IfSome (if b then some_names ts else None) IsTypeAgain
+either_again true none = tt
+either_again true (more t ts) =
+    if_some AreNamesAgain IsTypeAgain names_from (every (sorted_word_of sorts.Name) (more t ts)) (every_again (sorted_word_of sorts.Name) word_expression bare_word (sorted_again sorts.Name) (more t ts))
+either_again false ts = tt
+
+type_again : (t : Tree) → IfSome (type_of t) IsTypeAgain
+type_again (word w s) =
+    if_map single (IsReadAgain (sorted_word_of sorts.Name) word_expression bare_word) IsTypeAgain (λ n h. ap (option_map single) h) (sorted_word_of sorts.Name (word w s)) (sorted_again sorts.Name (word w s))
+type_again (list none s) = tt
+type_again (list (more (word w p) ts) s) = either_again (is w (codes "either")) ts
+type_again (list (more (list us p) ts) s) = tt
+
+pub typed_variables_again : (ts : Trees) → IfSome (typed_variables_of ts) AreVariablesAgain
+typed_variables_again = list_again type_of type_expression bare_type [] sorts.Variable type_again refl

@@ -29,7 +29,7 @@ abbrev AreKeywordsAgain : List WordAt → Type 0
 AreKeywordsAgain ws = AreReadAgain keyword_of word_expression bare_word ws
 
 abbrev AreNamesAgain : List Typed → Type 0
-AreNamesAgain vs = AreTypedAgain sorts.Name vs
+AreNamesAgain vs = AreTypedAgain vs
 
 abbrev ArePredicatesAgain : List Predicate → Type 0
 ArePredicatesAgain ps = AreReadAgain predicate_of predicate_expression bare_predicate ps
@@ -46,8 +46,8 @@ IsSectionAgain (has_action a) = IsActionAgain a
 section_again : (w : List ℕ) (s : Span) (ts : Trees) → IfSome (domain_section_by w s ts) IsSectionAgain
 section_again w s ts =
     let requirements : Option DomainSection = option_map has_requirements (every keyword_of ts) in
-    let types : Option DomainSection = option_map has_types (typed_list_of sorts.Name ts) in
-    let constants : Option DomainSection = option_map has_constants (typed_list_of sorts.Name ts) in
+    let types : Option DomainSection = option_map has_types (typed_list_of ts) in
+    let constants : Option DomainSection = option_map has_constants (typed_list_of ts) in
     let predicates : Option DomainSection = option_map has_predicates (every predicate_of ts) in
     let tasks : Option DomainSection = option_map has_task (task_of s ts) in
     let methods : Option DomainSection = option_map has_method (method_of s ts) in
@@ -59,8 +59,8 @@ section_again w s ts =
     let r2 : Option DomainSection = if is w (codes ":constants") then constants else r3 in
     let r1 : Option DomainSection = if is w (codes ":types") then types else r2 in
     if_else IsSectionAgain (is w (codes ":requirements")) requirements r1 (if_map has_requirements AreKeywordsAgain IsSectionAgain (λ x h. h) (every keyword_of ts) (every_again keyword_of word_expression bare_word (sorted_again sorts.Keyword) ts))
-    (if_else IsSectionAgain (is w (codes ":types")) types r2 (if_map has_types AreNamesAgain IsSectionAgain (λ x h. h) (typed_list_of sorts.Name ts) (typed_list_again sorts.Name ts))
-    (if_else IsSectionAgain (is w (codes ":constants")) constants r3 (if_map has_constants AreNamesAgain IsSectionAgain (λ x h. h) (typed_list_of sorts.Name ts) (typed_list_again sorts.Name ts))
+    (if_else IsSectionAgain (is w (codes ":types")) types r2 (if_map has_types AreNamesAgain IsSectionAgain (λ x h. h) (typed_list_of ts) (typed_list_again ts))
+    (if_else IsSectionAgain (is w (codes ":constants")) constants r3 (if_map has_constants AreNamesAgain IsSectionAgain (λ x h. h) (typed_list_of ts) (typed_list_again ts))
     (if_else IsSectionAgain (is w (codes ":predicates")) predicates r4 (if_map has_predicates ArePredicatesAgain IsSectionAgain (λ x h. h) (every predicate_of ts) (every_again predicate_of predicate_expression bare_predicate predicate_again ts))
     (if_else IsSectionAgain (is w (codes ":task")) tasks r5 (if_map has_task IsTaskAgain IsSectionAgain (λ x h. h) (task_of s ts) (task_again s ts))
     (if_else IsSectionAgain (is w (codes ":method")) methods r6 (if_map has_method IsMethodAgain IsSectionAgain (λ x h. h) (method_of s ts) (method_again s ts))
@@ -100,7 +100,7 @@ module _ (n : WordAt) where
   types_read rs b (v ∷ vs) e h =
       let ts : Trees = typed_members (v ∷ vs) in
       reads_one domain_section add_section (made n rs [] [] [] [] [] []) b (form (codes ":types") ts) (has_types (map bare_typed (v ∷ vs)))
-      (once_read (occurs (codes ":types") b) (has_unsupported (codes ":types") ts) (option_map has_types (typed_list_of sorts.Name ts)) (has_types (map bare_typed (v ∷ vs))) e (ap (option_map has_types) h))
+      (once_read (occurs (codes ":types") b) (has_unsupported (codes ":types") ts) (option_map has_types (typed_list_of ts)) (has_types (map bare_typed (v ∷ vs))) e (ap (option_map has_types) h))
 
   constants_read : (rs : List WordAt) (ys : List Typed) (b : List Tree) (vs : List Typed) → occurs (codes ":constants") b ≡ false → AreNamesAgain vs
       → Read (made n rs ys [] [] [] [] []) b (unless_empty (codes ":constants") (typed_members vs)) (made n rs ys (map bare_typed vs) [] [] [] [])
@@ -108,7 +108,7 @@ module _ (n : WordAt) where
   constants_read rs ys b (v ∷ vs) e h =
       let ts : Trees = typed_members (v ∷ vs) in
       reads_one domain_section add_section (made n rs ys [] [] [] [] []) b (form (codes ":constants") ts) (has_constants (map bare_typed (v ∷ vs)))
-      (once_read (occurs (codes ":constants") b) (has_unsupported (codes ":constants") ts) (option_map has_constants (typed_list_of sorts.Name ts)) (has_constants (map bare_typed (v ∷ vs))) e (ap (option_map has_constants) h))
+      (once_read (occurs (codes ":constants") b) (has_unsupported (codes ":constants") ts) (option_map has_constants (typed_list_of ts)) (has_constants (map bare_typed (v ∷ vs))) e (ap (option_map has_constants) h))
 
   predicates_read : (rs : List WordAt) (ys zs : List Typed) (b : List Tree) (ps : List Predicate) → occurs (codes ":predicates") b ≡ false → ArePredicatesAgain ps
       → Read (made n rs ys zs [] [] [] []) b (unless_empty (codes ":predicates") (each predicate_expression ps)) (made n rs ys zs (map bare_predicate ps) [] [] [])

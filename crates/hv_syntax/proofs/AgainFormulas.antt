@@ -1,24 +1,23 @@
--- The canonical expressions of formulas, literals and effects are read as what they are of, places aside.
+-- The canonical expressions of formulas and literals are read as what they are of, places aside.
 use Rattle.std.proofs.Common.{◌≡◌, ℕ, Bool, true, false, List, [], ◌∷◌, length, map, nat_le, Option, Some, None, option_map, refl, sym, ap, ◌∙◌, if◌then◌else◌}
 use Rattle.std.proofs.lemmas.List.{length-map}
 use Rattle.std.specs.Prelude.{IfSome, option_and_then}
 use Rattle.hv_text.specs.Trees.{Tree, word, list, Trees, none, more}
 use Rattle.hv_text.specs.declared.span.Span.{Span}
-use Rattle.hv_syntax.specs.declared.word.Sort.TheVariants as sorts
 use Rattle.hv_syntax.specs.declared.word.Head.{Head}
 use Rattle.hv_syntax.specs.declared.word.Head.TheVariants as heads
-use Rattle.hv_syntax.specs.Values.{word_at, Term, constant, variable, Atom, atom_with, Typed, Formula, formulas_of, holds, and, or, not, imply, forall, exists, equal, Literal, literal, Effect, effect}
+use Rattle.hv_syntax.specs.Values.{word_at, Term, constant, variable, Atom, atom_with, Variable, Formula, formulas_of, holds, and, or, not, imply, forall, exists, equal, Literal, literal}
 use Rattle.hv_syntax.specs.Words.{head_of}
 use Rattle.hv_syntax.specs.inside.Reading.{every, all_some, tuple}
 use Rattle.hv_syntax.specs.inside.Terms.{term_of, atom_of}
-use Rattle.hv_syntax.specs.inside.TypedLists.{typed_list_of}
-use Rattle.hv_syntax.specs.inside.Lists.{negated, listed}
+use Rattle.hv_syntax.specs.inside.TypedLists.{typed_variables_of}
+use Rattle.hv_syntax.specs.inside.Lists.{negated}
 use Rattle.hv_syntax.specs.inside.Formulas.{few, variables_of, and_all, or_all, negation, implication, quantified, equality, formula_by, formula_of, formula_among, each_formula}
 use Rattle.hv_syntax.specs.Literals.{is_constant, are_constants}
-use Rattle.hv_syntax.specs.inside.Literals.{literal_by, literal_of, effect_of, if_ground, ground_literal_of}
-use Rattle.hv_syntax.specs.Canonical.{the_list, each, conjunction, term_expression, atom_expression, typed_members, formula_expression, formula_expressions, literal_expression, effect_expression}
-use Rattle.hv_syntax.specs.Bare.{bare_term, bare_atom, bare_typed, bare_formula, bare_formulas, bare_literal, bare_effect}
-use Rattle.hv_syntax.proofs.Again.{if_map, if_both, IsReadAgain, AreReadAgain, term_again, terms_again, atom_again, listed_again, AreTypedAgain, typed_list_again}
+use Rattle.hv_syntax.specs.inside.Literals.{literal_by, literal_of, if_ground, ground_literal_of}
+use Rattle.hv_syntax.specs.Canonical.{the_list, term_expression, atom_expression, variable_members, formula_expression, formula_expressions, literal_expression}
+use Rattle.hv_syntax.specs.Bare.{bare_term, bare_atom, bare_variable, bare_formula, bare_formulas, bare_literal}
+use Rattle.hv_syntax.proofs.Again.{if_map, if_both, IsReadAgain, AreReadAgain, term_again, terms_again, atom_again, AreVariablesAgain, typed_variables_again}
 
 abbrev pub IsFormulaAgain : Formula → Type 0
 IsFormulaAgain f = formula_of (formula_expression f) ≡ Some (bare_formula f)
@@ -58,23 +57,23 @@ equal_from : (x y : Term) → IsReadAgain term_of term_expression bare_term x �
 equal_from x y h k = rw (h, k) refl
 
 -- the list of a quantifier
-abbrev IsListAgain : List Typed → Type 0
-IsListAgain vs = variables_of (the_list (typed_members vs)) ≡ Some (map bare_typed vs)
+abbrev pub IsListAgain : List Variable → Type 0
+IsListAgain vs = variables_of (the_list (variable_members vs)) ≡ Some (map bare_variable vs)
 
-few_from : (vs : List Typed) (b : Bool) → nat_le (length vs) 16 ≡ b → AreTypedAgain sorts.Variable vs → IfSome (if b then Some vs else None) IsListAgain
+few_from : (vs : List Variable) (b : Bool) → nat_le (length vs) 16 ≡ b → AreVariablesAgain vs → IfSome (if b then Some vs else None) IsListAgain
 few_from vs true e h =
-    ap (option_and_then few) h ∙ ap (λ n. if nat_le n 16 then Some (map bare_typed vs) else None) (length-map vs bare_typed) ∙ ap (λ b. if b then Some (map bare_typed vs) else None) e
+    ap (option_and_then few) h ∙ ap (λ n. if nat_le n 16 then Some (map bare_variable vs) else None) (length-map vs bare_variable) ∙ ap (λ b. if b then Some (map bare_variable vs) else None) e
 few_from vs false e h = tt
 
-few_again : (o : Option (List Typed)) → IfSome o (AreTypedAgain sorts.Variable) → IfSome (option_and_then few o) IsListAgain
+few_again : (o : Option (List Variable)) → IfSome o AreVariablesAgain → IfSome (option_and_then few o) IsListAgain
 few_again None h = tt
 few_again (Some vs) h = few_from vs (nat_le (length vs) 16) refl h
 
-variables_again : (t : Tree) → IfSome (variables_of t) IsListAgain
+pub variables_again : (t : Tree) → IfSome (variables_of t) IsListAgain
 variables_again (word w s) = tt
-variables_again (list ts s) = few_again (typed_list_of sorts.Variable ts) (typed_list_again sorts.Variable ts)
+variables_again (list ts s) = few_again (typed_variables_of ts) (typed_variables_again ts)
 
-abbrev IsPairAgain : List Typed × Formula → Type 0
+abbrev IsPairAgain : List Variable × Formula → Type 0
 IsPairAgain p = IsListAgain p.0 × IsFormulaAgain p.1
 
 quantified_again : (ts : Trees) (ps : List (Option Formula)) → AllAgain ps → IfSome (quantified ts ps) IsPairAgain
@@ -84,10 +83,10 @@ quantified_again (more t ts) (p ∷ []) h = tt
 quantified_again (more t ts) (p ∷ q ∷ []) h = if_both tuple IsListAgain IsFormulaAgain IsPairAgain (λ vs f k l. (k, l)) (variables_of t) q (variables_again t) h.1.0
 quantified_again (more t ts) (p ∷ q ∷ r ∷ ps) h = tt
 
-forall_from : (p : List Typed × Formula) → IsPairAgain p → IsFormulaAgain (forall p.0 p.1)
+forall_from : (p : List Variable × Formula) → IsPairAgain p → IsFormulaAgain (forall p.0 p.1)
 forall_from p h = rw (h.0, h.1) refl
 
-exists_from : (p : List Typed × Formula) → IsPairAgain p → IsFormulaAgain (exists p.0 p.1)
+exists_from : (p : List Variable × Formula) → IsPairAgain p → IsFormulaAgain (exists p.0 p.1)
 exists_from p h = rw (h.0, h.1) refl
 
 negation_again : (ps : List (Option Formula)) → AllAgain ps → IfSome (negation ps) IsFormulaAgain
@@ -177,14 +176,6 @@ literal_by_again None e = if_map (literal true) (IsReadAgain atom_of atom_expres
 
 pub literal_again : (e : Tree) → IfSome (literal_of e) IsLiteralAgain
 literal_again e = literal_by_again (negated e) e
-
-abbrev pub IsEffectAgain : Effect → Type 0
-IsEffectAgain e = effect_of (effect_expression e) ≡ Some (bare_effect e)
-
-pub effect_again : (e : Tree) → IfSome (effect_of e) IsEffectAgain
-effect_again e =
-    if_map effect (λ ls. listed literal_of (conjunction (each literal_expression ls)) ≡ Some (map bare_literal ls)) IsEffectAgain (λ ls h. ap (option_map effect) h)
-    (listed literal_of e) (listed_again literal_of literal_expression bare_literal literal_again e)
 
 -- literals whose terms are names
 abbrev pub IsGroundAgain : Literal → Type 0

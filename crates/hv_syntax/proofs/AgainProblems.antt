@@ -31,7 +31,7 @@ abbrev AreKeywordsAgain : List WordAt → Type 0
 AreKeywordsAgain ws = AreReadAgain keyword_of word_expression bare_word ws
 
 abbrev AreNamesAgain : List Typed → Type 0
-AreNamesAgain vs = AreTypedAgain sorts.Name vs
+AreNamesAgain vs = AreTypedAgain vs
 
 abbrev AreGroundAgain : List Literal → Type 0
 AreGroundAgain ls = AreReadAgain ground_literal_of literal_expression bare_literal ls
@@ -52,7 +52,7 @@ section_again : (w : List ℕ) (s : Span) (ts : Trees) → IfSome (problem_secti
 section_again w s ts =
     let domain : Option ProblemSection = option_map is_for (one_name ts) in
     let requirements : Option ProblemSection = option_map has_requirements (every keyword_of ts) in
-    let objects : Option ProblemSection = option_map has_objects (typed_list_of sorts.Name ts) in
+    let objects : Option ProblemSection = option_map has_objects (typed_list_of ts) in
     let network : Option ProblemSection = option_map has_htn (htn_of s ts) in
     let literals : Option ProblemSection = option_map has_init (every ground_literal_of ts) in
     let wanted : Option ProblemSection = option_map has_goal (goal_of ts) in
@@ -63,7 +63,7 @@ section_again w s ts =
     let r1 : Option ProblemSection = if is w (codes ":requirements") then requirements else r2 in
     if_else IsSectionAgain (is w (codes ":domain")) domain r1 (if_map is_for IsNameAgain IsSectionAgain (λ x h. h) (one_name ts) (one_name_again ts))
     (if_else IsSectionAgain (is w (codes ":requirements")) requirements r2 (if_map has_requirements AreKeywordsAgain IsSectionAgain (λ x h. h) (every keyword_of ts) (every_again keyword_of word_expression bare_word (sorted_again sorts.Keyword) ts))
-    (if_else IsSectionAgain (is w (codes ":objects")) objects r3 (if_map has_objects AreNamesAgain IsSectionAgain (λ x h. h) (typed_list_of sorts.Name ts) (typed_list_again sorts.Name ts))
+    (if_else IsSectionAgain (is w (codes ":objects")) objects r3 (if_map has_objects AreNamesAgain IsSectionAgain (λ x h. h) (typed_list_of ts) (typed_list_again ts))
     (if_else IsSectionAgain (is w (codes ":htn")) network r4 (if_map has_htn IsHtnAgain IsSectionAgain (λ x h. h) (htn_of s ts) (htn_again s ts))
     (if_else IsSectionAgain (is w (codes ":init")) literals r5 (if_map has_init AreGroundAgain IsSectionAgain (λ x h. h) (every ground_literal_of ts) (every_again ground_literal_of literal_expression bare_literal ground_literal_again ts))
     (if_else IsSectionAgain (is w (codes ":goal")) wanted None (if_map has_goal IsFormulaAgain IsSectionAgain (λ x h. h) (goal_of ts) (goal_of_only (only ts))) tt)))))
@@ -130,7 +130,7 @@ module _ (d : Option WordAt) where
   objects_read rs b (v ∷ vs) e h =
       let ts : Trees = typed_members (v ∷ vs) in
       reads_one problem_section add_part (made d rs [] None None None) b (form (codes ":objects") ts) (has_objects (map bare_typed (v ∷ vs)))
-      (once_read (occurs (codes ":objects") b) (has_unsupported (codes ":objects") ts) (option_map has_objects (typed_list_of sorts.Name ts)) (has_objects (map bare_typed (v ∷ vs))) e (ap (option_map has_objects) h))
+      (once_read (occurs (codes ":objects") b) (has_unsupported (codes ":objects") ts) (option_map has_objects (typed_list_of ts)) (has_objects (map bare_typed (v ∷ vs))) e (ap (option_map has_objects) h))
 
   module _ (rs : List WordAt) (os : List Typed) where
     htn_read : (b : List Tree) (x : Htn) → occurs (codes ":htn") b ≡ false → IsHtnAgain x → Read (made d rs os None None None) b (htn_section x ∷ []) (made d rs os (Some (bare_htn x)) None None)

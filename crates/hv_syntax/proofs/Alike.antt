@@ -1,10 +1,10 @@
 -- A value is printed as the same value with its places aside.
 use Rattle.std.proofs.Common.{◌≡◌, ◌++◌, ℕ, List, [], ◌∷◌, map, Option, Some, None, option_map, refl, sym, ap, ◌∙◌, codes}
 use Rattle.hv_text.specs.Trees.{Tree, Trees, none, more}
-use Rattle.hv_syntax.specs.Values.{WordAt, Term, constant, variable, Atom, Typed, Formula, Formulas, holds, and, or, not, imply, forall, exists, equal, no_formulas, more_formulas, Literal, Effect, Subtask, Pair, Constraint, Network, Predicate, Task, Method, Action, Domain, Htn, Problem}
-use Rattle.hv_syntax.specs.Canonical.{each, the_list, form, conjunction, signed, labelled_by, two_members, with_field, with_members, subtasks_keyword, word_expression, term_expression, atom_expression, typed_members, formula_expression, formula_expressions, literal_expression, effect_expression, subtask_expression, pair_expression, constraint_expression, network_fields}
+use Rattle.hv_syntax.specs.Values.{WordAt, Term, constant, variable, Atom, TypedBy, Typed, Variable, Formula, Formulas, holds, and, or, not, imply, forall, exists, equal, no_formulas, more_formulas, Literal, Effect, no_items, more_items, Item, becomes, for_each, Subtask, Pair, Constraint, Network, Predicate, Task, Method, Action, Domain, Htn, Problem}
+use Rattle.hv_syntax.specs.Canonical.{each, the_list, form, conjunction, conjunction_or_one, signed, labelled_by, two_members, with_field, with_members, subtasks_keyword, word_expression, term_expression, atom_expression, type_name_expression, type_expression, members_by, typed_members, variable_members, formula_expression, formula_expressions, literal_expression, item_expression, item_expressions, effect_expression, subtask_expression, pair_expression, constraint_expression, network_fields}
 use Rattle.hv_syntax.specs.CanonicalSections.{predicate_expression, task_section, method_section, action_section, htn_section, goal_section, unless_empty, section_of_each, domain_sections, problem_sections, definition_text, canonical_domain, canonical_problem}
-use Rattle.hv_syntax.specs.Bare.{bare_word, bare_term, bare_atom, bare_typed, bare_formula, bare_formulas, bare_literal, bare_effect, bare_subtask, bare_pair, bare_constraint, bare_network, bare_predicate, bare_task, bare_method, bare_action, bare_domain, bare_htn, bare_problem}
+use Rattle.hv_syntax.specs.Bare.{bare_word, bare_term, bare_atom, bare_by, bare_type_name, bare_typed, bare_type, bare_variable, bare_formula, bare_formulas, bare_literal, bare_effect, bare_item, bare_subtask, bare_pair, bare_constraint, bare_network, bare_predicate, bare_task, bare_method, bare_action, bare_domain, bare_htn, bare_problem}
 
 each_alike : {A : Type 0} (write : A → Tree) (bare : A → A) → ((x : A) → write (bare x) ≡ write x) → (xs : List A) → each write (map bare xs) ≡ each write xs
 each_alike write bare h [] = refl
@@ -24,9 +24,20 @@ term_alike (variable w) = refl
 atom_alike : (a : Atom) → atom_expression (bare_atom a) ≡ atom_expression a
 atom_alike a = ap (form a.symbol.text) (each_alike term_expression bare_term term_alike a.terms)
 
+members_alike : {T : Type 0} (write : T → Tree) (bare : T → T) → ((t : T) → write (bare t) ≡ write t) → (vs : List (TypedBy T)) → members_by write (map (bare_by bare) vs) ≡ members_by write vs
+members_alike write bare h [] = refl
+members_alike write bare h (v ∷ vs) = rw (h v.of, members_alike write bare h vs) refl
+
 typed_alike : (vs : List Typed) → typed_members (map bare_typed vs) ≡ typed_members vs
-typed_alike [] = refl
-typed_alike (v ∷ vs) = rw (typed_alike vs) refl
+typed_alike = members_alike type_name_expression bare_type_name (λ t. refl)
+
+type_alike : (ns : List WordAt) → type_expression (bare_type ns) ≡ type_expression ns
+type_alike [] = refl
+type_alike (n ∷ []) = refl
+type_alike (n ∷ m ∷ ns) = ap (form (codes "either")) (each_alike word_expression bare_word word_alike (n ∷ m ∷ ns))
+
+variables_alike : (vs : List Variable) → variable_members (map bare_variable vs) ≡ variable_members vs
+variables_alike = members_alike type_expression bare_type type_alike
 
 mutual
   formula_alike : (f : Formula) → formula_expression (bare_formula f) ≡ formula_expression f
@@ -35,8 +46,8 @@ mutual
   formula_alike (or fs) = ap (form (codes "or")) (formulas_alike fs)
   formula_alike (not f) = ap (λ t. form (codes "not") (more t none)) (formula_alike f)
   formula_alike (imply f g) = rw (formula_alike f, formula_alike g) refl
-  formula_alike (forall vs f) = rw (typed_alike vs, formula_alike f) refl
-  formula_alike (exists vs f) = rw (typed_alike vs, formula_alike f) refl
+  formula_alike (forall vs f) = rw (variables_alike vs, formula_alike f) refl
+  formula_alike (exists vs f) = rw (variables_alike vs, formula_alike f) refl
   formula_alike (equal x y) = rw (term_alike x, term_alike y) refl
 
   formulas_alike : (fs : Formulas) → formula_expressions (bare_formulas fs) ≡ formula_expressions fs
@@ -46,8 +57,19 @@ mutual
 literal_alike : (l : Literal) → literal_expression (bare_literal l) ≡ literal_expression l
 literal_alike l = ap (signed l.is_positive) (atom_alike l.atom)
 
+mutual
+  item_alike : (i : Item) → item_expression (bare_item i) ≡ item_expression i
+  item_alike (becomes l) = literal_alike l
+  item_alike (for_each vs e) = rw (variables_alike vs, items_alike e) refl
+
+  items_alike : (e : Effect) → item_expressions (bare_effect e) ≡ item_expressions e
+  items_alike no_items = refl
+  items_alike (more_items i e) = rw (item_alike i, items_alike e) refl
+
 effect_alike : (e : Effect) → effect_expression (bare_effect e) ≡ effect_expression e
-effect_alike e = ap conjunction (each_alike literal_expression bare_literal literal_alike e.literals)
+effect_alike no_items = refl
+effect_alike (more_items (becomes l) e) = ap conjunction (items_alike (more_items (becomes l) e))
+effect_alike (more_items (for_each vs f) e) = ap conjunction_or_one (items_alike (more_items (for_each vs f) e))
 
 labelled_alike : (l : Option WordAt) (t : Tree) → labelled_by (option_map bare_word l) t ≡ labelled_by l t
 labelled_alike None t = refl
@@ -77,10 +99,10 @@ network_alike n =
     (each_alike subtask_expression bare_subtask subtask_alike n.subtasks) (each_alike pair_expression bare_pair pair_alike n.pairs) (each_alike constraint_expression bare_constraint constraint_alike n.constraints)
 
 predicate_alike : (p : Predicate) → predicate_expression (bare_predicate p) ≡ predicate_expression p
-predicate_alike p = ap (form p.name.text) (typed_alike p.parameters)
+predicate_alike p = ap (form p.name.text) (variables_alike p.parameters)
 
 task_alike : (t : Task) → task_section (bare_task t) ≡ task_section t
-task_alike t = ap (λ vs. form (codes ":task") (more (word_expression t.name) (with_field (codes ":parameters") (the_list vs) none))) (typed_alike t.parameters)
+task_alike t = ap (λ vs. form (codes ":task") (more (word_expression t.name) (with_field (codes ":parameters") (the_list vs) none))) (variables_alike t.parameters)
 
 abbrev method_with : WordAt → Trees → Tree → Tree → Trees → Tree
 method_with w vs t f n =
@@ -88,10 +110,10 @@ method_with w vs t f n =
 
 method_alike : (m : Method) → method_section (bare_method m) ≡ method_section m
 method_alike m =
-    ap (λ vs. method_with m.name vs (atom_expression (bare_atom m.task)) (formula_expression (bare_formula m.precondition)) (network_fields (bare_network m.network))) (typed_alike m.parameters)
-    ∙ ap (λ t. method_with m.name (typed_members m.parameters) t (formula_expression (bare_formula m.precondition)) (network_fields (bare_network m.network))) (atom_alike m.task)
-    ∙ ap (λ f. method_with m.name (typed_members m.parameters) (atom_expression m.task) f (network_fields (bare_network m.network))) (formula_alike m.precondition)
-    ∙ ap (λ n. method_with m.name (typed_members m.parameters) (atom_expression m.task) (formula_expression m.precondition) n) (network_alike m.network)
+    ap (λ vs. method_with m.name vs (atom_expression (bare_atom m.task)) (formula_expression (bare_formula m.precondition)) (network_fields (bare_network m.network))) (variables_alike m.parameters)
+    ∙ ap (λ t. method_with m.name (variable_members m.parameters) t (formula_expression (bare_formula m.precondition)) (network_fields (bare_network m.network))) (atom_alike m.task)
+    ∙ ap (λ f. method_with m.name (variable_members m.parameters) (atom_expression m.task) f (network_fields (bare_network m.network))) (formula_alike m.precondition)
+    ∙ ap (λ n. method_with m.name (variable_members m.parameters) (atom_expression m.task) (formula_expression m.precondition) n) (network_alike m.network)
 
 abbrev action_with : WordAt → Trees → Tree → Tree → Tree
 action_with w vs f e =
@@ -99,14 +121,14 @@ action_with w vs f e =
 
 action_alike : (a : Action) → action_section (bare_action a) ≡ action_section a
 action_alike a =
-    ap (λ vs. action_with a.name vs (formula_expression (bare_formula a.precondition)) (effect_expression (bare_effect a.effect))) (typed_alike a.parameters)
-    ∙ ap (λ f. action_with a.name (typed_members a.parameters) f (effect_expression (bare_effect a.effect))) (formula_alike a.precondition)
-    ∙ ap (λ e. action_with a.name (typed_members a.parameters) (formula_expression a.precondition) e) (effect_alike a.effect)
+    ap (λ vs. action_with a.name vs (formula_expression (bare_formula a.precondition)) (effect_expression (bare_effect a.effect))) (variables_alike a.parameters)
+    ∙ ap (λ f. action_with a.name (variable_members a.parameters) f (effect_expression (bare_effect a.effect))) (formula_alike a.precondition)
+    ∙ ap (λ e. action_with a.name (variable_members a.parameters) (formula_expression a.precondition) e) (effect_alike a.effect)
 
 htn_alike : (h : Htn) → htn_section (bare_htn h) ≡ htn_section h
 htn_alike h =
-    ap (λ vs. form (codes ":htn") (with_field (codes ":parameters") (the_list vs) (network_fields (bare_network h.network)))) (typed_alike h.parameters)
-    ∙ ap (λ n. form (codes ":htn") (with_field (codes ":parameters") (the_list (typed_members h.parameters)) n)) (network_alike h.network)
+    ap (λ vs. form (codes ":htn") (with_field (codes ":parameters") (the_list vs) (network_fields (bare_network h.network)))) (variables_alike h.parameters)
+    ∙ ap (λ n. form (codes ":htn") (with_field (codes ":parameters") (the_list (variable_members h.parameters)) n)) (network_alike h.network)
 
 goal_alike : (f : Option Formula) → goal_section (option_map bare_formula f) ≡ goal_section f
 goal_alike None = refl

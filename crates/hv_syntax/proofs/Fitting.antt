@@ -5,10 +5,10 @@ use Rattle.hv_text.specs.Trees.{Tree, word, list, Trees, none, more}
 use Rattle.hv_text.specs.Shapes.{IsTidy, AreTidy, depth, depth_all}
 use Rattle.hv_syntax.specs.declared.word.Sort.{Sort}
 use Rattle.hv_syntax.specs.declared.word.Sort.TheVariants as sorts
-use Rattle.hv_syntax.specs.Values.{WordAt, Term, Atom, TypeOf, no_type, of_type, type_name, Typed, Formula, Formulas}
+use Rattle.hv_syntax.specs.Values.{WordAt, Term, Atom, TypeOf, no_type, TypedBy, Typed, Variable, Formula, Formulas}
 use Rattle.hv_syntax.specs.TypedLists.{with_type}
-use Rattle.hv_syntax.specs.Spellings.{SpellsWord, a_word, SpellsSymbol, a_symbol, SpellsTerm, a_name, a_variable, SpellEach, no_more, one_more, SpellsList, none_of_them, one_of_them, all_of_them, SpellsAtom, an_atom, join, SpellsTyped, without_type, a_group, SpellsVariables, variables, SpellsFormula, nothing, a_fact, a_conjunction, a_disjunction, a_negation, an_implication, for_all, for_some, an_equality, SpellFormulas, no_members, more_members}
-use Rattle.hv_syntax.specs.Canonical.{the_list, each, conjunction, term_expression, atom_expression, typed_members, formula_expression, formula_expressions}
+use Rattle.hv_syntax.specs.Spellings.{SpellsWord, a_word, SpellsSymbol, a_symbol, SpellsTerm, a_name, a_variable, SpellEach, no_more, one_more, SpellsList, none_of_them, one_of_them, all_of_them, SpellsAtom, an_atom, join, SpellsTypeName, a_type_name, SpellsType, one_type, either_type, SpellsTypedBy, without_type, a_group, SpellsTyped, SpellsTypedVariables, SpellsVariables, variables, SpellsFormula, nothing, a_fact, a_conjunction, a_disjunction, a_negation, an_implication, for_all, for_some, an_equality, SpellFormulas, no_members, more_members}
+use Rattle.hv_syntax.specs.Canonical.{the_list, each, conjunction, term_expression, word_expression, atom_expression, type_name_expression, type_expression, members_by, typed_members, variable_members, formula_expression, formula_expressions}
 
 -- the words of an expression are words in lower case, and it opens no more than so many parentheses at once
 abbrev mutual
@@ -52,6 +52,10 @@ mutual
   all_fit none n h d = tt
   all_fit (more t ts) n h d = (fits t n h.0 (omega arith), all_fit ts n h.1 (omega arith))
 
+-- what fits has room where there is more
+pub fits_more : (t : Tree) (n : ℕ) → Fits t n → Fits t (suc n)
+fits_more t n h = let d : depth t ≤ n = is_within t n h in fits t (suc n) (is_tidy t n h) (omega arith)
+
 -- a word of a value is one in lower case
 abbrev pub IsTidyText : List ℕ → Type 0
 IsTidyText w = (is_word w ≡ true) × (lower w ≡ w)
@@ -73,13 +77,19 @@ module _ {A : Type 0} (Spells : Tree → A → Type 0) (write : A → Tree) (n :
   list_fits _ _ (one_of_them t x k) h = (good t x k h, tt)
   list_fits _ _ (all_of_them w p s ts xs e k) h = each_fits ts xs k h.1
 
+-- and where each fits as what says it
+module _ {A : Type 0} (Spells : Tree → A → Type 0) (write : A → Tree) (n : ℕ) (good : (t : Tree) (x : A) → Spells t x → Fits t n → Fits (write x) n) where
+  pub each_fit : (ts : Trees) (xs : List A) → SpellEach Spells ts xs → AllFit ts n → AllFit (each write xs) n
+  each_fit _ _ no_more h = tt
+  each_fit _ _ (one_more t ts x xs k l) h = (good t x k h.0, each_fit ts xs l h.1)
+
 pub conjunction_fits : (ts : Trees) (n : ℕ) → AllFit ts n → Fits (conjunction ts) (suc n)
 conjunction_fits none n h = tt
 conjunction_fits (more t ts) n h = ((refl, refl), h)
 
-join_tidy : (ts us : Trees) → AreTidy (join ts us) → AreTidy ts × AreTidy us
-join_tidy none us h = (tt, h)
-join_tidy (more t ts) us h = let k = join_tidy ts us h.1 in ((h.0, k.0), k.1)
+join_fits : (ts us : Trees) (n : ℕ) → AllFit (join ts us) n → AllFit ts n × AllFit us n
+join_fits none us n h = (tt, h)
+join_fits (more t ts) us n h = let k = join_fits ts us n h.1 in ((h.0, k.0), k.1)
 
 module _ (n : ℕ) where
   pub term_fits : (t : Tree) (x : Term) → SpellsTerm t x → IsTidy t → Fits (term_expression x) n
@@ -89,29 +99,55 @@ module _ (n : ℕ) where
   pub atom_fits : (t : Tree) (a : Atom) → SpellsAtom t a → IsTidy t → Fits (atom_expression a) (suc n)
   atom_fits _ _ (an_atom w p s ts xs e k) h = (h.0, each_fits SpellsTerm term_expression n term_fits ts xs k h.1)
 
-  -- names of one type
-  names_fit : (sort : Sort) (t : TypeOf) → IsTidyText (type_name t) → (ts : Trees) (ws : List WordAt) → SpellEach (SpellsWord sort) ts ws → AreTidy ts → AllFit (typed_members (with_type t ws)) n
-  names_fit sort t v _ _ no_more h = tt
-  names_fit sort t v _ _ (one_more u us w ws k l) h = (word_tidy sort u w k h.0, ((refl, refl), (v, names_fit sort t v us ws l h.1)))
+-- typed lists
+module _ {T : Type 0} (Spells : Tree → T → Type 0) (write : T → Tree) (not_written : T) (sort : Sort) (n : ℕ)
+    (type_fits : (t : Tree) (m : T) → Spells t m → Fits t n → Fits (write m) n) (not_written_fits : Fits (write not_written) n) where
+  -- words of one type
+  words_fit : (m : T) → Fits (write m) n → (ts : Trees) (ws : List WordAt) → SpellEach (SpellsWord sort) ts ws → AllFit ts n → AllFit (members_by write (with_type m ws)) n
+  words_fit m v _ _ no_more h = tt
+  words_fit m v _ _ (one_more u us w ws k l) h = (word_tidy sort u w k (is_tidy u n h.0), ((refl, refl), (v, words_fit m v us ws l h.1)))
 
-  typed_append : (xs ys : List Typed) → AllFit (typed_members xs) n → AllFit (typed_members ys) n → AllFit (typed_members (xs ++ ys)) n
-  typed_append [] ys h k = k
-  typed_append (x ∷ xs) ys h k = (h.0, (h.1.0, (h.1.1.0, typed_append xs ys h.1.1.1 k)))
+  members_append : (xs ys : List (TypedBy T)) → AllFit (members_by write xs) n → AllFit (members_by write ys) n → AllFit (members_by write (xs ++ ys)) n
+  members_append [] ys h k = k
+  members_append (x ∷ xs) ys h k = (h.0, (h.1.0, (h.1.1.0, members_append xs ys h.1.1.1 k)))
 
-  pub typed_fits : (sort : Sort) (ts : Trees) (xs : List Typed) → SpellsTyped sort ts xs → AreTidy ts → AllFit (typed_members xs) n
-  typed_fits sort _ _ (without_type ts ws k) h = names_fit sort no_type (refl, refl) ts ws k h
-  typed_fits sort _ _ (a_group t ts w ws d p u m us xs k l e v r) h =
-      let j = join_tidy ts (more (word d p) (more u us)) h.1 in
-      typed_append (with_type (of_type m) (w ∷ ws)) xs (names_fit sort (of_type m) (word_tidy sorts.Name u m v j.1.1.0) (more t ts) (w ∷ ws) (one_more t ts w ws k l) (h.0, j.0)) (typed_fits sort us xs r j.1.1.1)
+  members_fit : (ts : Trees) (xs : List (TypedBy T)) → SpellsTypedBy Spells not_written sort ts xs → AllFit ts n → AllFit (members_by write xs) n
+  members_fit _ _ (without_type ts ws k) h = words_fit not_written not_written_fits ts ws k h
+  members_fit _ _ (a_group t ts w ws d p u m us xs k l e v r) h =
+      let j = join_fits ts (more (word d p) (more u us)) n h.1 in
+      members_append (with_type m (w ∷ ws)) xs (words_fit m (type_fits u m v j.1.1.0) (more t ts) (w ∷ ws) (one_more t ts w ws k l) (h.0, j.0)) (members_fit us xs r j.1.1.1)
+
+module _ (n : ℕ) where
+  type_name_fits : (t : Tree) (m : TypeOf) → SpellsTypeName t m → Fits t n → Fits (type_name_expression m) n
+  type_name_fits _ _ (a_type_name t m k) h = word_tidy sorts.Name t m k (is_tidy t n h)
+
+  pub typed_fits : (ts : Trees) (xs : List Typed) → SpellsTyped ts xs → AllFit ts n → AllFit (typed_members xs) n
+  typed_fits = members_fit SpellsTypeName type_name_expression no_type sorts.Name n type_name_fits (refl, refl)
+
+word_fits : (n : ℕ) (t : Tree) (w : WordAt) → SpellsWord sorts.Name t w → IsTidy t → Fits (word_expression w) n
+word_fits n t w k h = word_tidy sorts.Name t w k h
+
+names_fit : (ts : Trees) (ms : List WordAt) (m : WordAt) → SpellEach (SpellsWord sorts.Name) ts ms → (n : ℕ) → IsTidyText m.text → AllFit ts n → Fits (type_expression (m ∷ ms)) (suc n)
+names_fit _ _ m no_more n v h = v
+names_fit _ _ m (one_more t ts a ms k l) n v h =
+    ((refl, refl), (v, each_fits (SpellsWord sorts.Name) word_expression n (word_fits n) (more t ts) (a ∷ ms) (one_more t ts a ms k l) (are_tidy (more t ts) n h)))
+
+type_fits : (n : ℕ) (t : Tree) (ms : List WordAt) → SpellsType t ms → Fits t n → Fits (type_expression ms) n
+type_fits n _ _ (one_type t m k) h = word_tidy sorts.Name t m k (is_tidy t n h)
+type_fits zero _ _ (either_type w p s t ts m ms e k l) h = absurd h
+type_fits (suc n) _ _ (either_type w p s t ts m ms e k l) h = names_fit ts ms m l n (word_tidy sorts.Name t m k (is_tidy t n h.1.0)) h.1.1
+
+pub typed_variables_fit : (n : ℕ) (ts : Trees) (xs : List Variable) → SpellsTypedVariables ts xs → AllFit ts n → AllFit (variable_members xs) n
+typed_variables_fit n = members_fit SpellsType type_expression [] sorts.Variable n (type_fits n) (refl, refl)
 
 -- formulas nest as deep as what says them
-fact_fits : (t : Tree) (a : Atom) → SpellsAtom t a → (n : ℕ) → Fits t n → Fits (atom_expression a) n
+pub fact_fits : (t : Tree) (a : Atom) → SpellsAtom t a → (n : ℕ) → Fits t n → Fits (atom_expression a) n
 fact_fits _ _ (an_atom w p s ts xs e k) zero h = absurd h
 fact_fits _ _ (an_atom w p s ts xs e k) (suc n) h = (h.0, each_fits SpellsTerm term_expression n (term_fits n) ts xs k (are_tidy ts n h.1))
 
-variables_fit : (t : Tree) (xs : List Typed) → SpellsVariables t xs → (n : ℕ) → Fits t n → Fits (the_list (typed_members xs)) n
+pub variables_fit : (t : Tree) (xs : List Variable) → SpellsVariables t xs → (n : ℕ) → Fits t n → Fits (the_list (variable_members xs)) n
 variables_fit _ _ (variables ts s xs k few) zero h = absurd h
-variables_fit _ _ (variables ts s xs k few) (suc n) h = typed_fits n sorts.Variable ts xs k (are_tidy ts n h)
+variables_fit _ _ (variables ts s xs k few) (suc n) h = typed_variables_fit n ts xs k h
 
 mutual
   pub formula_fits : (t : Tree) (f : Formula) → SpellsFormula t f → (n : ℕ) → Fits t n → Fits (formula_expression f) n

@@ -1,19 +1,19 @@
--- The same of literals, effects, networks and sections.
+-- The same of networks and sections.
 use Rattle.std.proofs.Common.{ℕ, suc, Bool, true, false, List, [], Option, Some, refl, codes, if◌then◌else◌}
 use Rattle.std.specs.Prelude.{IfSome}
 use Rattle.hv_text.specs.Trees.{Tree, word, list, Trees, none, more}
 use Rattle.hv_text.specs.Shapes.{IsTidy}
 use Rattle.hv_text.specs.declared.span.Span.{Span}
-use Rattle.hv_syntax.specs.declared.word.Sort.TheVariants as sorts
 use Rattle.hv_syntax.specs.declared.field.Slot.{Slot}
 use Rattle.hv_syntax.specs.declared.field.Slot.TheVariants as slots
-use Rattle.hv_syntax.specs.Values.{Term, Typed, Formula, and, no_formulas, Literal, Effect, effect, Subtask, Pair, Constraint, Network, Predicate, Task, Method, Action, Htn}
+use Rattle.hv_syntax.specs.Values.{Term, Variable, Formula, and, no_formulas, Literal, no_items, Subtask, Pair, Constraint, Network, Predicate, Task, Method, Action, Htn}
 use Rattle.hv_syntax.specs.Fields.{same_slot, slot_of, field}
-use Rattle.hv_syntax.specs.Spellings.{SpellsAtom, SpellsFormula, SpellsList, SpellsLiteral, a_positive, a_negative, SpellsGround, a_ground, SpellsEffect, an_effect, SpellsSubtask, a_task_alone, a_labelled_task, SpellsPair, a_pair_behind, a_pair_between, SpellsEquation, an_equation, SpellsConstraint, they_are_equal, they_differ}
+use Rattle.hv_syntax.specs.Spellings.{SpellsAtom, SpellsFormula, SpellsList, SpellsGround, a_ground, SpellsEffect, SpellsSubtask, a_task_alone, a_labelled_task, SpellsPair, a_pair_behind, a_pair_between, SpellsEquation, an_equation, SpellsConstraint, they_are_equal, they_differ}
 use Rattle.hv_syntax.specs.Tables.{SpellsIfAny, is_absent, is_present, SpellsField, it_stands, SpellsParameters, parameters, SpellsForm, no_form, unordered, ordered, SpellsNetwork, a_network, SpellsPredicate, a_predicate, SpellsTask, a_task, SpellsMethod, a_method, SpellsAction, an_action, SpellsHtn, an_htn}
-use Rattle.hv_syntax.specs.Canonical.{the_list, each, atom_expression, typed_members, formula_expression, literal_expression, effect_expression, subtask_expression, pair_expression, equation, constraint_expression, with_members, subtasks_keyword, network_fields}
+use Rattle.hv_syntax.specs.Canonical.{the_list, each, atom_expression, variable_members, formula_expression, literal_expression, effect_expression, subtask_expression, pair_expression, equation, constraint_expression, with_members, subtasks_keyword, network_fields}
 use Rattle.hv_syntax.specs.CanonicalSections.{predicate_expression, task_section, method_section, action_section, htn_section}
-use Rattle.hv_syntax.proofs.Fitting.{Fits, AllFit, is_tidy, are_tidy, IsTidyText, symbol_tidy, list_fits, conjunction_fits, term_fits, atom_fits, typed_fits, formula_fits}
+use Rattle.hv_syntax.proofs.Fitting.{Fits, AllFit, is_tidy, IsTidyText, symbol_tidy, list_fits, conjunction_fits, term_fits, atom_fits, typed_variables_fit, formula_fits}
+use Rattle.hv_syntax.proofs.FittingEffects.{literal_fits, effect_fits}
 
 -- the expression of a field
 field_if : (P : Tree → Type 0) (b : Bool) (e : Tree) (o : Option Tree) → P e → IfSome o P → IfSome (if b then Some e else o) P
@@ -36,12 +36,8 @@ module _ {A : Type 0} (Spells : Tree → A → Type 0) (P : Tree → Type 0) (Q 
   it_fits _ _ (it_stands t x k) h = good t x k h
 
 module _ (n : ℕ) where
-  literal_fits : (t : Tree) (l : Literal) → SpellsLiteral t l → IsTidy t → Fits (literal_expression l) (suc (suc n))
-  literal_fits _ _ (a_positive t a k) h = atom_fits (suc n) t a k h
-  literal_fits _ _ (a_negative w p s t a e k) h = ((refl, refl), (atom_fits n t a k h.1.0, tt))
-
   pub ground_fits : (t : Tree) (l : Literal) → SpellsGround t l → IsTidy t → Fits (literal_expression l) (suc (suc n))
-  ground_fits _ _ (a_ground t l k e) h = literal_fits t l k h
+  ground_fits _ _ (a_ground t l k e) h = literal_fits n t l k h
 
   subtask_fits : (t : Tree) (x : Subtask) → SpellsSubtask t x → IsTidy t → Fits (subtask_expression x) (suc (suc n))
   subtask_fits _ _ (a_task_alone t a k) h = atom_fits (suc n) t a k h
@@ -63,11 +59,8 @@ module _ (n : ℕ) where
   abbrev within : ℕ
   within = suc (suc (suc n))
 
-  effect_fits : (t : Tree) (x : Effect) → SpellsEffect t x → Fits t within → Fits (effect_expression x) within
-  effect_fits _ _ (an_effect t ls k) h = conjunction_fits (each literal_expression ls) (suc (suc n)) (list_fits SpellsLiteral literal_expression (suc (suc n)) (literal_fits n) t ls k (is_tidy t within h))
-
-  parameters_fit : (t : Tree) (xs : List Typed) → SpellsParameters t xs → Fits t within → Fits (the_list (typed_members xs)) within
-  parameters_fit _ _ (parameters ts s xs k) h = typed_fits (suc (suc n)) sorts.Variable ts xs k (are_tidy ts (suc (suc n)) h)
+  parameters_fit : (t : Tree) (xs : List Variable) → SpellsParameters t xs → Fits t within → Fits (the_list (variable_members xs)) within
+  parameters_fit _ _ (parameters ts s xs k) h = typed_variables_fit (suc (suc n)) ts xs k h
 
   subtasks_fit : (t : Tree) (xs : List Subtask) → SpellsList SpellsSubtask t xs → Fits t within → AllFit (each subtask_expression xs) (suc (suc n))
   subtasks_fit t xs k h = list_fits SpellsSubtask subtask_expression (suc (suc n)) (subtask_fits n) t xs k (is_tidy t within h)
@@ -103,16 +96,16 @@ module _ (n : ℕ) where
     ),
   )
 
-  given_parameters : (ts : Trees) (xs : List Typed) → SpellsIfAny SpellsParameters [] (field slots.Parameters ts) xs → AllFit ts within → Fits (the_list (typed_members xs)) within
-  given_parameters ts xs k h = if_any_fits SpellsParameters (λ t. Fits t within) (λ xs. Fits (the_list (typed_members xs)) within) parameters_fit [] tt (field slots.Parameters ts) xs k (field_fits slots.Parameters ts within h)
+  given_parameters : (ts : Trees) (xs : List Variable) → SpellsIfAny SpellsParameters [] (field slots.Parameters ts) xs → AllFit ts within → Fits (the_list (variable_members xs)) within
+  given_parameters ts xs k h = if_any_fits SpellsParameters (λ t. Fits t within) (λ xs. Fits (the_list (variable_members xs)) within) parameters_fit [] tt (field slots.Parameters ts) xs k (field_fits slots.Parameters ts within h)
 
   given_precondition : (ts : Trees) (f : Formula) → SpellsIfAny SpellsFormula (and no_formulas) (field slots.Precondition ts) f → AllFit ts within → Fits (formula_expression f) within
   given_precondition ts f k h =
       if_any_fits SpellsFormula (λ t. Fits t within) (λ f. Fits (formula_expression f) within) (λ t f k h. formula_fits t f k within h) (and no_formulas) tt (field slots.Precondition ts) f k (field_fits slots.Precondition ts within h)
 
   -- sections
-  pub predicate_fits : (t : Tree) (p : Predicate) → SpellsPredicate t p → IsTidy t → Fits (predicate_expression p) within
-  predicate_fits _ _ (a_predicate t w ts s xs k l) h = (symbol_tidy t w k h.0, typed_fits (suc (suc n)) sorts.Variable ts xs l h.1)
+  pub predicate_fits : (t : Tree) (p : Predicate) → SpellsPredicate t p → Fits t within → Fits (predicate_expression p) within
+  predicate_fits _ _ (a_predicate t w ts s xs k l) h = (symbol_tidy t w k (is_tidy t (suc (suc n)) h.0), typed_variables_fit (suc (suc n)) ts xs l h.1)
 
   pub task_fits : (s : Span) (ts : Trees) (x : Task) → SpellsTask s ts x → AllFit ts within → Fits (task_section x) (suc within)
   task_fits s _ _ (a_task t w ts xs k e f g l) h = ((refl, refl), (symbol_tidy t w k (is_tidy t within h.0), ((refl, refl), (given_parameters ts xs l h.1, tt))))
@@ -124,7 +117,7 @@ module _ (n : ℕ) where
 
   pub action_fits : (s : Span) (ts : Trees) (x : Action) → SpellsAction s ts x → AllFit ts within → Fits (action_section x) (suc within)
   action_fits s _ _ (an_action t w ts xs x f k e l j g) h =
-      let brought : Fits (effect_expression x) within = if_any_fits SpellsEffect (λ t. Fits t within) (λ x. Fits (effect_expression x) within) effect_fits (effect []) tt (field slots.Effect ts) x j (field_fits slots.Effect ts within h.1) in
+      let brought : Fits (effect_expression x) within = if_any_fits SpellsEffect (λ t. Fits t within) (λ x. Fits (effect_expression x) within) (effect_fits n) no_items tt (field slots.Effect ts) x j (field_fits slots.Effect ts within h.1) in
       ((refl, refl), (symbol_tidy t w k (is_tidy t within h.0), ((refl, refl), (given_parameters ts xs l h.1, ((refl, refl), (given_precondition ts f g h.1, ((refl, refl), (brought, tt))))))))
 
   pub htn_fits : (s : Span) (ts : Trees) (x : Htn) → SpellsHtn s ts x → AllFit ts within → Fits (htn_section x) (suc within)

@@ -16,7 +16,7 @@ use Rattle.hv_syntax.specs.Tables.{SpellsPredicate, SpellsDomainSection, SpellsP
 use Rattle.hv_syntax.specs.Canonical.{form, each, word_expression, typed_members, formula_expression, literal_expression}
 use Rattle.hv_syntax.specs.CanonicalSections.{predicate_expression, task_section, method_section, action_section, unless_empty, section_of_each, domain_sections, htn_section, goal_section, problem_sections, definition, domain_expression, problem_expression}
 use Rattle.hv_syntax.proofs.Parts.{Each, OfDomain, section_added, OfParts, part_added}
-use Rattle.hv_syntax.proofs.Fitting.{Fits, AllFit, is_tidy, are_tidy, IsTidyText, word_tidy, each_fits, typed_fits, formula_fits}
+use Rattle.hv_syntax.proofs.Fitting.{Fits, AllFit, is_tidy, are_tidy, IsTidyText, word_tidy, each_fits, each_fit, typed_fits, formula_fits}
 use Rattle.hv_syntax.proofs.FittingSections.{ground_fits, predicate_fits, task_fits, method_fits, action_fits, htn_fits}
 
 -- what holds of all sections, and is kept when one is added, holds of the whole
@@ -69,9 +69,9 @@ module _ (n : ℕ) where
 
   section_fits : (w : List ℕ) (s : Span) (ts : Trees) (x : DomainSection) → SpellsDomainSection w s ts x → AllFit ts within → IsFittingSection x
   section_fits _ _ _ _ (tables.requirements s ts ws k) h = each_fits (SpellsWord sorts.Keyword) word_expression within (word_tidy sorts.Keyword) ts ws k (are_tidy ts within h)
-  section_fits _ _ _ _ (tables.types s ts vs k) h = typed_fits within sorts.Name ts vs k (are_tidy ts within h)
-  section_fits _ _ _ _ (tables.constants s ts vs k) h = typed_fits within sorts.Name ts vs k (are_tidy ts within h)
-  section_fits _ _ _ _ (tables.predicates s ts ps k) h = each_fits SpellsPredicate predicate_expression within (predicate_fits n) ts ps k (are_tidy ts within h)
+  section_fits _ _ _ _ (tables.types s ts vs k) h = typed_fits within ts vs k h
+  section_fits _ _ _ _ (tables.constants s ts vs k) h = typed_fits within ts vs k h
+  section_fits _ _ _ _ (tables.predicates s ts ps k) h = each_fit SpellsPredicate predicate_expression within (predicate_fits n) ts ps k h
   section_fits _ _ _ _ (tables.task_section s ts x k) h = task_fits n s ts x k h
   section_fits _ _ _ _ (tables.method_section s ts x k) h = method_fits n s ts x k h
   section_fits _ _ _ _ (tables.action_section s ts x k) h = action_fits n s ts x k h
@@ -119,7 +119,7 @@ module _ (n : ℕ) where
   part_fits : (w : List ℕ) (s : Span) (ts : Trees) (x : ProblemSection) → SpellsProblemSection w s ts x → AllFit ts within → IsFittingPart x
   part_fits _ _ _ _ (tables.domain_name s t w k) h = word_tidy sorts.Name t w k (is_tidy t within h.0)
   part_fits _ _ _ _ (tables.problem_requirements s ts ws k) h = each_fits (SpellsWord sorts.Keyword) word_expression within (word_tidy sorts.Keyword) ts ws k (are_tidy ts within h)
-  part_fits _ _ _ _ (tables.objects s ts vs k) h = typed_fits within sorts.Name ts vs k (are_tidy ts within h)
+  part_fits _ _ _ _ (tables.objects s ts vs k) h = typed_fits within ts vs k h
   part_fits _ _ _ _ (tables.htn_section s ts x k) h = htn_fits n s ts x k h
   part_fits _ _ _ _ (tables.init s ts ls k) h = each_fits SpellsGround literal_expression within (ground_fits (suc n)) ts ls k (are_tidy ts within h)
   part_fits _ _ _ _ (tables.goal s t f k) h = formula_fits t f k within h.0

@@ -5,13 +5,13 @@ use Rattle.hv_text.specs.Trees.{Trees, none, more, tree, trees}
 use Rattle.hv_text.specs.declared.sexp.Sexp.{Sexp}
 use Rattle.hv_syntax.specs.declared.formula.FormulaText.{FormulaText, And, Or, Not, Imply, Forall, Exists, Equal, the_lemmas}
 use Rattle.hv_syntax.specs.declared.term.TermText.{TermText}
-use Rattle.hv_syntax.specs.declared.typed.TypedText.{TypedText}
+use Rattle.hv_syntax.specs.declared.variable.VariableText.{VariableText}
 use Rattle.hv_syntax.specs.declared.word.Head.{Head}
 use Rattle.hv_syntax.specs.declared.word.Head.TheVariants as heads
 use Rattle.hv_syntax.specs.inside.Reading.{both, every, all_some}
 use Rattle.hv_syntax.specs.Values.{WordAt, not, imply, forall, exists, equal}
 use Rattle.hv_syntax.specs.inside.Formulas.{formula_of, each_formula, and_all, or_all, formula_by, negation, implication, quantified, variables_of}
-use Rattle.hv_syntax.specs.Views.{formula_view, typed_view, term_view}
+use Rattle.hv_syntax.specs.Views.{formula_view, variable_view, term_view}
 
 pub each_is : (ts : Trees) → all_some (each_formula ts) ≡ every formula_of ts
 each_is none = refl
@@ -23,10 +23,10 @@ view-Not b = search (rules, the_lemmas)
 pub view-Imply : (b c : Box FormulaText) → formula_view (Imply b c) ≡ imply (formula_view b.value) (formula_view c.value)
 view-Imply b c = search (rules, the_lemmas)
 
-pub view-Forall : (vs : Vec TypedText) (b : Box FormulaText) → formula_view (Forall vs b) ≡ forall (map typed_view vs.items) (formula_view b.value)
+pub view-Forall : (vs : Vec VariableText) (b : Box FormulaText) → formula_view (Forall vs b) ≡ forall (map variable_view vs.items) (formula_view b.value)
 view-Forall vs b = search (rules, the_lemmas)
 
-pub view-Exists : (vs : Vec TypedText) (b : Box FormulaText) → formula_view (Exists vs b) ≡ exists (map typed_view vs.items) (formula_view b.value)
+pub view-Exists : (vs : Vec VariableText) (b : Box FormulaText) → formula_view (Exists vs b) ≡ exists (map variable_view vs.items) (formula_view b.value)
 view-Exists vs b = search (rules, the_lemmas)
 
 pub view-And : (v : Vec FormulaText) → formula_view (And v) ≡ and_all (map formula_view v.items)
@@ -76,9 +76,9 @@ module _ (es : List Sexp) where
   pub second_fails : (e f : Sexp) → trees es ≡ more (tree e) (more (tree f) none) → formula_of (tree f) ≡ None → implication (each_formula (trees es)) ≡ None
   second_fails e f two failed = rw two (both_fails imply (formula_of (tree e)) (formula_of (tree f)) failed)
 
-  pub quantified_read : (e f : Sexp) (vs : Vec TypedText) (g : FormulaText) (b : Box FormulaText) → trees es ≡ more (tree e) (more (tree f) none)
-      → variables_of (tree e) ≡ Some (map typed_view vs.items) → formula_of (tree f) ≡ Some (formula_view g) → b.value ≡ g
-      → quantified (trees es) (each_formula (trees es)) ≡ Some (map typed_view vs.items, formula_view b.value)
+  pub quantified_read : (e f : Sexp) (vs : Vec VariableText) (g : FormulaText) (b : Box FormulaText) → trees es ≡ more (tree e) (more (tree f) none)
+      → variables_of (tree e) ≡ Some (map variable_view vs.items) → formula_of (tree f) ≡ Some (formula_view g) → b.value ≡ g
+      → quantified (trees es) (each_formula (trees es)) ≡ Some (map variable_view vs.items, formula_view b.value)
   quantified_read e f vs g b two listed read in_b = rw (two, listed, read, in_b) refl
 
   pub list_fails : (e f : Sexp) → trees es ≡ more (tree e) (more (tree f) none) → variables_of (tree e) ≡ None → quantified (trees es) (each_formula (trees es)) ≡ None

@@ -2,11 +2,14 @@ pub mod Lists
 pub mod Exits
 pub mod FieldLemmas
 pub mod TypedLemmas
+pub mod VariableLemmas
 pub mod FormulaLemmas
+pub mod EffectLemmas
 pub mod TextLemmas
 pub mod SectionLemmas
 pub mod SpellingLemmas
 pub mod PartSpellings
+pub mod EffectSpellings
 pub mod TableLemmas
 pub mod FieldPairs
 pub mod TextSpellings
@@ -15,6 +18,7 @@ pub mod FaultSpellings
 pub mod LetterCase
 pub mod Again
 pub mod AgainFormulas
+pub mod AgainEffects
 pub mod AgainNetworks
 pub mod AgainDeclarations
 pub mod AgainSections
@@ -25,8 +29,10 @@ pub mod AgainProblems
 pub mod Alike
 pub mod TextWords
 pub mod Places
+pub mod PlacesEffects
 pub mod PlacesSections
 pub mod Fitting
+pub mod FittingEffects
 pub mod FittingSections
 pub mod FittingTexts
 pub mod ReadBack

@@ -1,16 +1,31 @@
 -- A list of parts, read one after another.
-use Rattle.std.proofs.Common.{◌≡◌, ℕ, ◌+◌, ◌<◌, ◌≤◌, List, [], ◌∷◌, ◌++◌, length, map, drop, get_or, Option, Some, None, refl, sym, ap, ◌∙◌, arith, rules}
+use Rattle.std.proofs.Common.{◌≡◌, ℕ, ◌+◌, ◌-◌, ◌<◌, ◌≤◌, List, [], ◌∷◌, ◌++◌, length, map, take, take_all, drop, get_or, Option, Some, None, refl, sym, ap, ◌∙◌, arith, rules}
 use Rattle.std.proofs.lemmas.List.{append-nil, append_assoc, drop_more, drop_all, map-append}
 use Rattle.hv_text.specs.Names.{text_of}
-use Rattle.hv_text.specs.Trees.{Tree, word, none, more, tree, trees}
+use Rattle.std.specs.Global.{Vec}
+use Rattle.hv_text.specs.Trees.{Tree, word, list, none, more, tree, trees}
 use Rattle.hv_text.specs.declared.name.Name.{Name}
 use Rattle.hv_text.specs.declared.span.Span.{Span}
-use Rattle.hv_text.specs.declared.sexp.Sexp.{Sexp, Word, the_lemmas}
+use Rattle.hv_text.specs.declared.sexp.Sexp.{Sexp, Word, List as ListOf, the_lemmas}
 use Rattle.hv_syntax.specs.inside.Reading.{both, every, behind}
 
 -- what a word of the code is
 pub tree-Word : (n : Name) (s : Span) → tree (Word n s) ≡ word (text_of n) s
 tree-Word n s = search (rules, the_lemmas)
+
+pub tree-List : (v : Vec Sexp) (s : Span) → tree (ListOf v s) ≡ list (trees v.items) s
+tree-List v s = search (rules, the_lemmas)
+
+-- a list that begins with a word, and the members behind it
+others_of : (x : Sexp) (es : List Sexp) → take (length (x ∷ es) - 1) (drop 1 (x ∷ es)) ≡ es
+others_of x es = take_all (length (x ∷ es) - 1) es (omega arith)
+
+pub headed_list : (e head : Sexp) (v : Vec Sexp) (es : List Sexp) (s p : Span) (n : Name) → e ≡ ListOf v s → es ≡ v.items → 1 ≤ length es → head ≡ get_or es 0 head → head ≡ Word n p
+    → tree e ≡ list (more (word (text_of n) p) (trees (take (length es - 1) (drop 1 es)))) s
+headed_list e head v [] s p n is items some at word_is = absurd (omega arith)
+headed_list e head v (x ∷ xs) s p n is items some at word_is =
+    ap tree is ∙ tree-List v s ∙ ap (λ ys. list (trees ys) s) (sym items) ∙ ap (λ y. list (more (tree y) (trees xs)) s) (sym at ∙ word_is)
+    ∙ ap (λ t. list (more t (trees xs)) s) (tree-Word n p) ∙ ap (λ ys. list (more (word (text_of n) p) (trees ys)) s) (sym (others_of x xs))
 
 -- from place i on, the place's member comes first
 pub member_at : (es : List Sexp) (i : ℕ) (e : Sexp) → i < length es → e ≡ get_or es i e → trees (drop i es) ≡ more (tree e) (trees (drop (i + 1) es))

@@ -1,4 +1,4 @@
--- What the table spells of literals, effects and networks is what is read.
+-- What the table spells of literals and networks is what is read.
 use Rattle.std.proofs.Common.{◌≡◌, ℕ, Bool, true, false, List, Option, Some, None, ◌↔◌, option_map, refl, sym, ap, ◌∙◌, codes, if◌then◌else◌}
 use Rattle.std.specs.Prelude.{IfSome}
 use Rattle.hv_text.specs.Trees.{Tree, word, list, Trees, none, more}
@@ -8,18 +8,18 @@ use Rattle.hv_syntax.specs.declared.word.Head.TheVariants as heads
 use Rattle.hv_syntax.specs.Words.{is, head_of, is_the_word}
 use Rattle.hv_syntax.specs.inside.Words.{symbol_of}
 use Rattle.hv_syntax.specs.inside.Reading.{both, every, tuple}
-use Rattle.hv_syntax.specs.Values.{WordAt, word_at, Term, Atom, atom_with, Literal, literal, Effect, effect, Subtask, subtask, Pair, pair, Constraint, constraint}
+use Rattle.hv_syntax.specs.Values.{WordAt, word_at, Term, Atom, atom_with, Literal, literal, Subtask, subtask, Pair, pair, Constraint, constraint}
 use Rattle.hv_syntax.specs.inside.Terms.{term_of, atom_of}
 use Rattle.hv_syntax.specs.Lists.{conjuncts, behind_and}
 use Rattle.hv_syntax.specs.inside.Lists.{behind_not, single, listed, listed_by}
 use Rattle.hv_syntax.specs.Literals.{are_constants}
-use Rattle.hv_syntax.specs.inside.Literals.{literal_by, literal_of, effect_of, if_ground, ground_literal_of}
+use Rattle.hv_syntax.specs.inside.Literals.{literal_by, literal_of, if_ground, ground_literal_of}
 use Rattle.hv_syntax.specs.inside.Networks.{labelled, subtask_by, with_label, subtask_of, pair_by, pair_of, equation_of, constraint_by, constraint_of}
-use Rattle.hv_syntax.specs.Spellings.{SpellsSymbol, a_symbol, SpellsTerm, a_name, a_variable, SpellEach, no_more, one_more, SpellsList, none_of_them, one_of_them, all_of_them, SpellsAtom, an_atom, SpellsLiteral, a_positive, a_negative, SpellsGround, a_ground, SpellsEffect, an_effect, SpellsSubtask, a_task_alone, a_labelled_task, SpellsPair, a_pair_behind, a_pair_between, SpellsEquation, an_equation, SpellsConstraint, they_are_equal, they_differ}
+use Rattle.hv_syntax.specs.Spellings.{SpellsSymbol, a_symbol, SpellsTerm, a_name, a_variable, SpellEach, no_more, one_more, SpellsList, none_of_them, one_of_them, all_of_them, SpellsAtom, an_atom, SpellsLiteral, a_positive, a_negative, SpellsGround, a_ground, SpellsSubtask, a_task_alone, a_labelled_task, SpellsPair, a_pair_behind, a_pair_between, SpellsEquation, an_equation, SpellsConstraint, they_are_equal, they_differ}
 use Rattle.hv_syntax.proofs.SpellingLemmas.{same_word, if_map, if_both, if_then, if_weaker, agree, symbol_read, symbol_spelled, term_read, term_spelled, each_read, each_spelled, atom_read, atom_spelled}
 
 -- literals
-literal_read : (t : Tree) (l : Literal) → SpellsLiteral t l → literal_of t ≡ Some l
+pub literal_read : (t : Tree) (l : Literal) → SpellsLiteral t l → literal_of t ≡ Some l
 literal_read _ _ (a_positive _ _ (an_atom w p s ts xs e h)) =
     rw e (ap (option_map (literal true)) (atom_read (list (more (word w p) ts) s) (atom_with (word_at w p) xs) (an_atom w p s ts xs e h)))
 literal_read _ _ (a_negative w p s t a e h) = rw (e, atom_read t a h) refl
@@ -35,7 +35,7 @@ literal_if heads.Not w p s (more t none) e =
 literal_if heads.Not w p s (more t (more u ts)) e = alone (list (more (word w p) (more t (more u ts))) s)
 literal_if _ w p s ts e = alone (list (more (word w p) ts) s)
 
-literal_spelled : (t : Tree) → IfSome (literal_of t) (SpellsLiteral t)
+pub literal_spelled : (t : Tree) → IfSome (literal_of t) (SpellsLiteral t)
 literal_spelled (word w s) = alone (word w s)
 literal_spelled (list none s) = alone (list none s)
 literal_spelled (list (more (word w p) ts) s) = literal_if (head_of w) w p s ts refl
@@ -79,22 +79,6 @@ module _ {A : Type 0} (f : Tree → Option A) (Spells : Tree → A → Type 0) (
 
 atom_alone : (t : Tree) (a : Atom) → SpellsAtom t a → conjuncts t ≡ None
 atom_alone _ _ (an_atom w p s ts xs e h) = rw e refl
-
-literal_alone : (t : Tree) (l : Literal) → SpellsLiteral t l → conjuncts t ≡ None
-literal_alone _ _ (a_positive t a h) = atom_alone t a h
-literal_alone _ _ (a_negative w p s t a e h) = rw e refl
-
--- effects
-pub effect_read : (t : Tree) (x : Effect) → SpellsEffect t x → effect_of t ≡ Some x
-effect_read _ _ (an_effect t ls h) = ap (option_map effect) (list_read literal_of SpellsLiteral literal_read literal_spelled literal_alone t ls h)
-
-pub effect_spelled : (t : Tree) → IfSome (effect_of t) (SpellsEffect t)
-effect_spelled t =
-    if_map effect (SpellsList SpellsLiteral t) (SpellsEffect t) (λ ls h. an_effect t ls h) (listed literal_of t)
-    (list_spelled literal_of SpellsLiteral literal_read literal_spelled literal_alone t)
-
-pub effect_table : (t : Tree) (x : Effect) → SpellsEffect t x ↔ (effect_of t ≡ Some x)
-effect_table = agree effect_of SpellsEffect effect_read effect_spelled
 
 -- subtasks
 abbrev IsWord : Tree → Type 0

@@ -13,21 +13,21 @@ use Rattle.hv_syntax.specs.declared.word.Head.TheVariants as heads
 use Rattle.hv_syntax.specs.declared.field.Slot.{Slot}
 use Rattle.hv_syntax.specs.declared.field.Slot.TheVariants as slots
 use Rattle.hv_syntax.specs.Values as v
-use Rattle.hv_syntax.specs.Values.{WordAt, word_at, Term, constant, variable, Atom, atom_with, TypeOf, no_type, of_type, type_name, Typed, typed, Formula, formulas_of, holds, and, or, imply, forall, exists, equal, Literal, literal, effect, Subtask, subtask, Pair, pair, Constraint, constraint}
+use Rattle.hv_syntax.specs.Values.{WordAt, word_at, Term, constant, variable, Atom, atom_with, TypeOf, no_type, of_type, TypedBy, Typed, typed, Variable, Formula, formulas_of, holds, and, or, imply, forall, exists, equal, Literal, literal, Subtask, subtask, Pair, pair, Constraint, constraint}
 use Rattle.hv_syntax.specs.Words.{is, sort_of, is_sort, head_of, is_the_word}
 use Rattle.hv_syntax.specs.inside.Words.{sorted_word_of, symbol_by, symbol_of}
-use Rattle.hv_syntax.specs.inside.Reading.{both, every, all_some, behind, only, tuple, two}
+use Rattle.hv_syntax.specs.inside.Reading.{both, every, all_some, only, tuple, two}
 use Rattle.hv_syntax.specs.inside.Terms.{term_by, term_of, atom_of}
 use Rattle.hv_syntax.specs.TypedLists.{with_type}
-use Rattle.hv_syntax.specs.inside.TypedLists.{is_empty, typed_by, typed_list_of}
+use Rattle.hv_syntax.specs.inside.TypedLists.{is_empty, with_rest, typed_by, type_name_of, typed_list_of, some_names, either_among, type_of, typed_variables_of}
 use Rattle.hv_syntax.specs.Lists.{behind_and, conjuncts}
 use Rattle.hv_syntax.specs.inside.Lists.{behind_not, negated, single, listed_by, listed}
 use Rattle.hv_syntax.specs.inside.Formulas.{few, variables_of, and_all, or_all, negation, implication, quantified, equality, formula_by, formula_of, formula_among, each_formula}
 use Rattle.hv_syntax.specs.Literals.{is_constant, are_constants}
-use Rattle.hv_syntax.specs.inside.Literals.{literal_by, literal_of, effect_of, if_ground, ground_literal_of}
+use Rattle.hv_syntax.specs.inside.Literals.{literal_by, literal_of, if_ground, ground_literal_of}
 use Rattle.hv_syntax.specs.Fields.{slot_of, same_slot, is_in, field, is_field_list}
 use Rattle.hv_syntax.specs.inside.Networks.{with_list, labelled, with_label, subtask_by, subtask_of, sides_by, sides, pair_by, pair_of, equation_by, equation_of, constraint_by, constraint_of, listed_at, subtasks_by, network_with, network_of}
-use Rattle.hv_syntax.specs.Bare.{bare_word, bare_term, bare_atom, bare_typed, bare_formula, bare_formulas, bare_literal, bare_effect, bare_subtask, bare_pair, bare_constraint, bare_network}
+use Rattle.hv_syntax.specs.Bare.{bare_word, bare_term, bare_atom, bare_by, bare_type_name, bare_typed, bare_type, bare_variable, bare_formula, bare_formulas, bare_literal, bare_subtask, bare_pair, bare_constraint, bare_network}
 use Rattle.hv_text.specs.Shapes.{bare_tree, bare_trees}
 
 -- both are nothing, or the same with their places aside
@@ -125,45 +125,80 @@ empty_same : (ws : List WordAt) → is_empty (map bare_word ws) ≡ is_empty ws
 empty_same [] = refl
 empty_same (w ∷ ws) = refl
 
-with_type_same : (t u : TypeOf) (ws : List WordAt) → type_name t ≡ type_name u → map bare_typed (with_type t (map bare_word ws)) ≡ map bare_typed (with_type u ws)
-with_type_same t u [] e = refl
-with_type_same t u (w ∷ ws) e =
-    ap (λ n. typed (of_type (word_at n nowhere)) (bare_word w) ∷ map bare_typed (with_type t (map bare_word ws))) e ∙ ap (λ vs. bare_typed (typed u w) ∷ vs) (with_type_same t u ws e)
+module _ {T : Type 0} (read : Tree → Option T) (bare : T → T) (not_written : T) (sort : Sort) (type_same : (t : Tree) → Same bare (read (bare_tree t)) (read t)) where
+  abbrev bare_list : List (TypedBy T) → List (TypedBy T)
+  bare_list vs = map (bare_by bare) vs
 
-behind_same : (xs ys : List Typed) (o r : Option (List Typed)) → map bare_typed xs ≡ map bare_typed ys → Same (map bare_typed) o r → Same (map bare_typed) (behind xs o) (behind ys r)
-behind_same xs ys o r e k =
-    same_map (λ zs. xs ++ zs) (λ zs. ys ++ zs) (map bare_typed) (map bare_typed)
-    (λ us vs h. map-append bare_typed xs us ∙ ap (λ z. z ++ map bare_typed us) e ∙ ap (λ z. map bare_typed ys ++ z) h ∙ sym (map-append bare_typed ys vs)) o r k
+  with_type_same : (t u : T) (ws : List WordAt) → bare t ≡ bare u → bare_list (with_type t (map bare_word ws)) ≡ bare_list (with_type u ws)
+  with_type_same t u [] e = refl
+  with_type_same t u (w ∷ ws) e =
+      ap (λ n. typed n (bare_word w) ∷ bare_list (with_type t (map bare_word ws))) e ∙ ap (λ vs. bare_by bare (typed u w) ∷ vs) (with_type_same t u ws e)
 
-if_empty : (k : Bool) (o r : Option (List Typed)) → Same (map bare_typed) o r → Same (map bare_typed) (if k then None else o) (if k then None else r)
-if_empty true o r e = refl
-if_empty false o r e = e
+  rest_same : (ws : List WordAt) (t u : T) (xs ys : List (TypedBy T)) → bare t ≡ bare u → bare_list xs ≡ bare_list ys → bare_list (with_rest (map bare_word ws) t xs) ≡ bare_list (with_rest ws u ys)
+  rest_same ws t u xs ys e k =
+      map-append (bare_by bare) (with_type t (map bare_word ws)) xs ∙ ap (λ z. z ++ bare_list xs) (with_type_same t u ws e)
+      ∙ ap (λ z. bare_list (with_type u ws) ++ z) k ∙ sym (map-append (bare_by bare) (with_type u ws) ys)
 
-typed_same : (sort : Sort) (ts : Trees) (b : Bool) (ws : List WordAt) → Same (map bare_typed) (typed_by sort b (map bare_word ws) (bare_trees ts)) (typed_by sort b ws ts)
-typed_same sort none false ws = ap Some (with_type_same no_type no_type ws refl)
-typed_same sort none true ws = refl
-typed_same sort (more (list us p) ts) b ws = refl
-typed_same sort (more (word w s) ts) true ws =
-    same_if (map bare_typed) (is_sort sorts.Name w)
-    (behind (with_type (of_type (word_at w nowhere)) (map bare_word ws)) (typed_by sort false [] (bare_trees ts))) (behind (with_type (of_type (word_at w s)) ws) (typed_by sort false [] ts)) None None
-    (behind_same (with_type (of_type (word_at w nowhere)) (map bare_word ws)) (with_type (of_type (word_at w s)) ws) (typed_by sort false [] (bare_trees ts)) (typed_by sort false [] ts)
-    (with_type_same (of_type (word_at w nowhere)) (of_type (word_at w s)) ws refl) (typed_same sort ts false []))
-    refl
-typed_same sort (more (word w s) ts) false ws =
-    let next : Option (List Typed) = typed_by sort false (map bare_word ws ++ word_at w nowhere ∷ []) (bare_trees ts) in
-    let moved : next ≡ typed_by sort false (map bare_word (ws ++ word_at w s ∷ [])) (bare_trees ts) = ap (λ x. typed_by sort false x (bare_trees ts)) (sym (map-append bare_word ws (word_at w s ∷ []))) in
-    let again : Same (map bare_typed) next (typed_by sort false (ws ++ word_at w s ∷ []) ts) = ap (option_map (map bare_typed)) moved ∙ typed_same sort ts false (ws ++ word_at w s ∷ []) in
-    let typed_on : Same (map bare_typed) (if is_empty (map bare_word ws) then None else typed_by sort true (map bare_word ws) (bare_trees ts)) (if is_empty ws then None else typed_by sort true ws ts) =
-    ap (λ k. option_map (map bare_typed) (if k then None else typed_by sort true (map bare_word ws) (bare_trees ts))) (empty_same ws)
-    ∙ if_empty (is_empty ws) (typed_by sort true (map bare_word ws) (bare_trees ts)) (typed_by sort true ws ts) (typed_same sort ts true ws) in
-    same_if (map bare_typed) (is w (codes "-"))
-    (if is_empty (map bare_word ws) then None else typed_by sort true (map bare_word ws) (bare_trees ts)) (if is_empty ws then None else typed_by sort true ws ts)
-    (if is_sort sort w then next else None) (if is_sort sort w then typed_by sort false (ws ++ word_at w s ∷ []) ts else None)
-    typed_on
-    (same_if (map bare_typed) (is_sort sort w) next (typed_by sort false (ws ++ word_at w s ∷ []) ts) None None again refl)
+  if_empty : (k : Bool) (o r : Option (List (TypedBy T))) → Same bare_list o r → Same bare_list (if k then None else o) (if k then None else r)
+  if_empty true o r e = refl
+  if_empty false o r e = e
 
-pub typed_list_same : (sort : Sort) (ts : Trees) → Same (map bare_typed) (typed_list_of sort (bare_trees ts)) (typed_list_of sort ts)
-typed_list_same sort ts = typed_same sort ts false []
+  typed_same : (ts : Trees) (b : Bool) (ws : List WordAt) → Same bare_list (typed_by read not_written sort b (map bare_word ws) (bare_trees ts)) (typed_by read not_written sort b ws ts)
+  typed_same none false ws = ap Some (with_type_same not_written not_written ws refl)
+  typed_same none true ws = refl
+  typed_same (more t ts) true ws =
+      same_both (with_rest (map bare_word ws)) (with_rest ws) bare bare_list bare_list (rest_same ws) (read (bare_tree t)) (read t)
+      (typed_by read not_written sort false [] (bare_trees ts)) (typed_by read not_written sort false [] ts) (type_same t) (typed_same ts false [])
+  typed_same (more (list us p) ts) false ws = refl
+  typed_same (more (word w s) ts) false ws =
+      let next : Option (List (TypedBy T)) = typed_by read not_written sort false (map bare_word ws ++ word_at w nowhere ∷ []) (bare_trees ts) in
+      let moved : next ≡ typed_by read not_written sort false (map bare_word (ws ++ word_at w s ∷ [])) (bare_trees ts) = ap (λ x. typed_by read not_written sort false x (bare_trees ts)) (sym (map-append bare_word ws (word_at w s ∷ []))) in
+      let again : Same bare_list next (typed_by read not_written sort false (ws ++ word_at w s ∷ []) ts) = ap (option_map bare_list) moved ∙ typed_same ts false (ws ++ word_at w s ∷ []) in
+      let typed_on : Same bare_list (if is_empty (map bare_word ws) then None else typed_by read not_written sort true (map bare_word ws) (bare_trees ts)) (if is_empty ws then None else typed_by read not_written sort true ws ts) =
+      ap (λ k. option_map bare_list (if k then None else typed_by read not_written sort true (map bare_word ws) (bare_trees ts))) (empty_same ws)
+      ∙ if_empty (is_empty ws) (typed_by read not_written sort true (map bare_word ws) (bare_trees ts)) (typed_by read not_written sort true ws ts) (typed_same ts true ws) in
+      same_if bare_list (is w (codes "-"))
+      (if is_empty (map bare_word ws) then None else typed_by read not_written sort true (map bare_word ws) (bare_trees ts)) (if is_empty ws then None else typed_by read not_written sort true ws ts)
+      (if is_sort sort w then next else None) (if is_sort sort w then typed_by read not_written sort false (ws ++ word_at w s ∷ []) ts else None)
+      typed_on
+      (same_if bare_list (is_sort sort w) next (typed_by read not_written sort false (ws ++ word_at w s ∷ []) ts) None None again refl)
+
+type_name_same : (t : Tree) → Same bare_type_name (type_name_of (bare_tree t)) (type_name_of t)
+type_name_same t = same_map of_type of_type bare_word bare_type_name (λ x y e. ap of_type e) (sorted_word_of sorts.Name (bare_tree t)) (sorted_word_of sorts.Name t) (sorted_same sorts.Name t)
+
+pub typed_list_same : (ts : Trees) → Same (map bare_typed) (typed_list_of (bare_trees ts)) (typed_list_of ts)
+typed_list_same ts = typed_same type_name_of bare_type_name no_type sorts.Name type_name_same ts false []
+
+types_alike : (ns ms : List WordAt) → map bare_word ns ≡ map bare_word ms → bare_type ns ≡ bare_type ms
+types_alike [] [] e = refl
+types_alike [] (m ∷ ms) e = absurd cc
+types_alike (n ∷ ns) [] e = absurd cc
+types_alike (n ∷ ns) (m ∷ ms) e = e
+
+named_same : (o r : Option (List WordAt)) → Same (map bare_word) o r → Same bare_type o r
+named_same None None e = refl
+named_same None (Some ms) e = absurd cc
+named_same (Some ns) None e = absurd cc
+named_same (Some ns) (Some ms) e = let same : map bare_word ns ≡ map bare_word ms = cc in ap Some (types_alike ns ms same)
+
+some_names_same : (ts : Trees) → Same bare_type (some_names (bare_trees ts)) (some_names ts)
+some_names_same none = refl
+some_names_same (more t ts) =
+    named_same (every (sorted_word_of sorts.Name) (bare_trees (more t ts))) (every (sorted_word_of sorts.Name) (more t ts)) (every_same (sorted_word_of sorts.Name) bare_word (sorted_same sorts.Name) (more t ts))
+
+either_names_same : (ts : Trees) → Same bare_type (either_among (bare_trees ts)) (either_among ts)
+either_names_same none = refl
+either_names_same (more t ts) =
+    ap (λ k. option_map bare_type (if k then some_names (bare_trees ts) else None)) (word_is_same (codes "either") t)
+    ∙ same_if bare_type (is_the_word (codes "either") t) (some_names (bare_trees ts)) (some_names ts) None None (some_names_same ts) refl
+
+type_same : (t : Tree) → Same bare_type (type_of (bare_tree t)) (type_of t)
+type_same (word w s) =
+    same_map single single bare_word bare_type (λ x y e. ap single e) (sorted_word_of sorts.Name (word w nowhere)) (sorted_word_of sorts.Name (word w s)) (sorted_same sorts.Name (word w s))
+type_same (list ts s) = either_names_same ts
+
+pub typed_variables_same : (ts : Trees) → Same (map bare_variable) (typed_variables_of (bare_trees ts)) (typed_variables_of ts)
+typed_variables_same ts = typed_same type_of bare_type [] sorts.Variable type_same ts false []
 
 -- shapes of lists
 only_same : (ts : Trees) → only (bare_trees ts) ≡ option_map bare_tree (only ts)
@@ -227,22 +262,24 @@ module _ {A : Type 0} (read : Tree → Option A) (a : A → A) (h : (t : Tree) �
   pub listed_same : (t : Tree) → Same (map a) (listed read (bare_tree t)) (listed read t)
   listed_same t = ap (λ o. option_map (map a) (listed_by read o (bare_tree t))) (conjuncts_same t) ∙ listed_by_same (conjuncts t) t
 
--- formulas
-abbrev EachSame : List (Option Formula) → List (Option Formula) → Type 0
-EachSame [] [] = Unit {0}
-EachSame [] (q ∷ qs) = ⊥
-EachSame (p ∷ ps) [] = ⊥
-EachSame (p ∷ ps) (q ∷ qs) = Same bare_formula p q × EachSame ps qs
+-- what members spell
+abbrev pub EachSame : {A : Type 0} → (A → A) → List (Option A) → List (Option A) → Type 0
+EachSame a [] [] = Unit {0}
+EachSame a [] (q ∷ qs) = ⊥
+EachSame a (p ∷ ps) [] = ⊥
+EachSame a (p ∷ ps) (q ∷ qs) = Same a p q × EachSame a ps qs
 
+module _ {A : Type 0} (a : A → A) where
+  pub all_same : (ps qs : List (Option A)) → EachSame a ps qs → Same (map a) (all_some ps) (all_some qs)
+  all_same [] [] h = refl
+  all_same [] (q ∷ qs) h = absurd h
+  all_same (p ∷ ps) [] h = absurd h
+  all_same (p ∷ ps) (q ∷ qs) h = same_both ◌∷◌ ◌∷◌ a (map a) (map a) (more_same a) p q (all_some ps) (all_some qs) h.0 (all_same ps qs h.1)
+
+-- formulas
 bare_all : (fs : List Formula) → bare_formulas (formulas_of fs) ≡ formulas_of (map bare_formula fs)
 bare_all [] = refl
 bare_all (f ∷ fs) = rw (bare_all fs) refl
-
-all_same : (ps qs : List (Option Formula)) → EachSame ps qs → Same (map bare_formula) (all_some ps) (all_some qs)
-all_same [] [] h = refl
-all_same [] (q ∷ qs) h = absurd h
-all_same (p ∷ ps) [] h = absurd h
-all_same (p ∷ ps) (q ∷ qs) h = same_both ◌∷◌ ◌∷◌ bare_formula (map bare_formula) (map bare_formula) (more_same bare_formula) p q (all_some ps) (all_some qs) h.0 (all_same ps qs h.1)
 
 and_alike : (fs gs : List Formula) → map bare_formula fs ≡ map bare_formula gs → bare_formula (and_all fs) ≡ bare_formula (and_all gs)
 and_alike fs gs e = ap and (bare_all fs ∙ ap formulas_of e ∙ sym (bare_all gs))
@@ -250,37 +287,38 @@ and_alike fs gs e = ap and (bare_all fs ∙ ap formulas_of e ∙ sym (bare_all g
 or_alike : (fs gs : List Formula) → map bare_formula fs ≡ map bare_formula gs → bare_formula (or_all fs) ≡ bare_formula (or_all gs)
 or_alike fs gs e = ap or (bare_all fs ∙ ap formulas_of e ∙ sym (bare_all gs))
 
-few_same : (vs us : List Typed) → map bare_typed vs ≡ map bare_typed us → Same (map bare_typed) (few vs) (few us)
+few_same : (vs us : List Variable) → map bare_variable vs ≡ map bare_variable us → Same (map bare_variable) (few vs) (few us)
 few_same vs us e =
-    let lengths : length vs ≡ length us = sym (length-map vs bare_typed) ∙ ap length e ∙ length-map us bare_typed in
-    ap (λ n. option_map (map bare_typed) (if nat_le n 16 then Some vs else None)) lengths
-    ∙ same_if (map bare_typed) (nat_le (length us) 16) (Some vs) (Some us) None None (ap Some e) refl
+    let lengths : length vs ≡ length us = sym (length-map vs bare_variable) ∙ ap length e ∙ length-map us bare_variable in
+    ap (λ n. option_map (map bare_variable) (if nat_le n 16 then Some vs else None)) lengths
+    ∙ same_if (map bare_variable) (nat_le (length us) 16) (Some vs) (Some us) None None (ap Some e) refl
 
-variables_same : (t : Tree) → Same (map bare_typed) (variables_of (bare_tree t)) (variables_of t)
+pub variables_same : (t : Tree) → Same (map bare_variable) (variables_of (bare_tree t)) (variables_of t)
 variables_same (word w s) = refl
-variables_same (list ts s) = same_then few few (map bare_typed) (map bare_typed) few_same (typed_list_of sorts.Variable (bare_trees ts)) (typed_list_of sorts.Variable ts) (typed_list_same sorts.Variable ts)
+variables_same (list ts s) = same_then few few (map bare_variable) (map bare_variable) few_same (typed_variables_of (bare_trees ts)) (typed_variables_of ts) (typed_variables_same ts)
 
-abbrev bare_pair_of : List Typed × Formula → List Typed × Formula
-bare_pair_of p = (map bare_typed p.0, bare_formula p.1)
+module _ {A : Type 0} (a : A → A) where
+  abbrev pub bare_pair_of : List Variable × A → List Variable × A
+  bare_pair_of p = (map bare_variable p.0, a p.1)
 
-tuple_alike : (vs us : List Typed) (f g : Formula) → map bare_typed vs ≡ map bare_typed us → bare_formula f ≡ bare_formula g → bare_pair_of (tuple vs f) ≡ bare_pair_of (tuple us g)
-tuple_alike vs us f g e h = ap (λ x. tuple x (bare_formula f)) e ∙ ap (tuple (map bare_typed us)) h
+  tuple_alike : (vs us : List Variable) (f g : A) → map bare_variable vs ≡ map bare_variable us → a f ≡ a g → bare_pair_of (tuple vs f) ≡ bare_pair_of (tuple us g)
+  tuple_alike vs us f g e h = ap (λ x. tuple x (a f)) e ∙ ap (tuple (map bare_variable us)) h
 
-quantified_same : (ts : Trees) (ps qs : List (Option Formula)) → EachSame ps qs → Same bare_pair_of (quantified (bare_trees ts) ps) (quantified ts qs)
-quantified_same none ps qs h = refl
-quantified_same (more t ts) [] [] h = refl
-quantified_same (more t ts) [] (q ∷ qs) h = absurd h
-quantified_same (more t ts) (p ∷ ps) [] h = absurd h
-quantified_same (more t ts) (p ∷ []) (q ∷ []) h = refl
-quantified_same (more t ts) (p ∷ []) (q ∷ s ∷ qs) h = absurd h.1
-quantified_same (more t ts) (p ∷ r ∷ ps) (q ∷ []) h = absurd h.1
-quantified_same (more t ts) (p ∷ r ∷ []) (q ∷ s ∷ []) h =
-    same_both tuple tuple (map bare_typed) bare_formula bare_pair_of tuple_alike (variables_of (bare_tree t)) (variables_of t) r s (variables_same t) h.1.0
-quantified_same (more t ts) (p ∷ r ∷ []) (q ∷ s ∷ y ∷ qs) h = absurd h.1.1
-quantified_same (more t ts) (p ∷ r ∷ x ∷ ps) (q ∷ s ∷ []) h = absurd h.1.1
-quantified_same (more t ts) (p ∷ r ∷ x ∷ ps) (q ∷ s ∷ y ∷ qs) h = refl
+  pub quantified_same : (ts : Trees) (ps qs : List (Option A)) → EachSame a ps qs → Same bare_pair_of (quantified (bare_trees ts) ps) (quantified ts qs)
+  quantified_same none ps qs h = refl
+  quantified_same (more t ts) [] [] h = refl
+  quantified_same (more t ts) [] (q ∷ qs) h = absurd h
+  quantified_same (more t ts) (p ∷ ps) [] h = absurd h
+  quantified_same (more t ts) (p ∷ []) (q ∷ []) h = refl
+  quantified_same (more t ts) (p ∷ []) (q ∷ s ∷ qs) h = absurd h.1
+  quantified_same (more t ts) (p ∷ r ∷ ps) (q ∷ []) h = absurd h.1
+  quantified_same (more t ts) (p ∷ r ∷ []) (q ∷ s ∷ []) h =
+      same_both tuple tuple (map bare_variable) a bare_pair_of tuple_alike (variables_of (bare_tree t)) (variables_of t) r s (variables_same t) h.1.0
+  quantified_same (more t ts) (p ∷ r ∷ []) (q ∷ s ∷ y ∷ qs) h = absurd h.1.1
+  quantified_same (more t ts) (p ∷ r ∷ x ∷ ps) (q ∷ s ∷ []) h = absurd h.1.1
+  quantified_same (more t ts) (p ∷ r ∷ x ∷ ps) (q ∷ s ∷ y ∷ qs) h = refl
 
-negation_same : (ps qs : List (Option Formula)) → EachSame ps qs → Same bare_formula (negation ps) (negation qs)
+negation_same : (ps qs : List (Option Formula)) → EachSame bare_formula ps qs → Same bare_formula (negation ps) (negation qs)
 negation_same [] [] h = refl
 negation_same [] (q ∷ qs) h = absurd h
 negation_same (p ∷ ps) [] h = absurd h
@@ -289,7 +327,7 @@ negation_same (p ∷ []) (q ∷ s ∷ qs) h = absurd h.1
 negation_same (p ∷ r ∷ ps) (q ∷ []) h = absurd h.1
 negation_same (p ∷ r ∷ ps) (q ∷ s ∷ qs) h = refl
 
-implication_same : (ps qs : List (Option Formula)) → EachSame ps qs → Same bare_formula (implication ps) (implication qs)
+implication_same : (ps qs : List (Option Formula)) → EachSame bare_formula ps qs → Same bare_formula (implication ps) (implication qs)
 implication_same [] [] h = refl
 implication_same [] (q ∷ qs) h = absurd h
 implication_same (p ∷ ps) [] h = absurd h
@@ -310,15 +348,15 @@ equality_same (more s (more t none)) =
     (term_of (bare_tree s)) (term_of s) (term_of (bare_tree t)) (term_of t) (term_same s) (term_same t)
 equality_same (more s (more t (more u ts))) = refl
 
-by_same : (h : Head) (w : List ℕ) (s : Span) (ts : Trees) (ps qs : List (Option Formula)) → EachSame ps qs → Same bare_formula (formula_by h (word_at w nowhere) (bare_trees ts) ps) (formula_by h (word_at w s) ts qs)
-by_same heads.And w s ts ps qs h = same_map and_all and_all (map bare_formula) bare_formula and_alike (all_some ps) (all_some qs) (all_same ps qs h)
-by_same heads.Or w s ts ps qs h = same_map or_all or_all (map bare_formula) bare_formula or_alike (all_some ps) (all_some qs) (all_same ps qs h)
+by_same : (h : Head) (w : List ℕ) (s : Span) (ts : Trees) (ps qs : List (Option Formula)) → EachSame bare_formula ps qs → Same bare_formula (formula_by h (word_at w nowhere) (bare_trees ts) ps) (formula_by h (word_at w s) ts qs)
+by_same heads.And w s ts ps qs h = same_map and_all and_all (map bare_formula) bare_formula and_alike (all_some ps) (all_some qs) (all_same bare_formula ps qs h)
+by_same heads.Or w s ts ps qs h = same_map or_all or_all (map bare_formula) bare_formula or_alike (all_some ps) (all_some qs) (all_same bare_formula ps qs h)
 by_same heads.Not w s ts ps qs h = negation_same ps qs h
 by_same heads.Imply w s ts ps qs h = implication_same ps qs h
 by_same heads.Forall w s ts ps qs h =
-    same_map (λ p. forall p.0 p.1) (λ p. forall p.0 p.1) bare_pair_of bare_formula (λ x y e. ap (λ p. forall p.0 p.1) e) (quantified (bare_trees ts) ps) (quantified ts qs) (quantified_same ts ps qs h)
+    same_map (λ p. forall p.0 p.1) (λ p. forall p.0 p.1) (bare_pair_of bare_formula) bare_formula (λ x y e. ap (λ p. forall p.0 p.1) e) (quantified (bare_trees ts) ps) (quantified ts qs) (quantified_same bare_formula ts ps qs h)
 by_same heads.Exists w s ts ps qs h =
-    same_map (λ p. exists p.0 p.1) (λ p. exists p.0 p.1) bare_pair_of bare_formula (λ x y e. ap (λ p. exists p.0 p.1) e) (quantified (bare_trees ts) ps) (quantified ts qs) (quantified_same ts ps qs h)
+    same_map (λ p. exists p.0 p.1) (λ p. exists p.0 p.1) (bare_pair_of bare_formula) bare_formula (λ x y e. ap (λ p. exists p.0 p.1) e) (quantified (bare_trees ts) ps) (quantified ts qs) (quantified_same bare_formula ts ps qs h)
 by_same heads.Equal w s ts ps qs h = equality_same ts
 by_same heads.Symbol w s ts ps qs h =
     same_map (λ xs. holds (atom_with (word_at w nowhere) xs)) (λ xs. holds (atom_with (word_at w s) xs)) (map bare_term) bare_formula (λ x y e. ap (λ xs. holds (atom_with (word_at w nowhere) xs)) e)
@@ -336,14 +374,14 @@ mutual
   among_read (more (word w s) ts) = by_same (head_of w) w s ts (each_formula (bare_trees ts)) (each_formula ts) (each_read ts)
   among_read (more (list us s) ts) = refl
 
-  each_read : (ts : Trees) → EachSame (each_formula (bare_trees ts)) (each_formula ts)
+  each_read : (ts : Trees) → EachSame bare_formula (each_formula (bare_trees ts)) (each_formula ts)
   each_read none = tt
   each_read (more t ts) = (formula_read t, each_read ts)
 
 pub formula_same : (t : Tree) → Same bare_formula (formula_of (bare_tree t)) (formula_of t)
 formula_same t = formula_read t
 
--- literals and effects
+-- literals
 literal_alike : (b : Bool) (x y : Atom) → bare_atom x ≡ bare_atom y → bare_literal (literal b x) ≡ bare_literal (literal b y)
 literal_alike b x y e = ap (literal b) e
 
@@ -351,11 +389,8 @@ literal_by_same : (o : Option Tree) (t : Tree) → Same bare_literal (literal_by
 literal_by_same (Some u) t = same_map (literal false) (literal false) bare_atom bare_literal (literal_alike false) (atom_of (bare_tree u)) (atom_of u) (atom_same u)
 literal_by_same None t = same_map (literal true) (literal true) bare_atom bare_literal (literal_alike true) (atom_of (bare_tree t)) (atom_of t) (atom_same t)
 
-literal_same : (t : Tree) → Same bare_literal (literal_of (bare_tree t)) (literal_of t)
+pub literal_same : (t : Tree) → Same bare_literal (literal_of (bare_tree t)) (literal_of t)
 literal_same t = ap (λ o. option_map bare_literal (literal_by o (bare_tree t))) (negated_same t) ∙ literal_by_same (negated t) t
-
-pub effect_same : (t : Tree) → Same bare_effect (effect_of (bare_tree t)) (effect_of t)
-effect_same t = same_map effect effect (map bare_literal) bare_effect (λ x y e. ap effect e) (listed literal_of (bare_tree t)) (listed literal_of t) (listed_same literal_of bare_literal literal_same t)
 
 constant_same : (x : Term) → is_constant (bare_term x) ≡ is_constant x
 constant_same (constant w) = refl

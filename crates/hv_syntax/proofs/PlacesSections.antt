@@ -10,11 +10,11 @@ use Rattle.hv_syntax.specs.declared.field.Slot.{Slot}
 use Rattle.hv_syntax.specs.declared.field.Slot.TheVariants as slots
 use Rattle.hv_syntax.specs.declared.fault.SyntaxKind.{SyntaxKind}
 use Rattle.hv_syntax.specs.declared.section.Standing.{Standing}
-use Rattle.hv_syntax.specs.Values.{WordAt, Term, constant, variable, Atom, Typed, Formula, Formulas, holds, and, or, not, imply, forall, exists, equal, no_formulas, more_formulas, Literal, Effect, Network, predicate, task, method, action, Domain, htn}
+use Rattle.hv_syntax.specs.Values.{WordAt, Term, constant, variable, Atom, Typed, Variable, Formula, Formulas, holds, and, or, not, imply, forall, exists, equal, no_formulas, more_formulas, Literal, Effect, typed, Network, predicate, task, method, action, Domain, htn}
 use Rattle.hv_syntax.specs.Words.{is, is_the_word}
 use Rattle.hv_syntax.specs.inside.Words.{sorted_word_of, symbol_of}
 use Rattle.hv_syntax.specs.inside.Reading.{both, every, only, tuple}
-use Rattle.hv_syntax.specs.inside.TypedLists.{typed_list_of}
+use Rattle.hv_syntax.specs.inside.TypedLists.{typed_list_of, typed_variables_of}
 use Rattle.hv_syntax.specs.Lists.{conjuncts}
 use Rattle.hv_syntax.specs.Fields.{field, is_field_list}
 use Rattle.hv_syntax.specs.inside.Networks.{network_of}
@@ -28,21 +28,22 @@ use Rattle.hv_syntax.specs.Domains.{DomainSection, has_types, has_constants, has
 use Rattle.hv_syntax.specs.inside.Domains.{domain_section_by, domain_in, domain_of}
 use Rattle.hv_syntax.specs.Problems.{htn_slots}
 use Rattle.hv_syntax.specs.inside.Problems.{htn_of}
-use Rattle.hv_syntax.specs.Bare.{bare_word, bare_term, bare_atom, bare_typed, bare_formula, bare_formulas, bare_literal, bare_effect, bare_network, bare_predicate, bare_task, bare_method, bare_action, bare_domain, bare_htn}
+use Rattle.hv_syntax.specs.Bare.{bare_word, bare_term, bare_atom, bare_typed, bare_type, bare_variable, bare_formula, bare_formulas, bare_literal, bare_effect, bare_network, bare_predicate, bare_task, bare_method, bare_action, bare_domain, bare_htn}
 use Rattle.hv_text.specs.Shapes.{bare_tree, bare_trees}
-use Rattle.hv_syntax.proofs.Places.{Same, same_map, same_both, same_if, same_then, every_same, sorted_same, symbol_same, word_is_same, atom_same, typed_list_same, only_bare, conjuncts_same, formula_same, effect_same, field_same, field_list_same, network_same}
+use Rattle.hv_syntax.proofs.PlacesEffects.{effect_same}
+use Rattle.hv_syntax.proofs.Places.{Same, same_map, same_both, same_if, same_then, every_same, sorted_same, symbol_same, word_is_same, atom_same, typed_list_same, typed_variables_same, only_bare, conjuncts_same, formula_same, field_same, field_list_same, network_same}
 
 predicate_same : (t : Tree) → Same bare_predicate (predicate_of (bare_tree t)) (predicate_of t)
 predicate_same (word w s) = refl
 predicate_same (list none s) = refl
 predicate_same (list (more t ts) s) =
-    same_both predicate predicate bare_word (map bare_typed) bare_predicate (λ x y z w e f. ap (λ u. predicate u (map bare_typed z)) e ∙ ap (predicate (bare_word y)) f)
-    (symbol_of (bare_tree t)) (symbol_of t) (typed_list_of sorts.Variable (bare_trees ts)) (typed_list_of sorts.Variable ts) (symbol_same t) (typed_list_same sorts.Variable ts)
+    same_both predicate predicate bare_word (map bare_variable) bare_predicate (λ x y z w e f. ap (λ u. predicate u (map bare_variable z)) e ∙ ap (predicate (bare_word y)) f)
+    (symbol_of (bare_tree t)) (symbol_of t) (typed_variables_of (bare_trees ts)) (typed_variables_of ts) (symbol_same t) (typed_variables_same ts)
 
-parameters_same : (o : Option Tree) → Same (map bare_typed) (parameters_at (option_map bare_tree o)) (parameters_at o)
+parameters_same : (o : Option Tree) → Same (map bare_variable) (parameters_at (option_map bare_tree o)) (parameters_at o)
 parameters_same None = refl
 parameters_same (Some (word w s)) = refl
-parameters_same (Some (list ts s)) = typed_list_same sorts.Variable ts
+parameters_same (Some (list ts s)) = typed_variables_same ts
 
 precondition_same : (o : Option Tree) → Same bare_formula (precondition_at (option_map bare_tree o)) (precondition_at o)
 precondition_same None = refl
@@ -91,20 +92,20 @@ module _ (a b : Span) (ts : Trees) where
   task_named_same : (w u : WordAt) → bare_word w ≡ bare_word u → Same bare_task (task_named a (bare_trees ts) w) (task_named b ts u)
   task_named_same w u e =
       tested bare_task (task_test (bare_trees ts)) (task_test ts) (option_map (task a w) (parameters_at (field slots.Parameters (bare_trees ts)))) (option_map (task b u) (parameters_at (field slots.Parameters ts))) (task_test_same ts)
-      (same_map (task a w) (task b u) (map bare_typed) bare_task (λ x y f. ap (λ z. task nowhere z (map bare_typed x)) e ∙ ap (task nowhere (bare_word u)) f)
-      (parameters_at (field slots.Parameters (bare_trees ts))) (parameters_at (field slots.Parameters ts)) (at_same parameters_at (map bare_typed) parameters_same slots.Parameters ts))
+      (same_map (task a w) (task b u) (map bare_variable) bare_task (λ x y f. ap (λ z. task nowhere z (map bare_variable x)) e ∙ ap (task nowhere (bare_word u)) f)
+      (parameters_at (field slots.Parameters (bare_trees ts))) (parameters_at (field slots.Parameters ts)) (at_same parameters_at (map bare_variable) parameters_same slots.Parameters ts))
 
-  abbrev bare_body : List Typed × Effect → List Typed × Effect
-  bare_body q = (map bare_typed q.0, bare_effect q.1)
+  abbrev bare_body : List Variable × Effect → List Variable × Effect
+  bare_body q = (map bare_variable q.0, bare_effect q.1)
 
-  action_alike : (w u : WordAt) → bare_word w ≡ bare_word u → (x y : List Typed × Effect) (f g : Formula) → bare_body x ≡ bare_body y → bare_formula f ≡ bare_formula g → bare_action (action a w x f) ≡ bare_action (action b u y g)
+  action_alike : (w u : WordAt) → bare_word w ≡ bare_word u → (x y : List Variable × Effect) (f g : Formula) → bare_body x ≡ bare_body y → bare_formula f ≡ bare_formula g → bare_action (action a w x f) ≡ bare_action (action b u y g)
   action_alike w u e (x, i) (y, j) f g h k =
-      ap (λ z. action nowhere z (map bare_typed x, bare_effect i) (bare_formula f)) e ∙ ap (λ z. action nowhere (bare_word u) z (bare_formula f)) h ∙ ap (action nowhere (bare_word u) (map bare_typed y, bare_effect j)) k
+      ap (λ z. action nowhere z (map bare_variable x, bare_effect i) (bare_formula f)) e ∙ ap (λ z. action nowhere (bare_word u) z (bare_formula f)) h ∙ ap (action nowhere (bare_word u) (map bare_variable y, bare_effect j)) k
 
   action_named_same : (w u : WordAt) → bare_word w ≡ bare_word u → Same bare_action (action_named a (bare_trees ts) w) (action_named b ts u)
   action_named_same w u e =
-      let o : Option (List Typed) = parameters_at (field slots.Parameters (bare_trees ts)) in
-      let r : Option (List Typed) = parameters_at (field slots.Parameters ts) in
+      let o : Option (List Variable) = parameters_at (field slots.Parameters (bare_trees ts)) in
+      let r : Option (List Variable) = parameters_at (field slots.Parameters ts) in
       let i : Option Effect = effect_at (field slots.Effect (bare_trees ts)) in
       let j : Option Effect = effect_at (field slots.Effect ts) in
       let f : Option Formula = precondition_at (field slots.Precondition (bare_trees ts)) in
@@ -112,25 +113,25 @@ module _ (a b : Span) (ts : Trees) where
       tested bare_action (is_field_list (slots.Parameters ∷ slots.Precondition ∷ slots.Effect ∷ []) (bare_trees ts)) (is_field_list (slots.Parameters ∷ slots.Precondition ∷ slots.Effect ∷ []) ts)
       (both (action a w) (both tuple o i) f) (both (action b u) (both tuple r j) g) (field_list_same (slots.Parameters ∷ slots.Precondition ∷ slots.Effect ∷ []) ts)
       (same_both (action a w) (action b u) bare_body bare_formula bare_action (action_alike w u e) (both tuple o i) (both tuple r j) f g
-      (same_both tuple tuple (map bare_typed) bare_effect bare_body (λ x y z v h k. ap (λ q. tuple q (bare_effect z)) h ∙ ap (tuple (map bare_typed y)) k) o r i j
-      (at_same parameters_at (map bare_typed) parameters_same slots.Parameters ts) (at_same effect_at bare_effect effect_at_same slots.Effect ts))
+      (same_both tuple tuple (map bare_variable) bare_effect bare_body (λ x y z v h k. ap (λ q. tuple q (bare_effect z)) h ∙ ap (tuple (map bare_variable y)) k) o r i j
+      (at_same parameters_at (map bare_variable) parameters_same slots.Parameters ts) (at_same effect_at bare_effect effect_at_same slots.Effect ts))
       (at_same precondition_at bare_formula precondition_same slots.Precondition ts))
 
-  abbrev bare_head : List Typed × Atom → List Typed × Atom
-  bare_head q = (map bare_typed q.0, bare_atom q.1)
+  abbrev bare_head : List Variable × Atom → List Variable × Atom
+  bare_head q = (map bare_variable q.0, bare_atom q.1)
 
-  abbrev bare_whole : (List Typed × Atom) × Network → (List Typed × Atom) × Network
+  abbrev bare_whole : (List Variable × Atom) × Network → (List Variable × Atom) × Network
   bare_whole q = (bare_head q.0, bare_network q.1)
 
-  method_alike : (w u : WordAt) → bare_word w ≡ bare_word u → (x y : (List Typed × Atom) × Network) (f g : Formula) → bare_whole x ≡ bare_whole y → bare_formula f ≡ bare_formula g → bare_method (method a w x f) ≡ bare_method (method b u y g)
+  method_alike : (w u : WordAt) → bare_word w ≡ bare_word u → (x y : (List Variable × Atom) × Network) (f g : Formula) → bare_whole x ≡ bare_whole y → bare_formula f ≡ bare_formula g → bare_method (method a w x f) ≡ bare_method (method b u y g)
   method_alike w u e ((x, i), m) ((y, j), n) f g h k =
-      ap (λ z. method nowhere z ((map bare_typed x, bare_atom i), bare_network m) (bare_formula f)) e ∙ ap (λ z. method nowhere (bare_word u) z (bare_formula f)) h
-      ∙ ap (method nowhere (bare_word u) ((map bare_typed y, bare_atom j), bare_network n)) k
+      ap (λ z. method nowhere z ((map bare_variable x, bare_atom i), bare_network m) (bare_formula f)) e ∙ ap (λ z. method nowhere (bare_word u) z (bare_formula f)) h
+      ∙ ap (method nowhere (bare_word u) ((map bare_variable y, bare_atom j), bare_network n)) k
 
   method_named_same : (w u : WordAt) → bare_word w ≡ bare_word u → Same bare_method (method_named a (bare_trees ts) w) (method_named b ts u)
   method_named_same w u e =
-      let o : Option (List Typed) = parameters_at (field slots.Parameters (bare_trees ts)) in
-      let r : Option (List Typed) = parameters_at (field slots.Parameters ts) in
+      let o : Option (List Variable) = parameters_at (field slots.Parameters (bare_trees ts)) in
+      let r : Option (List Variable) = parameters_at (field slots.Parameters ts) in
       let i : Option Atom = task_at (field slots.Task (bare_trees ts)) in
       let j : Option Atom = task_at (field slots.Task ts) in
       let f : Option Formula = precondition_at (field slots.Precondition (bare_trees ts)) in
@@ -139,8 +140,8 @@ module _ (a b : Span) (ts : Trees) where
       (both (method a w) (both tuple (both tuple o i) (network_of (bare_trees ts))) f) (both (method b u) (both tuple (both tuple r j) (network_of ts)) g) (field_list_same method_slots ts)
       (same_both (method a w) (method b u) bare_whole bare_formula bare_method (method_alike w u e) (both tuple (both tuple o i) (network_of (bare_trees ts))) (both tuple (both tuple r j) (network_of ts)) f g
       (same_both tuple tuple bare_head bare_network bare_whole (λ x y z v h k. ap (λ q. tuple q (bare_network z)) h ∙ ap (tuple (bare_head y)) k) (both tuple o i) (both tuple r j) (network_of (bare_trees ts)) (network_of ts)
-      (same_both tuple tuple (map bare_typed) bare_atom bare_head (λ x y z v h k. ap (λ q. tuple q (bare_atom z)) h ∙ ap (tuple (map bare_typed y)) k) o r i j
-      (at_same parameters_at (map bare_typed) parameters_same slots.Parameters ts) (at_same task_at bare_atom task_at_same slots.Task ts))
+      (same_both tuple tuple (map bare_variable) bare_atom bare_head (λ x y z v h k. ap (λ q. tuple q (bare_atom z)) h ∙ ap (tuple (map bare_variable y)) k) o r i j
+      (at_same parameters_at (map bare_variable) parameters_same slots.Parameters ts) (at_same task_at bare_atom task_at_same slots.Task ts))
       (network_same ts))
       (at_same precondition_at bare_formula precondition_same slots.Precondition ts))
 
@@ -148,9 +149,9 @@ module _ (a b : Span) (ts : Trees) where
   htn_same =
       tested bare_htn (is_field_list htn_slots (bare_trees ts)) (is_field_list htn_slots ts)
       (both (htn a) (parameters_at (field slots.Parameters (bare_trees ts))) (network_of (bare_trees ts))) (both (htn b) (parameters_at (field slots.Parameters ts)) (network_of ts)) (field_list_same htn_slots ts)
-      (same_both (htn a) (htn b) (map bare_typed) bare_network bare_htn (λ x y z v h k. ap (λ q. htn nowhere q (bare_network z)) h ∙ ap (htn nowhere (map bare_typed y)) k)
+      (same_both (htn a) (htn b) (map bare_variable) bare_network bare_htn (λ x y z v h k. ap (λ q. htn nowhere q (bare_network z)) h ∙ ap (htn nowhere (map bare_variable y)) k)
       (parameters_at (field slots.Parameters (bare_trees ts))) (parameters_at (field slots.Parameters ts)) (network_of (bare_trees ts)) (network_of ts)
-      (at_same parameters_at (map bare_typed) parameters_same slots.Parameters ts) (network_same ts))
+      (at_same parameters_at (map bare_variable) parameters_same slots.Parameters ts) (network_same ts))
 
 module _ (a b : Span) where
   task_same : (ts : Trees) → Same bare_task (task_of a (bare_trees ts)) (task_of b ts)
@@ -245,9 +246,9 @@ domain_section_same w s t ts =
     same_if bare_section (is w (codes ":requirements")) _ _ _ _
     (same_map d.has_requirements d.has_requirements (map bare_word) bare_section (λ x y e. ap d.has_requirements e) (every keyword_of (bare_trees ts)) (every keyword_of ts) (every_same keyword_of bare_word (sorted_same sorts.Keyword) ts))
     (same_if bare_section (is w (codes ":types")) _ _ _ _
-    (same_map has_types has_types (map bare_typed) bare_section (λ x y e. ap has_types e) (typed_list_of sorts.Name (bare_trees ts)) (typed_list_of sorts.Name ts) (typed_list_same sorts.Name ts))
+    (same_map has_types has_types (map bare_typed) bare_section (λ x y e. ap has_types e) (typed_list_of (bare_trees ts)) (typed_list_of ts) (typed_list_same ts))
     (same_if bare_section (is w (codes ":constants")) _ _ _ _
-    (same_map has_constants has_constants (map bare_typed) bare_section (λ x y e. ap has_constants e) (typed_list_of sorts.Name (bare_trees ts)) (typed_list_of sorts.Name ts) (typed_list_same sorts.Name ts))
+    (same_map has_constants has_constants (map bare_typed) bare_section (λ x y e. ap has_constants e) (typed_list_of (bare_trees ts)) (typed_list_of ts) (typed_list_same ts))
     (same_if bare_section (is w (codes ":predicates")) _ _ _ _
     (same_map has_predicates has_predicates (map bare_predicate) bare_section (λ x y e. ap has_predicates e) (every predicate_of (bare_trees ts)) (every predicate_of ts) (every_same predicate_of bare_predicate predicate_same ts))
     (same_if bare_section (is w (codes ":task")) _ _ _ _
@@ -310,6 +311,13 @@ atom_twice a = ap (λ xs. record { symbol = bare_word a.symbol; terms = xs }) (m
 pub typed_twice : (vs : List Typed) → map bare_typed (map bare_typed vs) ≡ map bare_typed vs
 typed_twice vs = map_twice bare_typed (λ x. refl) vs
 
+type_twice : (ns : List WordAt) → bare_type (bare_type ns) ≡ bare_type ns
+type_twice [] = refl
+type_twice (n ∷ ns) = map_twice bare_word (λ w. refl) (n ∷ ns)
+
+pub variables_twice : (vs : List Variable) → map bare_variable (map bare_variable vs) ≡ map bare_variable vs
+variables_twice vs = map_twice bare_variable (λ v. ap (λ ns. typed ns (bare_word v.name)) (type_twice v.of)) vs
+
 mutual
   pub formula_twice : (f : Formula) → bare_formula (bare_formula f) ≡ bare_formula f
   formula_twice (holds a) = ap holds (atom_twice a)
@@ -317,8 +325,8 @@ mutual
   formula_twice (or fs) = ap or (formulas_twice fs)
   formula_twice (not f) = ap not (formula_twice f)
   formula_twice (imply f g) = rw (formula_twice f, formula_twice g) refl
-  formula_twice (forall vs f) = rw (typed_twice vs, formula_twice f) refl
-  formula_twice (exists vs f) = rw (typed_twice vs, formula_twice f) refl
+  formula_twice (forall vs f) = rw (variables_twice vs, formula_twice f) refl
+  formula_twice (exists vs f) = rw (variables_twice vs, formula_twice f) refl
   formula_twice (equal x y) = rw (term_twice x, term_twice y) refl
 
   formulas_twice : (fs : Formulas) → bare_formulas (bare_formulas fs) ≡ bare_formulas fs

@@ -3,10 +3,11 @@ use Rattle.std.proofs.Common.{◌≡◌, ◌++◌, ◌+◌, ◌<◌, ◌≤◌, 
 use Rattle.std.proofs.lemmas.List.{append-nil, append_assoc, drop_more}
 use Rattle.hv_text.specs.Trees.{Tree, none}
 use Rattle.hv_syntax.specs.declared.formula.FormulaText.{FormulaText}
-use Rattle.hv_syntax.specs.Values.{formulas_of}
+use Rattle.hv_syntax.specs.declared.effect.ItemText.{ItemText}
+use Rattle.hv_syntax.specs.Values.{formulas_of, effect}
 use Rattle.hv_syntax.specs.inside.Formulas.{and_all}
-use Rattle.hv_syntax.specs.Views.{formula_view}
-use Rattle.hv_syntax.specs.Canonical.{text, spaced, each, conjunction, formula_expression, formula_expressions, with_members}
+use Rattle.hv_syntax.specs.Views.{formula_view, item_view}
+use Rattle.hv_syntax.specs.Canonical.{text, spaced, each, conjunction, conjunction_or_one, formula_expression, formula_expressions, item_expressions, with_members}
 use Rattle.hv_syntax.specs.CanonicalSections.{lines, unless_empty, section_of_each}
 
 -- a text o that has grown by a to p
@@ -92,3 +93,15 @@ pub conjunction_of_some : (xs : List FormulaText) → 1 ≤ length xs
     → codes "(and" ++ (spaced (formula_expressions (formulas_of (map formula_view xs))) ++ 41 ∷ []) ≡ text (formula_expression (and_all (map formula_view xs)))
 conjunction_of_some [] some = absurd (omega arith)
 conjunction_of_some (x ∷ xs) some = refl
+
+-- the text of a conjunction of some items, and where one of them stands alone
+pub conjunction_of_items : (xs : List ItemText) → 1 ≤ length xs
+    → codes "(and" ++ (spaced (item_expressions (effect (map item_view xs))) ++ 41 ∷ []) ≡ text (conjunction (item_expressions (effect (map item_view xs))))
+conjunction_of_items [] some = absurd (omega arith)
+conjunction_of_items (x ∷ xs) some = refl
+
+pub conjunction_of_several : (xs : List ItemText) → 2 ≤ length xs
+    → codes "(and" ++ (spaced (item_expressions (effect (map item_view xs))) ++ 41 ∷ []) ≡ text (conjunction_or_one (item_expressions (effect (map item_view xs))))
+conjunction_of_several [] some = absurd (omega arith)
+conjunction_of_several (x ∷ []) some = absurd (omega arith)
+conjunction_of_several (x ∷ y ∷ xs) some = refl

@@ -4,12 +4,12 @@ use Rattle.hv_text.specs.Trees.{Tree, Trees, none, more}
 use Rattle.hv_text.specs.Words.{pieces}
 use Rattle.hv_text.specs.Sexps.{spelled_all, AreExpressions}
 use Rattle.hv_text.specs.declared.fault.TheConstants.{MOST_BYTES, MOST_OPEN}
-use Rattle.hv_syntax.specs.Values.{WordAt, Effect, Subtask, Constraint, Network, network, Predicate, Task, Method, Action, Domain}
+use Rattle.hv_syntax.specs.Values.{WordAt, Effect, no_items, more_items, Item, becomes, for_each, Subtask, Constraint, Network, network, Predicate, Task, Method, Action, Domain}
 use Rattle.hv_syntax.specs.Tables.{IsDomain}
 use Rattle.hv_syntax.specs.Texts.{IsDomainText}
 use Rattle.hv_syntax.specs.ReadBack.{IsReadBack}
 use Rattle.hv_syntax.specs.CanonicalSections.{definition, definition_text, domain_sections, domain_expression, canonical_domain}
-use Rattle.hv_syntax.specs.Bare.{bare_word, bare_term, bare_atom, bare_typed, bare_literal, bare_effect, bare_subtask, bare_pair, bare_constraint, bare_network, bare_predicate, bare_task, bare_method, bare_action, bare_domain}
+use Rattle.hv_syntax.specs.Bare.{bare_word, bare_term, bare_atom, bare_typed, bare_variable, bare_effect, bare_item, bare_subtask, bare_pair, bare_constraint, bare_network, bare_predicate, bare_task, bare_method, bare_action, bare_domain}
 use Rattle.hv_text.specs.Shapes.{bare_piece, bare_trees, AreTidy, depth, depth_all}
 use Rattle.hv_syntax.proofs.AgainDomains.{domain_again}
 use Rattle.hv_syntax.proofs.Alike.{domains_alike}
@@ -17,10 +17,16 @@ use Rattle.hv_syntax.proofs.TextWords.{definition_pieces}
 use Rattle.hv_syntax.proofs.TextSpellings.{domain_table, one_domain, one_text}
 use Rattle.hv_syntax.proofs.Fitting.{Fits, is_tidy, is_within, all_fit}
 use Rattle.hv_syntax.proofs.FittingTexts.{domain_said_fits}
-use Rattle.hv_syntax.proofs.PlacesSections.{map_twice, term_twice, atom_twice, typed_twice, formula_twice, literal_twice, domain_found}
+use Rattle.hv_syntax.proofs.PlacesSections.{map_twice, term_twice, atom_twice, typed_twice, variables_twice, formula_twice, literal_twice, domain_found}
 
-effect_twice : (e : Effect) → bare_effect (bare_effect e) ≡ bare_effect e
-effect_twice e = ap (λ ls. record { literals = ls }) (map_twice bare_literal literal_twice e.literals)
+mutual
+  effect_twice : (e : Effect) → bare_effect (bare_effect e) ≡ bare_effect e
+  effect_twice no_items = refl
+  effect_twice (more_items i e) = rw (item_twice i, effect_twice e) refl
+
+  item_twice : (i : Item) → bare_item (bare_item i) ≡ bare_item i
+  item_twice (becomes l) = ap becomes (literal_twice l)
+  item_twice (for_each vs e) = rw (variables_twice vs, effect_twice e) refl
 
 label_twice : (l : Option WordAt) → option_map bare_word (option_map bare_word l) ≡ option_map bare_word l
 label_twice None = refl
@@ -40,21 +46,21 @@ network_twice n =
     ∙ ap (λ cs. network (map bare_subtask n.subtasks) n.is_ordered (map bare_pair n.pairs) cs) (map_twice bare_constraint constraint_twice n.constraints)
 
 predicate_twice : (p : Predicate) → bare_predicate (bare_predicate p) ≡ bare_predicate p
-predicate_twice p = ap (λ vs. record { name = bare_word p.name; parameters = vs }) (typed_twice p.parameters)
+predicate_twice p = ap (λ vs. record { name = bare_word p.name; parameters = vs }) (variables_twice p.parameters)
 
 task_twice : (t : Task) → bare_task (bare_task t) ≡ bare_task t
-task_twice t = ap (λ vs. record (bare_task t) { parameters = vs }) (typed_twice t.parameters)
+task_twice t = ap (λ vs. record (bare_task t) { parameters = vs }) (variables_twice t.parameters)
 
 method_twice : (m : Method) → bare_method (bare_method m) ≡ bare_method m
 method_twice m =
-    ap (λ vs. record (bare_method (bare_method m)) { parameters = vs }) (typed_twice m.parameters)
-    ∙ ap (λ a. record (bare_method (bare_method m)) { parameters = map bare_typed m.parameters; task = a }) (atom_twice m.task)
+    ap (λ vs. record (bare_method (bare_method m)) { parameters = vs }) (variables_twice m.parameters)
+    ∙ ap (λ a. record (bare_method (bare_method m)) { parameters = map bare_variable m.parameters; task = a }) (atom_twice m.task)
     ∙ ap (λ f. record (bare_method m) { precondition = f; network = bare_network (bare_network m.network) }) (formula_twice m.precondition)
     ∙ ap (λ n. record (bare_method m) { network = n }) (network_twice m.network)
 
 action_twice : (a : Action) → bare_action (bare_action a) ≡ bare_action a
 action_twice a =
-    ap (λ vs. record (bare_action (bare_action a)) { parameters = vs }) (typed_twice a.parameters)
+    ap (λ vs. record (bare_action (bare_action a)) { parameters = vs }) (variables_twice a.parameters)
     ∙ ap (λ f. record (bare_action a) { precondition = f; effect = bare_effect (bare_effect a.effect) }) (formula_twice a.precondition)
     ∙ ap (λ e. record (bare_action a) { effect = e }) (effect_twice a.effect)
 

@@ -28,7 +28,7 @@ use Rattle.hv_syntax.proofs.TextSpellings.{problem_table, one_problem, one_text}
 use Rattle.hv_syntax.proofs.Fitting.{Fits, all_fit}
 use Rattle.hv_syntax.proofs.FittingTexts.{problem_said_fits}
 use Rattle.hv_syntax.proofs.Places.{Same, same_map, same_if, every_same, sorted_same, word_is_same, typed_list_same, only_bare, formula_same, ground_literal_same}
-use Rattle.hv_syntax.proofs.PlacesSections.{ok_of, SameOk, then_same, sections_same, one_name_same, title_same, htn_same, map_twice, typed_twice, formula_twice, literal_twice, found}
+use Rattle.hv_syntax.proofs.PlacesSections.{ok_of, SameOk, then_same, sections_same, one_name_same, title_same, htn_same, map_twice, typed_twice, variables_twice, formula_twice, literal_twice, found}
 use Rattle.hv_syntax.proofs.ReadBack.{network_twice, Tidied, Found, One, definition_found}
 
 abbrev bare_section : ProblemSection → ProblemSection
@@ -53,7 +53,7 @@ section_alike w s t ts =
     (same_if bare_section (is w (codes ":requirements")) _ _ _ _
     (same_map has_requirements has_requirements (map bare_word) bare_section (λ x y e. ap has_requirements e) (every keyword_of (bare_trees ts)) (every keyword_of ts) (every_same keyword_of bare_word (sorted_same sorts.Keyword) ts))
     (same_if bare_section (is w (codes ":objects")) _ _ _ _
-    (same_map has_objects has_objects (map bare_typed) bare_section (λ x y e. ap has_objects e) (typed_list_of sorts.Name (bare_trees ts)) (typed_list_of sorts.Name ts) (typed_list_same sorts.Name ts))
+    (same_map has_objects has_objects (map bare_typed) bare_section (λ x y e. ap has_objects e) (typed_list_of (bare_trees ts)) (typed_list_of ts) (typed_list_same ts))
     (same_if bare_section (is w (codes ":htn")) _ _ _ _
     (same_map has_htn has_htn bare_htn bare_section (λ x y e. ap has_htn e) (htn_of s (bare_trees ts)) (htn_of t ts) (htn_same s t ts))
     (same_if bare_section (is w (codes ":init")) _ _ _ _
@@ -121,7 +121,7 @@ problem_found us vs p h k =
     (sym (problem_same us) ∙ ap (λ x. option_map bare_problem (ok_of (problem_of x))) h ∙ problem_same vs ∙ ap (λ r. option_map bare_problem (ok_of r)) k)
 
 htn_twice : (h : Htn) → bare_htn (bare_htn h) ≡ bare_htn h
-htn_twice h = ap (λ vs. record (bare_htn (bare_htn h)) { parameters = vs }) (typed_twice h.parameters) ∙ ap (λ n. record (bare_htn h) { network = n }) (network_twice h.network)
+htn_twice h = ap (λ vs. record (bare_htn (bare_htn h)) { parameters = vs }) (variables_twice h.parameters) ∙ ap (λ n. record (bare_htn h) { network = n }) (network_twice h.network)
 
 goal_twice : (f : Option Formula) → option_map bare_formula (option_map bare_formula f) ≡ option_map bare_formula f
 goal_twice None = refl

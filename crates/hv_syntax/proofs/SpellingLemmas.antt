@@ -12,13 +12,14 @@ use Rattle.hv_syntax.specs.declared.word.Head.{Head}
 use Rattle.hv_syntax.specs.declared.word.Head.TheVariants as heads
 use Rattle.hv_syntax.specs.Words.{is, sort_of, is_sort, head_of}
 use Rattle.hv_syntax.specs.inside.Words.{sorted_word_of, symbol_by, symbol_of}
-use Rattle.hv_syntax.specs.inside.Reading.{both, every, all_some, behind, tuple}
-use Rattle.hv_syntax.specs.Values.{WordAt, word_at, Term, Atom, atom_with, no_type, of_type, Typed, Formula, Formulas, holds, and, or, not, imply, forall, exists, equal, no_formulas, more_formulas, formulas_of}
+use Rattle.hv_syntax.specs.inside.Reading.{both, every, all_some, tuple}
+use Rattle.hv_syntax.specs.inside.Lists.{single}
+use Rattle.hv_syntax.specs.Values.{WordAt, word_at, Term, Atom, atom_with, TypeOf, no_type, of_type, TypedBy, Typed, Variable, Formula, Formulas, holds, and, or, not, imply, forall, exists, equal, no_formulas, more_formulas, formulas_of}
 use Rattle.hv_syntax.specs.inside.Terms.{term_by, term_of, atom_of}
 use Rattle.hv_syntax.specs.TypedLists.{with_type}
-use Rattle.hv_syntax.specs.inside.TypedLists.{is_empty, typed_by, typed_list_of}
+use Rattle.hv_syntax.specs.inside.TypedLists.{is_empty, with_rest, typed_by, type_name_of, typed_list_of, some_names, type_of, typed_variables_of}
 use Rattle.hv_syntax.specs.inside.Formulas.{few, variables_of, and_all, or_all, formula_by, formula_of, formula_among, each_formula}
-use Rattle.hv_syntax.specs.Spellings.{SpellsWord, a_word, SpellsSymbol, a_symbol, SpellsTerm, a_name, a_variable, SpellEach, no_more, one_more, SpellsAtom, an_atom, join, SpellsTyped, without_type, a_group, SpellsVariables, variables, SpellsFormula, nothing, a_fact, a_conjunction, a_disjunction, a_negation, an_implication, for_all, for_some, an_equality, SpellFormulas, no_members, more_members}
+use Rattle.hv_syntax.specs.Spellings.{SpellsWord, a_word, SpellsSymbol, a_symbol, SpellsTerm, a_name, a_variable, SpellEach, no_more, one_more, SpellsAtom, an_atom, join, SpellsTypeName, a_type_name, SpellsType, one_type, either_type, SpellsTypedBy, without_type, a_group, SpellsTyped, SpellsTypedVariables, SpellsVariables, variables, SpellsFormula, nothing, a_fact, a_conjunction, a_disjunction, a_negation, an_implication, for_all, for_some, an_equality, SpellFormulas, no_members, more_members}
 
 -- the same word
 pub same_word : (w v : List ℕ) → is w v ≡ true → w ≡ v
@@ -136,26 +137,13 @@ no_dash : (sort : Sort) (w : List ℕ) (b : Bool) → is w (codes "-") ≡ b →
 no_dash sort w false e h = e
 no_dash sort w true e h = let clash : is_sort sort w ≡ false = dash_sort sort w e in cc
 
--- names wait
-waited : (sort : Sort) (v : List WordAt) (ts us : Trees) (ws : List WordAt) → SpellEach (SpellsWord sort) ts ws → typed_by sort false v (join ts us) ≡ typed_by sort false (v ++ ws) us
-waited sort v _ us _ no_more = ap (λ x. typed_by sort false x us) (sym (append-nil v))
-waited sort v _ us _ (one_more _ ts _ ws (a_word w s e) k) =
-    let n : is w (codes "-") ≡ false = no_dash sort w (is w (codes "-")) refl e in
-    rw (n, e) (waited sort (v ++ word_at w s ∷ []) ts us ws k ∙ ap (λ x. typed_by sort false x us) (append_assoc v (word_at w s ∷ []) ws))
-
 join-none : (ts : Trees) → join ts none ≡ ts
 join-none none = refl
 join-none (more t ts) = ap (more t) (join-none ts)
 
-typed_read : (sort : Sort) (ts : Trees) (xs : List Typed) → SpellsTyped sort ts xs → typed_list_of sort ts ≡ Some xs
-typed_read sort _ _ (without_type ts ws h) =
-    ap (typed_by sort false []) (sym (join-none ts)) ∙ waited sort [] ts none ws h
-typed_read sort _ _ (a_group t ts w ws d p _ _ us xs h k e (a_word n q named) rest) =
-    let first : typed_by sort false [] (more t (join ts (more (word d p) (more (word n q) us)))) ≡ typed_by sort false (w ∷ ws) (more (word d p) (more (word n q) us)) =
-    waited sort [] (more t ts) (more (word d p) (more (word n q) us)) (w ∷ ws) (one_more t ts w ws h k) in
-    let second : typed_by sort false (w ∷ ws) (more (word d p) (more (word n q) us)) ≡ Some (with_type (of_type (word_at n q)) (w ∷ ws) ++ xs) =
-    rw (e, named, typed_read sort us xs rest) refl in
-    first ∙ second
+join_assoc : (ts us vs : Trees) → join (join ts us) vs ≡ join ts (join us vs)
+join_assoc none us vs = refl
+join_assoc (more t ts) us vs = ap (more t) (join_assoc ts us vs)
 
 -- a word more behind those that wait
 one_behind : (sort : Sort) (ts : Trees) (ws : List WordAt) (w : List ℕ) (s : Span) → SpellEach (SpellsWord sort) ts ws → is_sort sort w ≡ true
@@ -163,76 +151,125 @@ one_behind : (sort : Sort) (ts : Trees) (ws : List WordAt) (w : List ℕ) (s : S
 one_behind sort _ _ w s no_more e = one_more (word w s) none (word_at w s) [] (a_word w s e) no_more
 one_behind sort _ _ w s (one_more t ts v ws h k) e = one_more t (join ts (more (word w s) none)) v (ws ++ word_at w s ∷ []) h (one_behind sort ts ws w s k e)
 
-join_assoc : (ts us vs : Trees) → join (join ts us) vs ≡ join ts (join us vs)
-join_assoc none us vs = refl
-join_assoc (more t ts) us vs = ap (more t) (join_assoc ts us vs)
+module _ {T : Type 0} (read : Tree → Option T) (Spells : Tree → T → Type 0) (not_written : T) (sort : Sort)
+    (type_read : (t : Tree) (n : T) → Spells t n → read t ≡ Some n) (type_spelled : (t : Tree) → IfSome (read t) (Spells t)) where
+  abbrev Typings : Trees → List (TypedBy T) → Type 0
+  Typings ts xs = SpellsTypedBy Spells not_written sort ts xs
 
-group_of : (sort : Sort) (ts : Trees) (ws : List WordAt) (d n : List ℕ) (p q : Span) (us : Trees) (xs : List Typed) → SpellEach (SpellsWord sort) ts ws → is_empty ws ≡ false
-    → is d (codes "-") ≡ true → is_sort sorts.Name n ≡ true → SpellsTyped sort us xs
-    → SpellsTyped sort (join ts (more (word d p) (more (word n q) us))) (with_type (of_type (word_at n q)) ws ++ xs)
-group_of sort _ _ d n p q us xs no_more some e named rest = let clash : true ≡ false = some in cc
-group_of sort _ _ d n p q us xs (one_more t ts w ws h k) some e named rest =
-    a_group t ts w ws d p (word n q) (word_at n q) us xs h k e (a_word n q named) rest
+  -- words wait
+  waited : (v : List WordAt) (ts us : Trees) (ws : List WordAt) → SpellEach (SpellsWord sort) ts ws → typed_by read not_written sort false v (join ts us) ≡ typed_by read not_written sort false (v ++ ws) us
+  waited v _ us _ no_more = ap (λ x. typed_by read not_written sort false x us) (sym (append-nil v))
+  waited v _ us _ (one_more _ ts _ ws (a_word w s e) k) =
+      let n : is w (codes "-") ≡ false = no_dash sort w (is w (codes "-")) refl e in
+      rw (n, e) (waited (v ++ word_at w s ∷ []) ts us ws k ∙ ap (λ x. typed_by read not_written sort false x us) (append_assoc v (word_at w s ∷ []) ws))
 
--- the type behind a dash, where the rest behind it is spelled
-named_next : (sort : Sort) (us : Trees) (ws : List WordAt) → SpellEach (SpellsWord sort) us ws → (w : List ℕ) (s : Span) → is w (codes "-") ≡ true → is_empty ws ≡ false
-    → (n : List ℕ) (q : Span) (ts : Trees) (named : Bool) → is_sort sorts.Name n ≡ named → IfSome (typed_by sort false [] ts) (SpellsTyped sort ts)
-    → IfSome (if named then behind (with_type (of_type (word_at n q)) ws) (typed_by sort false [] ts) else None) (SpellsTyped sort (join us (more (word w s) (more (word n q) ts))))
-named_next sort us ws h w s d a n q ts true e k =
-    if_map (λ xs. with_type (of_type (word_at n q)) ws ++ xs) (SpellsTyped sort ts) (SpellsTyped sort (join us (more (word w s) (more (word n q) ts))))
-    (λ xs rest. group_of sort us ws w n s q ts xs h a d e rest) (typed_by sort false [] ts) k
-named_next sort us ws h w s d a n q ts false e k = tt
+  pub list_read : (ts : Trees) (xs : List (TypedBy T)) → SpellsTypedBy Spells not_written sort ts xs → typed_by read not_written sort false [] ts ≡ Some xs
+  list_read _ _ (without_type ts ws h) =
+      ap (typed_by read not_written sort false []) (sym (join-none ts)) ∙ waited [] ts none ws h
+  list_read _ _ (a_group t ts w ws d p u n us xs h k e named rest) =
+      let first : typed_by read not_written sort false [] (more t (join ts (more (word d p) (more u us)))) ≡ typed_by read not_written sort false (w ∷ ws) (more (word d p) (more u us)) =
+      waited [] (more t ts) (more (word d p) (more u us)) (w ∷ ws) (one_more t ts w ws h k) in
+      let second : typed_by read not_written sort false (w ∷ ws) (more (word d p) (more u us)) ≡ Some (with_type n (w ∷ ws) ++ xs) =
+      rw (e, type_read u n named, list_read us xs rest) refl in
+      first ∙ second
 
--- a word, where the rest behind it is spelled
-word_next : (sort : Sort) (us : Trees) (ws : List WordAt) → SpellEach (SpellsWord sort) us ws → (w : List ℕ) (s : Span) (ts : Trees) (dash named alone : Bool)
-    → is w (codes "-") ≡ dash → is_sort sort w ≡ named → is_empty ws ≡ alone
-    → ((vs : Trees) (xs : List WordAt) → SpellEach (SpellsWord sort) vs xs → IfSome (typed_by sort false xs ts) (SpellsTyped sort (join vs ts)))
-    → (is w (codes "-") ≡ true → is_empty ws ≡ false → IfSome (typed_by sort true ws ts) (SpellsTyped sort (join us (more (word w s) ts))))
-    → IfSome (if dash then (if alone then None else typed_by sort true ws ts) else if named then typed_by sort false (ws ++ word_at w s ∷ []) ts else None)
-    (SpellsTyped sort (join us (more (word w s) ts)))
-word_next sort us ws h w s ts true named true d n a rest after = tt
-word_next sort us ws h w s ts true named false d n a rest after = after d a
-word_next sort us ws h w s ts false true alone d n a rest after =
-    subst (λ vs. IfSome (typed_by sort false (ws ++ word_at w s ∷ []) ts) (SpellsTyped sort vs)) (join_assoc us (more (word w s) none) ts)
-    (rest (join us (more (word w s) none)) (ws ++ word_at w s ∷ []) (one_behind sort us ws w s h n))
-word_next sort us ws h w s ts false false alone d n a rest after = tt
+  group_of : (ts us : Trees) (ws : List WordAt) (d : List ℕ) (p : Span) (u : Tree) (n : T) (xs : List (TypedBy T)) → SpellEach (SpellsWord sort) ts ws → is_empty ws ≡ false
+      → is d (codes "-") ≡ true → Spells u n → Typings us xs
+      → Typings (join ts (more (word d p) (more u us))) (with_type n ws ++ xs)
+  group_of _ us _ d p u n xs no_more some e named rest = let clash : true ≡ false = some in cc
+  group_of _ us _ d p u n xs (one_more t ts w ws h k) some e named rest = a_group t ts w ws d p u n us xs h k e named rest
 
-mutual
-  typed_spelled : (sort : Sort) (ts us : Trees) (ws : List WordAt) → SpellEach (SpellsWord sort) us ws
-      → IfSome (typed_by sort false ws ts) (SpellsTyped sort (join us ts))
-  typed_spelled sort none us ws h = subst (λ vs. SpellsTyped sort vs (with_type no_type ws)) (sym (join-none us)) (without_type us ws h)
-  typed_spelled sort (more (list vs s) ts) us ws h = tt
-  typed_spelled sort (more (word w s) ts) us ws h =
-      word_next sort us ws h w s ts (is w (codes "-")) (is_sort sort w) (is_empty ws) refl refl refl (λ vs xs k. typed_spelled sort ts vs xs k) (λ d a. type_spelled sort ts us ws h w s d a)
+  -- a word, where the rest behind it is spelled
+  word_next : (us : Trees) (ws : List WordAt) → SpellEach (SpellsWord sort) us ws → (w : List ℕ) (s : Span) (ts : Trees) (dash named alone : Bool)
+      → is w (codes "-") ≡ dash → is_sort sort w ≡ named → is_empty ws ≡ alone
+      → ((vs : Trees) (xs : List WordAt) → SpellEach (SpellsWord sort) vs xs → IfSome (typed_by read not_written sort false xs ts) (Typings (join vs ts)))
+      → (is w (codes "-") ≡ true → is_empty ws ≡ false → IfSome (typed_by read not_written sort true ws ts) (Typings (join us (more (word w s) ts))))
+      → IfSome (if dash then (if alone then None else typed_by read not_written sort true ws ts) else if named then typed_by read not_written sort false (ws ++ word_at w s ∷ []) ts else None)
+      (Typings (join us (more (word w s) ts)))
+  word_next us ws h w s ts true named true d n a rest after = tt
+  word_next us ws h w s ts true named false d n a rest after = after d a
+  word_next us ws h w s ts false true alone d n a rest after =
+      subst (λ vs. IfSome (typed_by read not_written sort false (ws ++ word_at w s ∷ []) ts) (Typings vs)) (join_assoc us (more (word w s) none) ts)
+      (rest (join us (more (word w s) none)) (ws ++ word_at w s ∷ []) (one_behind sort us ws w s h n))
+  word_next us ws h w s ts false false alone d n a rest after = tt
 
-  type_spelled : (sort : Sort) (ts us : Trees) (ws : List WordAt) → SpellEach (SpellsWord sort) us ws → (w : List ℕ) (s : Span) → is w (codes "-") ≡ true → is_empty ws ≡ false
-      → IfSome (typed_by sort true ws ts) (SpellsTyped sort (join us (more (word w s) ts)))
-  type_spelled sort none us ws h w s d a = tt
-  type_spelled sort (more (list vs p) ts) us ws h w s d a = tt
-  type_spelled sort (more (word n q) ts) us ws h w s d a = named_next sort us ws h w s d a n q ts (is_sort sorts.Name n) refl (typed_spelled sort ts none [] no_more)
+  mutual
+    typed_spelled : (ts us : Trees) (ws : List WordAt) → SpellEach (SpellsWord sort) us ws → IfSome (typed_by read not_written sort false ws ts) (Typings (join us ts))
+    typed_spelled none us ws h = subst (λ vs. Typings vs (with_type not_written ws)) (sym (join-none us)) (without_type us ws h)
+    typed_spelled (more (list vs s) ts) us ws h = tt
+    typed_spelled (more (word w s) ts) us ws h =
+        word_next us ws h w s ts (is w (codes "-")) (is_sort sort w) (is_empty ws) refl refl refl (λ vs xs k. typed_spelled ts vs xs k) (λ d a. type_next ts us ws h w s d a)
 
-pub typed_list_spelled : (sort : Sort) (ts : Trees) → IfSome (typed_list_of sort ts) (SpellsTyped sort ts)
-typed_list_spelled sort ts = typed_spelled sort ts none [] no_more
+    -- the type behind a dash
+    type_next : (ts us : Trees) (ws : List WordAt) → SpellEach (SpellsWord sort) us ws → (w : List ℕ) (s : Span) → is w (codes "-") ≡ true → is_empty ws ≡ false
+        → IfSome (typed_by read not_written sort true ws ts) (Typings (join us (more (word w s) ts)))
+    type_next none us ws h w s d a = tt
+    type_next (more u ts) us ws h w s d a =
+        if_both (with_rest ws) (Spells u) (Typings ts) (Typings (join us (more (word w s) (more u ts)))) (λ n xs k l. group_of us ts ws w s u n xs h a d k l)
+        (read u) (typed_by read not_written sort false [] ts) (type_spelled u) (typed_spelled ts none [] no_more)
 
-pub typed_list_read : (sort : Sort) (ts : Trees) (xs : List Typed) → SpellsTyped sort ts xs → typed_list_of sort ts ≡ Some xs
-typed_list_read = typed_read
+  pub list_spelled : (ts : Trees) → IfSome (typed_by read not_written sort false [] ts) (SpellsTypedBy Spells not_written sort ts)
+  list_spelled ts = typed_spelled ts none [] no_more
 
-pub typed_table : (sort : Sort) (ts : Trees) (xs : List Typed) → SpellsTyped sort ts xs ↔ (typed_list_of sort ts ≡ Some xs)
-typed_table sort = agree (typed_list_of sort) (SpellsTyped sort) (typed_read sort) (typed_list_spelled sort)
+-- typed lists of names
+type_name_read : (t : Tree) (n : TypeOf) → SpellsTypeName t n → type_name_of t ≡ Some n
+type_name_read _ _ (a_type_name t n h) = ap (option_map of_type) (word_read sorts.Name t n h)
+
+type_name_spelled : (t : Tree) → IfSome (type_name_of t) (SpellsTypeName t)
+type_name_spelled t = if_map of_type (SpellsWord sorts.Name t) (SpellsTypeName t) (λ n h. a_type_name t n h) (sorted_word_of sorts.Name t) (word_spelled sorts.Name t)
+
+pub typed_list_read : (ts : Trees) (xs : List Typed) → SpellsTyped ts xs → typed_list_of ts ≡ Some xs
+typed_list_read = list_read type_name_of SpellsTypeName no_type sorts.Name type_name_read type_name_spelled
+
+pub typed_list_spelled : (ts : Trees) → IfSome (typed_list_of ts) (SpellsTyped ts)
+typed_list_spelled = list_spelled type_name_of SpellsTypeName no_type sorts.Name type_name_read type_name_spelled
+
+pub typed_table : (ts : Trees) (xs : List Typed) → SpellsTyped ts xs ↔ (typed_list_of ts ≡ Some xs)
+typed_table = agree typed_list_of SpellsTyped typed_list_read typed_list_spelled
+
+-- typed lists of variables
+type_read : (t : Tree) (ns : List WordAt) → SpellsType t ns → type_of t ≡ Some ns
+type_read _ _ (one_type _ _ (a_word w s e)) = rw e refl
+type_read _ _ (either_type w p s t ts n ns e h k) =
+    rw (e, word_read sorts.Name t n h, each_read (sorted_word_of sorts.Name) (SpellsWord sorts.Name) (word_read sorts.Name) (word_spelled sorts.Name) ts ns k) refl
+
+either_if : (w : List ℕ) (p s : Span) (ts : Trees) (b : Bool) → is w (codes "either") ≡ b → IfSome (if b then some_names ts else None) (SpellsType (list (more (word w p) ts) s))
+either_if w p s none true e = tt
+either_if w p s (more t ts) true e =
+    if_both ◌∷◌ (SpellsWord sorts.Name t) (SpellEach (SpellsWord sorts.Name) ts) (SpellsType (list (more (word w p) (more t ts)) s)) (λ n ns h k. either_type w p s t ts n ns e h k)
+    (sorted_word_of sorts.Name t) (every (sorted_word_of sorts.Name) ts) (word_spelled sorts.Name t)
+    (each_spelled (sorted_word_of sorts.Name) (SpellsWord sorts.Name) (word_read sorts.Name) (word_spelled sorts.Name) ts)
+either_if w p s ts false e = tt
+
+type_spelled : (t : Tree) → IfSome (type_of t) (SpellsType t)
+type_spelled (word w s) =
+    if_map single (SpellsWord sorts.Name (word w s)) (SpellsType (word w s)) (λ n h. one_type (word w s) n h) (sorted_word_of sorts.Name (word w s)) (word_spelled sorts.Name (word w s))
+type_spelled (list none s) = tt
+type_spelled (list (more (word w p) ts) s) = either_if w p s ts (is w (codes "either")) refl
+type_spelled (list (more (list us p) ts) s) = tt
+
+pub typed_variables_read : (ts : Trees) (xs : List Variable) → SpellsTypedVariables ts xs → typed_variables_of ts ≡ Some xs
+typed_variables_read = list_read type_of SpellsType [] sorts.Variable type_read type_spelled
+
+pub typed_variables_spelled : (ts : Trees) → IfSome (typed_variables_of ts) (SpellsTypedVariables ts)
+typed_variables_spelled = list_spelled type_of SpellsType [] sorts.Variable type_read type_spelled
+
+pub typed_variables_table : (ts : Trees) (xs : List Variable) → SpellsTypedVariables ts xs ↔ (typed_variables_of ts ≡ Some xs)
+typed_variables_table = agree typed_variables_of SpellsTypedVariables typed_variables_read typed_variables_spelled
 
 -- variables of a quantifier
-variables_read : (t : Tree) (xs : List Typed) → SpellsVariables t xs → variables_of t ≡ Some xs
-variables_read _ _ (variables ts s xs h few) = let l : nat_le (length xs) 16 ≡ true = le-leb _ _ few in rw (typed_read sorts.Variable ts xs h, l) refl
+pub variables_read : (t : Tree) (xs : List Variable) → SpellsVariables t xs → variables_of t ≡ Some xs
+variables_read _ _ (variables ts s xs h few) = let l : nat_le (length xs) 16 ≡ true = le-leb _ _ few in rw (typed_variables_read ts xs h, l) refl
 
-few_if : (ts : Trees) (s : Span) (xs : List Typed) (b : Bool) → nat_le (length xs) 16 ≡ b → SpellsTyped sorts.Variable ts xs → IfSome (if b then Some xs else None) (SpellsVariables (list ts s))
+few_if : (ts : Trees) (s : Span) (xs : List Variable) (b : Bool) → nat_le (length xs) 16 ≡ b → SpellsTypedVariables ts xs → IfSome (if b then Some xs else None) (SpellsVariables (list ts s))
 few_if ts s xs true l h = variables ts s xs h (leb-true _ _ l)
 few_if ts s xs false l h = tt
 
-variables_spelled : (t : Tree) → IfSome (variables_of t) (SpellsVariables t)
+pub variables_spelled : (t : Tree) → IfSome (variables_of t) (SpellsVariables t)
 variables_spelled (word w s) = tt
 variables_spelled (list ts s) =
-    if_then few (SpellsTyped sorts.Variable ts) (SpellsVariables (list ts s)) (λ xs h. few_if ts s xs (nat_le (length xs) 16) refl h)
-    (typed_list_of sorts.Variable ts) (typed_list_spelled sorts.Variable ts)
+    if_then few (SpellsTypedVariables ts) (SpellsVariables (list ts s)) (λ xs h. few_if ts s xs (nat_le (length xs) 16) refl h)
+    (typed_variables_of ts) (typed_variables_spelled ts)
 
 -- formulas: from the table to the reading
 abbrev list_of : Formulas → List Formula
@@ -273,7 +310,7 @@ all_spelled (more t ts) k =
     if_both ◌∷◌ (SpellsFormula t) (λ fs. SpellFormulas ts (formulas_of fs)) (λ fs. SpellFormulas (more t ts) (formulas_of fs)) (λ f fs p q. more_members t ts f (formulas_of fs) p q)
     (formula_of t) (all_some (each_formula ts)) k.0 (all_spelled ts k.1)
 
-abbrev IsQuantified : Tree → Tree → List Typed × Formula → Type 0
+abbrev IsQuantified : Tree → Tree → List Variable × Formula → Type 0
 IsQuantified t u (xs, f) = SpellsVariables t xs × SpellsFormula u f
 
 quantified_spelled : (t u : Tree) → IfSome (formula_of u) (SpellsFormula u) → IfSome (both tuple (variables_of t) (formula_of u)) (IsQuantified t u)

@@ -3,39 +3,39 @@ use Rattle.std.proofs.Common.{◌≡◌, ◌&&◌, Bool, true, false, List, [], 
 use Rattle.std.specs.Prelude.{IfSome}
 use Rattle.hv_text.specs.Trees.{Tree, word, list, Trees, none, more}
 use Rattle.hv_text.specs.declared.span.Span.{Span}
-use Rattle.hv_syntax.specs.declared.word.Sort.TheVariants as sorts
 use Rattle.hv_syntax.specs.declared.field.Slot.{Slot}
 use Rattle.hv_syntax.specs.declared.field.Slot.TheVariants as slots
 use Rattle.hv_syntax.specs.inside.Words.{symbol_of}
 use Rattle.hv_syntax.specs.inside.Reading.{both, every, tuple}
-use Rattle.hv_syntax.specs.Values.{WordAt, Atom, Typed, Formula, and, no_formulas, Effect, effect, Subtask, Pair, Constraint, Network, Predicate, predicate, Task, task, Method, method, Action, action, Htn, htn}
+use Rattle.hv_syntax.specs.Values.{WordAt, Atom, Variable, Formula, and, no_formulas, Effect, no_items, Subtask, Pair, Constraint, Network, Predicate, predicate, Task, task, Method, method, Action, action, Htn, htn}
 use Rattle.hv_syntax.specs.inside.Terms.{atom_of}
-use Rattle.hv_syntax.specs.inside.TypedLists.{typed_list_of}
+use Rattle.hv_syntax.specs.inside.TypedLists.{typed_variables_of}
 use Rattle.hv_syntax.specs.inside.Lists.{listed}
 use Rattle.hv_syntax.specs.inside.Formulas.{formula_of}
-use Rattle.hv_syntax.specs.inside.Literals.{effect_of}
+use Rattle.hv_syntax.specs.inside.Effects.{effect_of}
 use Rattle.hv_syntax.specs.Fields.{field, is_field_list}
 use Rattle.hv_syntax.specs.inside.Networks.{pair_of, constraint_of, subtask_of, listed_at, subtasks_by, network_with, network_of}
 use Rattle.hv_syntax.specs.Declarations.{is_nothing, method_slots}
 use Rattle.hv_syntax.specs.inside.Declarations.{predicate_of, parameters_at, precondition_at, effect_at, task_at, task_named, task_of, method_named, method_of, action_named, action_of}
 use Rattle.hv_syntax.specs.Problems.{htn_slots}
 use Rattle.hv_syntax.specs.inside.Problems.{htn_of}
-use Rattle.hv_syntax.specs.Spellings.{SpellsSymbol, SpellEach, SpellsList, SpellsAtom, SpellsTyped, SpellsFormula, SpellsEffect, SpellsSubtask, SpellsPair, SpellsConstraint}
+use Rattle.hv_syntax.specs.Spellings.{SpellsSymbol, SpellEach, SpellsList, SpellsAtom, SpellsTypedVariables, SpellsFormula, SpellsEffect, SpellsSubtask, SpellsPair, SpellsConstraint}
 use Rattle.hv_syntax.specs.Tables.{SpellsIfAny, is_absent, is_present, SpellsField, it_stands, SpellsParameters, parameters, SpellsForm, no_form, unordered, ordered, SpellsNetwork, a_network, SpellsPredicate, a_predicate, SpellsTask, a_task, SpellsMethod, a_method, SpellsAction, an_action, SpellsHtn, an_htn}
-use Rattle.hv_syntax.proofs.SpellingLemmas.{if_map, if_both, if_then, if_weaker, symbol_read, symbol_spelled, each_read, each_spelled, atom_read, atom_spelled, typed_list_read, typed_list_spelled, formula_is_read, formula_is_spelled}
-use Rattle.hv_syntax.proofs.PartSpellings.{effect_read, effect_spelled, subtasks_read, subtasks_spelled, pairs_read, pairs_spelled, constraints_read, constraints_spelled}
+use Rattle.hv_syntax.proofs.SpellingLemmas.{if_map, if_both, if_then, if_weaker, symbol_read, symbol_spelled, each_read, each_spelled, atom_read, atom_spelled, typed_variables_read, typed_variables_spelled, formula_is_read, formula_is_spelled}
+use Rattle.hv_syntax.proofs.EffectSpellings.{effect_read, effect_spelled}
+use Rattle.hv_syntax.proofs.PartSpellings.{subtasks_read, subtasks_spelled, pairs_read, pairs_spelled, constraints_read, constraints_spelled}
 
 -- fields that may be absent
-parameters_read : (o : Option Tree) (xs : List Typed) → SpellsIfAny SpellsParameters [] o xs → parameters_at o ≡ Some xs
+parameters_read : (o : Option Tree) (xs : List Variable) → SpellsIfAny SpellsParameters [] o xs → parameters_at o ≡ Some xs
 parameters_read _ _ is_absent = refl
-parameters_read _ _ (is_present _ _ (parameters ts s xs h)) = typed_list_read sorts.Variable ts xs h
+parameters_read _ _ (is_present _ _ (parameters ts s xs h)) = typed_variables_read ts xs h
 
 parameters_spelled : (o : Option Tree) → IfSome (parameters_at o) (SpellsIfAny SpellsParameters [] o)
 parameters_spelled None = is_absent
 parameters_spelled (Some (word w s)) = tt
 parameters_spelled (Some (list ts s)) =
-    if_weaker (SpellsTyped sorts.Variable ts) (SpellsIfAny SpellsParameters [] (Some (list ts s))) (λ xs h. is_present (list ts s) xs (parameters ts s xs h)) (typed_list_of sorts.Variable ts)
-    (typed_list_spelled sorts.Variable ts)
+    if_weaker (SpellsTypedVariables ts) (SpellsIfAny SpellsParameters [] (Some (list ts s))) (λ xs h. is_present (list ts s) xs (parameters ts s xs h)) (typed_variables_of ts)
+    (typed_variables_spelled ts)
 
 precondition_read : (o : Option Tree) (f : Formula) → SpellsIfAny SpellsFormula (and no_formulas) o f → precondition_at o ≡ Some f
 precondition_read _ _ is_absent = refl
@@ -45,13 +45,13 @@ precondition_spelled : (o : Option Tree) → IfSome (precondition_at o) (SpellsI
 precondition_spelled None = is_absent
 precondition_spelled (Some t) = if_weaker (SpellsFormula t) (SpellsIfAny SpellsFormula (and no_formulas) (Some t)) (λ f h. is_present t f h) (formula_of t) (formula_is_spelled t)
 
-effect_at_read : (o : Option Tree) (e : Effect) → SpellsIfAny SpellsEffect (effect []) o e → effect_at o ≡ Some e
+effect_at_read : (o : Option Tree) (e : Effect) → SpellsIfAny SpellsEffect no_items o e → effect_at o ≡ Some e
 effect_at_read _ _ is_absent = refl
 effect_at_read _ _ (is_present t e h) = effect_read t e h
 
-effect_at_spelled : (o : Option Tree) → IfSome (effect_at o) (SpellsIfAny SpellsEffect (effect []) o)
+effect_at_spelled : (o : Option Tree) → IfSome (effect_at o) (SpellsIfAny SpellsEffect no_items o)
 effect_at_spelled None = is_absent
-effect_at_spelled (Some t) = if_weaker (SpellsEffect t) (SpellsIfAny SpellsEffect (effect []) (Some t)) (λ e h. is_present t e h) (effect_of t) (effect_spelled t)
+effect_at_spelled (Some t) = if_weaker (SpellsEffect t) (SpellsIfAny SpellsEffect no_items (Some t)) (λ e h. is_present t e h) (effect_of t) (effect_spelled t)
 
 task_at_read : (o : Option Tree) (a : Atom) → SpellsField SpellsAtom o a → task_at o ≡ Some a
 task_at_read _ _ (it_stands t a h) = atom_read t a h
@@ -110,14 +110,14 @@ network_spelled ts =
 
 -- predicates
 predicate_read : (t : Tree) (p : Predicate) → SpellsPredicate t p → predicate_of t ≡ Some p
-predicate_read _ _ (a_predicate t w ts s xs h k) = rw (symbol_read t w h, typed_list_read sorts.Variable ts xs k) refl
+predicate_read _ _ (a_predicate t w ts s xs h k) = rw (symbol_read t w h, typed_variables_read ts xs k) refl
 
 predicate_spelled : (t : Tree) → IfSome (predicate_of t) (SpellsPredicate t)
 predicate_spelled (word w s) = tt
 predicate_spelled (list none s) = tt
 predicate_spelled (list (more t ts) s) =
-    if_both predicate (SpellsSymbol t) (SpellsTyped sorts.Variable ts) (SpellsPredicate (list (more t ts) s)) (λ w xs h k. a_predicate t w ts s xs h k)
-    (symbol_of t) (typed_list_of sorts.Variable ts) (symbol_spelled t) (typed_list_spelled sorts.Variable ts)
+    if_both predicate (SpellsSymbol t) (SpellsTypedVariables ts) (SpellsPredicate (list (more t ts) s)) (λ w xs h k. a_predicate t w ts s xs h k)
+    (symbol_of t) (typed_variables_of ts) (symbol_spelled t) (typed_variables_spelled ts)
 
 pub predicates_read : (ts : Trees) (ps : List Predicate) → SpellEach SpellsPredicate ts ps → every predicate_of ts ≡ Some ps
 predicates_read = each_read predicate_of SpellsPredicate predicate_read predicate_spelled
@@ -160,10 +160,10 @@ pub method_read : (s : Span) (ts : Trees) (x : Method) → SpellsMethod s ts x �
 method_read s _ _ (a_method t w ts xs a n f h e k l m o) =
     rw (symbol_read t w h, e, parameters_read (field slots.Parameters ts) xs k, task_at_read (field slots.Task ts) a l, network_read ts n m, precondition_read (field slots.Precondition ts) f o) refl
 
-abbrev IsMethodHead : Trees → List Typed × Atom → Type 0
+abbrev IsMethodHead : Trees → List Variable × Atom → Type 0
 IsMethodHead ts (xs, a) = SpellsIfAny SpellsParameters [] (field slots.Parameters ts) xs × SpellsField SpellsAtom (field slots.Task ts) a
 
-abbrev IsMethodBody : Trees → (List Typed × Atom) × Network → Type 0
+abbrev IsMethodBody : Trees → (List Variable × Atom) × Network → Type 0
 IsMethodBody ts (q, n) = IsMethodHead ts q × SpellsNetwork ts n
 
 body_spelled : (ts : Trees) → IfSome (both tuple (both tuple (parameters_at (field slots.Parameters ts)) (task_at (field slots.Task ts))) (network_of ts)) (IsMethodBody ts)
@@ -173,7 +173,7 @@ body_spelled ts =
     (parameters_at (field slots.Parameters ts)) (task_at (field slots.Task ts)) (parameters_spelled (field slots.Parameters ts)) (task_at_spelled (field slots.Task ts)))
     (network_spelled ts)
 
-method_of_parts : (s : Span) (t : Tree) (ts : Trees) (w : WordAt) (q : (List Typed × Atom) × Network) (f : Formula) → SpellsSymbol t w → is_field_list method_slots ts ≡ true → IsMethodBody ts q
+method_of_parts : (s : Span) (t : Tree) (ts : Trees) (w : WordAt) (q : (List Variable × Atom) × Network) (f : Formula) → SpellsSymbol t w → is_field_list method_slots ts ≡ true → IsMethodBody ts q
     → SpellsIfAny SpellsFormula (and no_formulas) (field slots.Precondition ts) f → SpellsMethod s (more t ts) (method s w q f)
 method_of_parts s t ts w ((xs, a), n) f h e k l = a_method t w ts xs a n f h e k.0.0 k.0.1 k.1 l
 
@@ -195,10 +195,10 @@ pub action_read : (s : Span) (ts : Trees) (x : Action) → SpellsAction s ts x �
 action_read s _ _ (an_action t w ts xs x f h e k l m) =
     rw (symbol_read t w h, e, parameters_read (field slots.Parameters ts) xs k, effect_at_read (field slots.Effect ts) x l, precondition_read (field slots.Precondition ts) f m) refl
 
-abbrev IsActionHead : Trees → List Typed × Effect → Type 0
-IsActionHead ts (xs, e) = SpellsIfAny SpellsParameters [] (field slots.Parameters ts) xs × SpellsIfAny SpellsEffect (effect []) (field slots.Effect ts) e
+abbrev IsActionHead : Trees → List Variable × Effect → Type 0
+IsActionHead ts (xs, e) = SpellsIfAny SpellsParameters [] (field slots.Parameters ts) xs × SpellsIfAny SpellsEffect no_items (field slots.Effect ts) e
 
-action_of_parts : (s : Span) (t : Tree) (ts : Trees) (w : WordAt) (q : List Typed × Effect) (f : Formula) → SpellsSymbol t w → is_field_list task_slots ts ≡ true → IsActionHead ts q
+action_of_parts : (s : Span) (t : Tree) (ts : Trees) (w : WordAt) (q : List Variable × Effect) (f : Formula) → SpellsSymbol t w → is_field_list task_slots ts ≡ true → IsActionHead ts q
     → SpellsIfAny SpellsFormula (and no_formulas) (field slots.Precondition ts) f → SpellsAction s (more t ts) (action s w q f)
 action_of_parts s t ts w (xs, x) f h e k l = an_action t w ts xs x f h e k.0 k.1 l
 
@@ -209,7 +209,7 @@ action_fields s t ts w h =
     (is_field_list task_slots ts)
     (λ e. if_both (action s w) (IsActionHead ts) (SpellsIfAny SpellsFormula (and no_formulas) (field slots.Precondition ts)) (SpellsAction s (more t ts)) (λ q f k l. action_of_parts s t ts w q f h e k l)
     (both tuple (parameters_at (field slots.Parameters ts)) (effect_at (field slots.Effect ts))) (precondition_at (field slots.Precondition ts))
-    (if_both tuple (SpellsIfAny SpellsParameters [] (field slots.Parameters ts)) (SpellsIfAny SpellsEffect (effect []) (field slots.Effect ts)) (IsActionHead ts) (λ xs x p q. (p, q))
+    (if_both tuple (SpellsIfAny SpellsParameters [] (field slots.Parameters ts)) (SpellsIfAny SpellsEffect no_items (field slots.Effect ts)) (IsActionHead ts) (λ xs x p q. (p, q))
     (parameters_at (field slots.Parameters ts)) (effect_at (field slots.Effect ts)) (parameters_spelled (field slots.Parameters ts)) (effect_at_spelled (field slots.Effect ts)))
     (precondition_spelled (field slots.Precondition ts)))
 

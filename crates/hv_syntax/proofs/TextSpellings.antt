@@ -47,8 +47,8 @@ grounds_spelled = each_spelled ground_literal_of SpellsGround ground_read ground
 
 pub domain_section_read : (w : List ℕ) (s : Span) (ts : Trees) (x : DomainSection) → SpellsDomainSection w s ts x → domain_section_by w s ts ≡ Some x
 domain_section_read _ _ _ _ (tables.requirements s ts ws h) = ap (option_map has_requirements) (keywords_read ts ws h)
-domain_section_read _ _ _ _ (tables.types s ts xs h) = ap (option_map has_types) (typed_list_read sorts.Name ts xs h)
-domain_section_read _ _ _ _ (tables.constants s ts xs h) = ap (option_map has_constants) (typed_list_read sorts.Name ts xs h)
+domain_section_read _ _ _ _ (tables.types s ts xs h) = ap (option_map has_types) (typed_list_read ts xs h)
+domain_section_read _ _ _ _ (tables.constants s ts xs h) = ap (option_map has_constants) (typed_list_read ts xs h)
 domain_section_read _ _ _ _ (tables.predicates s ts ps h) = ap (option_map has_predicates) (predicates_read ts ps h)
 domain_section_read _ _ _ _ (tables.task_section s ts x h) = ap (option_map has_task) (task_read s ts x h)
 domain_section_read _ _ _ _ (tables.method_section s ts x h) = ap (option_map has_method) (method_read s ts x h)
@@ -66,9 +66,9 @@ domain_section_spelled w s ts =
     headed_so Spells w (codes ":requirements") _ _ (is w (codes ":requirements")) refl
     (if_map has_requirements (SpellEach (SpellsWord sorts.Keyword) ts) (Spells (codes ":requirements")) (λ ws h. tables.requirements s ts ws h) (every keyword_of ts) (keywords_spelled ts))
     (headed_so Spells w (codes ":types") _ _ (is w (codes ":types")) refl
-    (if_map has_types (SpellsTyped sorts.Name ts) (Spells (codes ":types")) (λ xs h. tables.types s ts xs h) (typed_list_of sorts.Name ts) (typed_list_spelled sorts.Name ts))
+    (if_map has_types (SpellsTyped ts) (Spells (codes ":types")) (λ xs h. tables.types s ts xs h) (typed_list_of ts) (typed_list_spelled ts))
     (headed_so Spells w (codes ":constants") _ _ (is w (codes ":constants")) refl
-    (if_map has_constants (SpellsTyped sorts.Name ts) (Spells (codes ":constants")) (λ xs h. tables.constants s ts xs h) (typed_list_of sorts.Name ts) (typed_list_spelled sorts.Name ts))
+    (if_map has_constants (SpellsTyped ts) (Spells (codes ":constants")) (λ xs h. tables.constants s ts xs h) (typed_list_of ts) (typed_list_spelled ts))
     (headed_so Spells w (codes ":predicates") _ _ (is w (codes ":predicates")) refl
     (if_map has_predicates (SpellEach SpellsPredicate ts) (Spells (codes ":predicates")) (λ ps h. tables.predicates s ts ps h) (every predicate_of ts) (predicates_spelled ts))
     (headed_so Spells w (codes ":task") _ _ (is w (codes ":task")) refl
@@ -83,7 +83,7 @@ domain_section_spelled w s ts =
 pub problem_section_read : (w : List ℕ) (s : Span) (ts : Trees) (x : ProblemSection) → SpellsProblemSection w s ts x → problem_section_by w s ts ≡ Some x
 problem_section_read _ _ _ _ (tables.domain_name s t w h) = ap (option_map is_for) (word_read sorts.Name t w h)
 problem_section_read _ _ _ _ (tables.problem_requirements s ts ws h) = ap (option_map problems.has_requirements) (keywords_read ts ws h)
-problem_section_read _ _ _ _ (tables.objects s ts xs h) = ap (option_map has_objects) (typed_list_read sorts.Name ts xs h)
+problem_section_read _ _ _ _ (tables.objects s ts xs h) = ap (option_map has_objects) (typed_list_read ts xs h)
 problem_section_read _ _ _ _ (tables.htn_section s ts x h) = ap (option_map has_htn) (htn_read s ts x h)
 problem_section_read _ _ _ _ (tables.init s ts ls h) = ap (option_map has_init) (grounds_read ts ls h)
 problem_section_read _ _ _ _ (tables.goal s t f h) = ap (option_map has_goal) (formula_is_read t f h)
@@ -107,7 +107,7 @@ problem_section_spelled w s ts =
     (headed_so Spells w (codes ":requirements") _ _ (is w (codes ":requirements")) refl
     (if_map problems.has_requirements (SpellEach (SpellsWord sorts.Keyword) ts) (Spells (codes ":requirements")) (λ ws h. tables.problem_requirements s ts ws h) (every keyword_of ts) (keywords_spelled ts))
     (headed_so Spells w (codes ":objects") _ _ (is w (codes ":objects")) refl
-    (if_map has_objects (SpellsTyped sorts.Name ts) (Spells (codes ":objects")) (λ xs h. tables.objects s ts xs h) (typed_list_of sorts.Name ts) (typed_list_spelled sorts.Name ts))
+    (if_map has_objects (SpellsTyped ts) (Spells (codes ":objects")) (λ xs h. tables.objects s ts xs h) (typed_list_of ts) (typed_list_spelled ts))
     (headed_so Spells w (codes ":htn") _ _ (is w (codes ":htn")) refl
     (if_map has_htn (SpellsHtn s ts) (Spells (codes ":htn")) (λ x h. tables.htn_section s ts x h) (htn_of s ts) (htn_spelled s ts))
     (headed_so Spells w (codes ":init") _ _ (is w (codes ":init")) refl

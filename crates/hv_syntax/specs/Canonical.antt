@@ -2,7 +2,7 @@
 use Rattle.std.specs.Prelude.{ℕ, Bool, true, false, List, [], ◌∷◌, ◌++◌, Option, Some, None, codes}
 use Rattle.hv_text.specs.Trees.{Tree, word, list, Trees, none, more}
 use Rattle.hv_text.specs.Words.{nowhere}
-use Rattle.hv_syntax.specs.Values.{WordAt, Term, constant, variable, Atom, type_name, Typed, Formula, Formulas, holds, and, or, not, imply, forall, exists, equal, no_formulas, more_formulas, Literal, Effect, Subtask, Pair, Constraint, Network}
+use Rattle.hv_syntax.specs.Values.{WordAt, Term, constant, variable, Atom, TypeOf, type_name, TypedBy, Typed, Variable, Formula, Formulas, holds, and, or, not, imply, forall, exists, equal, no_formulas, more_formulas, Literal, Effect, no_items, more_items, Item, becomes, for_each, Subtask, Pair, Constraint, Network}
 
 abbrev mutual
   -- the text of an expression: the members of a list are joined by one space
@@ -56,10 +56,28 @@ term_expression (variable w) = word_expression w
 abbrev pub atom_expression : Atom → Tree
 atom_expression a = form a.symbol.text (each term_expression a.terms)
 
+-- the type of a name: its name
+abbrev pub type_name_expression : TypeOf → Tree
+type_name_expression t = the_word (type_name t)
+
+-- the type of a variable: `object` where no name is written, one name as it is, and else `(either ..)`
+abbrev pub type_expression : List WordAt → Tree
+type_expression [] = the_word (codes "object")
+type_expression (n ∷ []) = word_expression n
+type_expression (n ∷ m ∷ ns) = form (codes "either") (each word_expression (n ∷ m ∷ ns))
+
 -- each name or variable with its own type
+abbrev pub members_by : {T : Type 0} → (T → Tree) → List (TypedBy T) → Trees
+members_by f [] = none
+members_by f (v ∷ vs) = more (word_expression v.name) (more (the_word (codes "-")) (more (f v.of) (members_by f vs)))
+
+-- names, each with its own type
 abbrev pub typed_members : List Typed → Trees
-typed_members [] = none
-typed_members (v ∷ vs) = more (word_expression v.name) (more (the_word (codes "-")) (more (the_word (type_name v.of)) (typed_members vs)))
+typed_members vs = members_by type_name_expression vs
+
+-- variables, each with its own type
+abbrev pub variable_members : List Variable → Trees
+variable_members vs = members_by type_expression vs
 
 abbrev mutual
   -- a formula; a conjunction of nothing is `()`
@@ -69,8 +87,8 @@ abbrev mutual
   formula_expression (or fs) = form (codes "or") (formula_expressions fs)
   formula_expression (not f) = form (codes "not") (more (formula_expression f) none)
   formula_expression (imply f g) = form (codes "imply") (two_members (formula_expression f) (formula_expression g))
-  formula_expression (forall vs f) = form (codes "forall") (two_members (the_list (typed_members vs)) (formula_expression f))
-  formula_expression (exists vs f) = form (codes "exists") (two_members (the_list (typed_members vs)) (formula_expression f))
+  formula_expression (forall vs f) = form (codes "forall") (two_members (the_list (variable_members vs)) (formula_expression f))
+  formula_expression (exists vs f) = form (codes "exists") (two_members (the_list (variable_members vs)) (formula_expression f))
   formula_expression (equal x y) = form (codes "=") (two_members (term_expression x) (term_expression y))
 
   pub formula_expressions : Formulas → Trees
@@ -85,8 +103,27 @@ signed false t = form (codes "not") (more t none)
 abbrev pub literal_expression : Literal → Tree
 literal_expression l = signed l.is_positive (atom_expression l.atom)
 
+-- a list of members: `()` where it is empty, one of them alone, and else `(and ..)`
+abbrev pub conjunction_or_one : Trees → Tree
+conjunction_or_one none = the_list none
+conjunction_or_one (more t none) = t
+conjunction_or_one (more t (more u ts)) = form (codes "and") (more t (more u ts))
+
+abbrev mutual
+  -- an item; behind a `forall` one item of an effect stands alone
+  pub item_expression : Item → Tree
+  item_expression (becomes l) = literal_expression l
+  item_expression (for_each vs e) = form (codes "forall") (two_members (the_list (variable_members vs)) (conjunction_or_one (item_expressions e)))
+
+  pub item_expressions : Effect → Trees
+  item_expressions no_items = none
+  item_expressions (more_items i e) = more (item_expression i) (item_expressions e)
+
+-- an effect; one `forall` stands alone, and one literal behind `and`
 abbrev pub effect_expression : Effect → Tree
-effect_expression e = conjunction (each literal_expression e.literals)
+effect_expression no_items = the_list none
+effect_expression (more_items (becomes l) e) = conjunction (item_expressions (more_items (becomes l) e))
+effect_expression (more_items (for_each vs f) e) = conjunction_or_one (item_expressions (more_items (for_each vs f) e))
 
 -- a task, behind its label where it has one
 abbrev pub labelled_by : Option WordAt → Tree → Tree

@@ -1,12 +1,12 @@
 -- The canonical sections of domains and problems, and the canonical text of both.
 use Rattle.std.specs.Prelude.{ℕ, List, [], ◌∷◌, ◌++◌, Option, Some, None, codes}
 use Rattle.hv_text.specs.Trees.{Tree, Trees, none, more, trees_of}
-use Rattle.hv_syntax.specs.Values.{WordAt, Typed, Formula, Predicate, Task, Method, Action, Domain, Htn, Problem}
-use Rattle.hv_syntax.specs.Canonical.{text, the_list, form, each, word_expression, atom_expression, typed_members, formula_expression, literal_expression, effect_expression, with_field, network_fields}
+use Rattle.hv_syntax.specs.Values.{WordAt, Variable, Formula, Predicate, Task, Method, Action, Domain, Htn, Problem}
+use Rattle.hv_syntax.specs.Canonical.{text, the_list, form, each, word_expression, atom_expression, typed_members, variable_members, formula_expression, literal_expression, effect_expression, with_field, network_fields}
 
 -- the field `:parameters`, and the fields behind it
-abbrev pub with_parameters : List Typed → Trees → Trees
-with_parameters vs rest = with_field (codes ":parameters") (the_list (typed_members vs)) rest
+abbrev pub with_parameters : List Variable → Trees → Trees
+with_parameters vs rest = with_field (codes ":parameters") (the_list (variable_members vs)) rest
 
 -- the field `:precondition`, and the fields behind it
 abbrev pub with_precondition : Formula → Trees → Trees
@@ -14,7 +14,7 @@ with_precondition f rest = with_field (codes ":precondition") (formula_expressio
 
 -- a predicate: `(symbol typed(var))`
 abbrev pub predicate_expression : Predicate → Tree
-predicate_expression p = form p.name.text (typed_members p.parameters)
+predicate_expression p = form p.name.text (variable_members p.parameters)
 
 -- the section of a task: its `:parameters`
 abbrev pub task_section : Task → Tree

@@ -3,7 +3,6 @@ use Rattle.std.specs.Prelude.{Bool, true, false, List, [], ◌∷◌, Option, So
 use Rattle.hv_text.specs.Trees.{Tree, Trees, none, more}
 use Rattle.hv_syntax.specs.declared.field.Slot.{Slot}
 use Rattle.hv_syntax.specs.declared.field.Slot.TheVariants as slots
-use Rattle.hv_syntax.specs.Values.{Task}
 use Rattle.hv_syntax.specs.Lists.{conjuncts}
 
 -- there are no members

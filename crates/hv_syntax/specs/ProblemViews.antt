@@ -7,12 +7,12 @@ use Rattle.hv_syntax.specs.declared.problem.ProblemSection as code
 use Rattle.hv_syntax.specs.declared.problem.ProblemSection.TheVariants as sections
 use Rattle.hv_syntax.specs.Values.{Htn, htn, Problem}
 use Rattle.hv_syntax.specs.Problems.{ProblemSection, is_for, has_requirements, has_objects, has_htn, has_init, has_goal, Parts}
-use Rattle.hv_syntax.specs.Views.{word_view, typed_view, formula_view, literal_view}
+use Rattle.hv_syntax.specs.Views.{word_view, typed_view, variable_view, formula_view, literal_view}
 use Rattle.hv_syntax.specs.NetworkViews.{network_view}
 
 -- the initial network that a value of the code says
 abbrev pub htn_view : HtnText → Htn
-htn_view h = htn h.span (map typed_view h.parameters.items) (network_view h.network)
+htn_view h = htn h.span (map variable_view h.parameters.items) (network_view h.network)
 
 -- what a section of the code says
 abbrev pub problem_section_view : code.ProblemSection → ProblemSection

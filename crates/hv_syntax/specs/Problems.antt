@@ -5,7 +5,7 @@ use Rattle.hv_syntax.specs.declared.field.Slot.TheVariants as slots
 use Rattle.hv_syntax.specs.declared.section.Standing.{Standing}
 use Rattle.hv_syntax.specs.declared.section.Standing.TheVariants as standings
 use Rattle.hv_syntax.specs.Words.{is}
-use Rattle.hv_syntax.specs.Values.{WordAt, Typed, Formula, Literal, Htn, htn}
+use Rattle.hv_syntax.specs.Values.{WordAt, Typed, Formula, Literal, Htn}
 use Rattle.hv_syntax.specs.Sections.{is_unsupported}
 
 -- what a section of a problem says

@@ -6,7 +6,7 @@ use Rattle.hv_syntax.specs.declared.word.Sort.{Sort}
 use Rattle.hv_syntax.specs.declared.word.Sort.TheVariants as sorts
 use Rattle.hv_syntax.specs.declared.word.Head.TheVariants as heads
 use Rattle.hv_syntax.specs.Words.{is, sort_of, is_sort, head_of}
-use Rattle.hv_syntax.specs.Values.{WordAt, word_at, Term, constant, variable, Atom, atom_with, no_type, of_type, Typed, Formula, Formulas, holds, and, or, not, imply, forall, exists, equal, no_formulas, more_formulas, Literal, literal, Effect, effect, Subtask, subtask, Pair, pair, Constraint, constraint}
+use Rattle.hv_syntax.specs.Values.{WordAt, word_at, Term, constant, variable, Atom, atom_with, TypeOf, no_type, of_type, TypedBy, Typed, Variable, Formula, Formulas, holds, and, or, not, imply, forall, exists, equal, no_formulas, more_formulas, Literal, literal, Effect, no_items, more_items, Item, becomes, for_each, Subtask, subtask, Pair, pair, Constraint, constraint}
 use Rattle.hv_syntax.specs.TypedLists.{with_type}
 use Rattle.hv_syntax.specs.Literals.{are_constants}
 
@@ -44,16 +44,35 @@ abbrev pub join : Trees → Trees → Trees
 join none us = us
 join (more t ts) us = more t (join ts us)
 
--- a typed list: any number of groups `X+ - name`, then `X*`
-pub data SpellsTyped (sort : Sort) : Trees → List Typed → Type 0 where
-  without_type : (ts : Trees) (ws : List WordAt) → SpellEach (SpellsWord sort) ts ws → SpellsTyped sort ts (with_type no_type ws)
-  a_group : (t : Tree) (ts : Trees) (w : WordAt) (ws : List WordAt) (d : List ℕ) (p : Span) (u : Tree) (n : WordAt) (us : Trees) (xs : List Typed)
-      → SpellsWord sort t w → SpellEach (SpellsWord sort) ts ws → is d (codes "-") ≡ true → SpellsWord sorts.Name u n → SpellsTyped sort us xs
-      → SpellsTyped sort (more t (join ts (more (word d p) (more u us)))) (with_type (of_type n) (w ∷ ws) ++ xs)
+-- the type of names: a name
+pub data SpellsTypeName : Tree → TypeOf → Type 0 where
+  a_type_name : (t : Tree) (n : WordAt) → SpellsWord sorts.Name t n → SpellsTypeName t (of_type n)
+
+-- the type of variables: a name, or `(either name+)`
+pub data SpellsType : Tree → List WordAt → Type 0 where
+  one_type : (t : Tree) (n : WordAt) → SpellsWord sorts.Name t n → SpellsType t (n ∷ [])
+  either_type : (w : List ℕ) (p s : Span) (t : Tree) (ts : Trees) (n : WordAt) (ns : List WordAt)
+      → is w (codes "either") ≡ true → SpellsWord sorts.Name t n → SpellEach (SpellsWord sorts.Name) ts ns
+      → SpellsType (list (more (word w p) (more t ts)) s) (n ∷ ns)
+
+-- a typed list of words of this sort: any number of groups `X+ - type`, then `X*`, for which no type is written
+pub data SpellsTypedBy {T : Type 0} (Spells : Tree → T → Type 0) (not_written : T) (sort : Sort) : Trees → List (TypedBy T) → Type 0 where
+  without_type : (ts : Trees) (ws : List WordAt) → SpellEach (SpellsWord sort) ts ws → SpellsTypedBy Spells not_written sort ts (with_type not_written ws)
+  a_group : (t : Tree) (ts : Trees) (w : WordAt) (ws : List WordAt) (d : List ℕ) (p : Span) (u : Tree) (n : T) (us : Trees) (xs : List (TypedBy T))
+      → SpellsWord sort t w → SpellEach (SpellsWord sort) ts ws → is d (codes "-") ≡ true → Spells u n → SpellsTypedBy Spells not_written sort us xs
+      → SpellsTypedBy Spells not_written sort (more t (join ts (more (word d p) (more u us)))) (with_type n (w ∷ ws) ++ xs)
+
+-- a typed list of names
+abbrev pub SpellsTyped : Trees → List Typed → Type 0
+SpellsTyped ts xs = SpellsTypedBy SpellsTypeName no_type sorts.Name ts xs
+
+-- a typed list of variables
+abbrev pub SpellsTypedVariables : Trees → List Variable → Type 0
+SpellsTypedVariables ts xs = SpellsTypedBy SpellsType [] sorts.Variable ts xs
 
 -- the list of a quantifier: `(typed(var))`, at most 16 of them
-pub data SpellsVariables : Tree → List Typed → Type 0 where
-  variables : (ts : Trees) (s : Span) (xs : List Typed) → SpellsTyped sorts.Variable ts xs → length xs ≤ 16 → SpellsVariables (list ts s) xs
+pub data SpellsVariables : Tree → List Variable → Type 0 where
+  variables : (ts : Trees) (s : Span) (xs : List Variable) → SpellsTypedVariables ts xs → length xs ≤ 16 → SpellsVariables (list ts s) xs
 
 mutual
   -- a formula
@@ -68,9 +87,9 @@ mutual
         → SpellsFormula (list (more (word w p) (more t none)) s) (not f)
     an_implication : (w : List ℕ) (p s : Span) (t u : Tree) (f g : Formula) → head_of w ≡ heads.Imply → SpellsFormula t f → SpellsFormula u g
         → SpellsFormula (list (more (word w p) (more t (more u none))) s) (imply f g)
-    for_all : (w : List ℕ) (p s : Span) (t u : Tree) (xs : List Typed) (f : Formula) → head_of w ≡ heads.Forall → SpellsVariables t xs → SpellsFormula u f
+    for_all : (w : List ℕ) (p s : Span) (t u : Tree) (xs : List Variable) (f : Formula) → head_of w ≡ heads.Forall → SpellsVariables t xs → SpellsFormula u f
         → SpellsFormula (list (more (word w p) (more t (more u none))) s) (forall xs f)
-    for_some : (w : List ℕ) (p s : Span) (t u : Tree) (xs : List Typed) (f : Formula) → head_of w ≡ heads.Exists → SpellsVariables t xs → SpellsFormula u f
+    for_some : (w : List ℕ) (p s : Span) (t u : Tree) (xs : List Variable) (f : Formula) → head_of w ≡ heads.Exists → SpellsVariables t xs → SpellsFormula u f
         → SpellsFormula (list (more (word w p) (more t (more u none))) s) (exists xs f)
     an_equality : (w : List ℕ) (p s : Span) (t u : Tree) (x y : Term) → head_of w ≡ heads.Equal → SpellsTerm t x → SpellsTerm u y
         → SpellsFormula (list (more (word w p) (more t (more u none))) s) (equal x y)
@@ -89,9 +108,23 @@ pub data SpellsLiteral : Tree → Literal → Type 0 where
 pub data SpellsGround : Tree → Literal → Type 0 where
   a_ground : (t : Tree) (l : Literal) → SpellsLiteral t l → are_constants l.atom.terms ≡ true → SpellsGround t l
 
--- an effect: `()`, a literal, or `(and literal*)`
-pub data SpellsEffect : Tree → Effect → Type 0 where
-  an_effect : (t : Tree) (ls : List Literal) → SpellsList SpellsLiteral t ls → SpellsEffect t (effect ls)
+mutual
+  -- an effect: `()`, an item, or `(and item*)`
+  pub data SpellsEffect : Tree → Effect → Type 0 where
+    no_effect : (s : Span) → SpellsEffect (list none s) no_items
+    one_item : (t : Tree) (i : Item) → SpellsItem t i → SpellsEffect t (more_items i no_items)
+    all_items : (w : List ℕ) (p s : Span) (ts : Trees) (e : Effect) → head_of w ≡ heads.And → SpellItems ts e → SpellsEffect (list (more (word w p) ts) s) e
+
+  -- an item: a literal, or `(forall (typed(var)) effect)`
+  pub data SpellsItem : Tree → Item → Type 0 where
+    a_literal : (t : Tree) (l : Literal) → SpellsLiteral t l → SpellsItem t (becomes l)
+    a_forall : (w : List ℕ) (p s : Span) (t u : Tree) (xs : List Variable) (e : Effect) → head_of w ≡ heads.Forall → SpellsVariables t xs → SpellsEffect u e
+        → SpellsItem (list (more (word w p) (more t (more u none))) s) (for_each xs e)
+
+  -- items, one after another
+  pub data SpellItems : Trees → Effect → Type 0 where
+    no_more_items : SpellItems none no_items
+    one_more_item : (t : Tree) (ts : Trees) (i : Item) (e : Effect) → SpellsItem t i → SpellItems ts e → SpellItems (more t ts) (more_items i e)
 
 -- a subtask: a task, or `(symbol task)`
 pub data SpellsSubtask : Tree → Subtask → Type 0 where

@@ -7,14 +7,14 @@ use Rattle.hv_syntax.specs.declared.field.Slot.TheVariants as slots
 use Rattle.hv_syntax.specs.declared.section.Standing.{Standing}
 use Rattle.hv_syntax.specs.declared.section.Standing.TheVariants as standings
 use Rattle.hv_syntax.specs.Words.{is}
-use Rattle.hv_syntax.specs.Values.{WordAt, Atom, Typed, Formula, and, no_formulas, Effect, effect, Literal, Subtask, Pair, Constraint, Network, network, Predicate, predicate, Task, task, Method, method, Action, action, Domain, Htn, htn, Problem}
+use Rattle.hv_syntax.specs.Values.{WordAt, Atom, Typed, Variable, Formula, and, no_formulas, Effect, no_items, Literal, Subtask, Pair, Constraint, Network, network, Predicate, predicate, Task, task, Method, method, Action, action, Domain, Htn, htn, Problem}
 use Rattle.hv_syntax.specs.Fields.{field, is_field_list}
 use Rattle.hv_syntax.specs.Declarations.{is_nothing, method_slots}
 use Rattle.hv_syntax.specs.Sections.{occurs}
 use Rattle.hv_syntax.specs.Domains.{DomainSection, has_requirements, has_types, has_constants, has_predicates, has_task, has_method, has_action, domain_standing, no_domain, add_section}
 use Rattle.hv_syntax.specs.Problems.{ProblemSection, is_for, has_objects, has_htn, has_init, has_goal, problem_standing, htn_slots, Parts, no_parts, add_part}
 use Rattle.hv_syntax.specs.Problems as problems
-use Rattle.hv_syntax.specs.Spellings.{SpellsWord, SpellsSymbol, SpellEach, SpellsList, SpellsAtom, SpellsTyped, SpellsFormula, SpellsGround, SpellsEffect, SpellsSubtask, SpellsPair, SpellsConstraint}
+use Rattle.hv_syntax.specs.Spellings.{SpellsWord, SpellsSymbol, SpellEach, SpellsList, SpellsAtom, SpellsTyped, SpellsTypedVariables, SpellsFormula, SpellsGround, SpellsEffect, SpellsSubtask, SpellsPair, SpellsConstraint}
 
 -- a field that may be absent, and then says this
 pub data SpellsIfAny {A : Type 0} (Spells : Tree → A → Type 0) (otherwise : A) : Option Tree → A → Type 0 where
@@ -26,8 +26,8 @@ pub data SpellsField {A : Type 0} (Spells : Tree → A → Type 0) : Option Tree
   it_stands : (t : Tree) (a : A) → Spells t a → SpellsField Spells (Some t) a
 
 -- parameters: `(typed(var))`
-pub data SpellsParameters : Tree → List Typed → Type 0 where
-  parameters : (ts : Trees) (s : Span) (xs : List Typed) → SpellsTyped sorts.Variable ts xs → SpellsParameters (list ts s) xs
+pub data SpellsParameters : Tree → List Variable → Type 0 where
+  parameters : (ts : Trees) (s : Span) (xs : List Variable) → SpellsTypedVariables ts xs → SpellsParameters (list ts s) xs
 
 -- subtasks in one of two forms, or none; only the second orders them
 pub data SpellsForm : Option Tree → Option Tree → Bool × List Subtask → Type 0 where
@@ -45,41 +45,41 @@ pub data SpellsNetwork : Trees → Network → Type 0 where
 
 -- a predicate: `(symbol typed(var))`
 pub data SpellsPredicate : Tree → Predicate → Type 0 where
-  a_predicate : (t : Tree) (w : WordAt) (ts : Trees) (s : Span) (xs : List Typed) → SpellsSymbol t w → SpellsTyped sorts.Variable ts xs
+  a_predicate : (t : Tree) (w : WordAt) (ts : Trees) (s : Span) (xs : List Variable) → SpellsSymbol t w → SpellsTypedVariables ts xs
       → SpellsPredicate (list (more t ts) s) (predicate w xs)
 
 -- a task: a symbol, `:parameters`, and a `:precondition` and an `:effect` that say nothing
 pub data SpellsTask (s : Span) : Trees → Task → Type 0 where
-  a_task : (t : Tree) (w : WordAt) (ts : Trees) (xs : List Typed) → SpellsSymbol t w
+  a_task : (t : Tree) (w : WordAt) (ts : Trees) (xs : List Variable) → SpellsSymbol t w
       → is_field_list (slots.Parameters ∷ slots.Precondition ∷ slots.Effect ∷ []) ts ≡ true → is_nothing (field slots.Precondition ts) ≡ true → is_nothing (field slots.Effect ts) ≡ true
       → SpellsIfAny SpellsParameters [] (field slots.Parameters ts) xs
       → SpellsTask s (more t ts) (task s w xs)
 
 -- a method: a symbol, `:parameters`, `:task`, `:precondition`, and the fields of a network
 pub data SpellsMethod (s : Span) : Trees → Method → Type 0 where
-  a_method : (t : Tree) (w : WordAt) (ts : Trees) (xs : List Typed) (a : Atom) (n : Network) (f : Formula) → SpellsSymbol t w → is_field_list method_slots ts ≡ true
+  a_method : (t : Tree) (w : WordAt) (ts : Trees) (xs : List Variable) (a : Atom) (n : Network) (f : Formula) → SpellsSymbol t w → is_field_list method_slots ts ≡ true
       → SpellsIfAny SpellsParameters [] (field slots.Parameters ts) xs → SpellsField SpellsAtom (field slots.Task ts) a → SpellsNetwork ts n
       → SpellsIfAny SpellsFormula (and no_formulas) (field slots.Precondition ts) f
       → SpellsMethod s (more t ts) (method s w ((xs, a), n) f)
 
 -- an action: a symbol, `:parameters`, `:precondition`, `:effect`
 pub data SpellsAction (s : Span) : Trees → Action → Type 0 where
-  an_action : (t : Tree) (w : WordAt) (ts : Trees) (xs : List Typed) (e : Effect) (f : Formula) → SpellsSymbol t w
+  an_action : (t : Tree) (w : WordAt) (ts : Trees) (xs : List Variable) (e : Effect) (f : Formula) → SpellsSymbol t w
       → is_field_list (slots.Parameters ∷ slots.Precondition ∷ slots.Effect ∷ []) ts ≡ true
-      → SpellsIfAny SpellsParameters [] (field slots.Parameters ts) xs → SpellsIfAny SpellsEffect (effect []) (field slots.Effect ts) e
+      → SpellsIfAny SpellsParameters [] (field slots.Parameters ts) xs → SpellsIfAny SpellsEffect no_items (field slots.Effect ts) e
       → SpellsIfAny SpellsFormula (and no_formulas) (field slots.Precondition ts) f
       → SpellsAction s (more t ts) (action s w (xs, e) f)
 
 -- an initial network: `:parameters`, and the fields of a network
 pub data SpellsHtn (s : Span) : Trees → Htn → Type 0 where
-  an_htn : (ts : Trees) (xs : List Typed) (n : Network) → is_field_list htn_slots ts ≡ true → SpellsIfAny SpellsParameters [] (field slots.Parameters ts) xs → SpellsNetwork ts n
+  an_htn : (ts : Trees) (xs : List Variable) (n : Network) → is_field_list htn_slots ts ≡ true → SpellsIfAny SpellsParameters [] (field slots.Parameters ts) xs → SpellsNetwork ts n
       → SpellsHtn s ts (htn s xs n)
 
 -- a section of a domain at this place: the contents behind each keyword
 pub data SpellsDomainSection : List ℕ → Span → Trees → DomainSection → Type 0 where
   requirements : (s : Span) (ts : Trees) (ws : List WordAt) → SpellEach (SpellsWord sorts.Keyword) ts ws → SpellsDomainSection (codes ":requirements") s ts (has_requirements ws)
-  types : (s : Span) (ts : Trees) (xs : List Typed) → SpellsTyped sorts.Name ts xs → SpellsDomainSection (codes ":types") s ts (has_types xs)
-  constants : (s : Span) (ts : Trees) (xs : List Typed) → SpellsTyped sorts.Name ts xs → SpellsDomainSection (codes ":constants") s ts (has_constants xs)
+  types : (s : Span) (ts : Trees) (xs : List Typed) → SpellsTyped ts xs → SpellsDomainSection (codes ":types") s ts (has_types xs)
+  constants : (s : Span) (ts : Trees) (xs : List Typed) → SpellsTyped ts xs → SpellsDomainSection (codes ":constants") s ts (has_constants xs)
   predicates : (s : Span) (ts : Trees) (ps : List Predicate) → SpellEach SpellsPredicate ts ps → SpellsDomainSection (codes ":predicates") s ts (has_predicates ps)
   task_section : (s : Span) (ts : Trees) (t : Task) → SpellsTask s ts t → SpellsDomainSection (codes ":task") s ts (has_task t)
   method_section : (s : Span) (ts : Trees) (m : Method) → SpellsMethod s ts m → SpellsDomainSection (codes ":method") s ts (has_method m)
@@ -90,7 +90,7 @@ pub data SpellsProblemSection : List ℕ → Span → Trees → ProblemSection �
   domain_name : (s : Span) (t : Tree) (w : WordAt) → SpellsWord sorts.Name t w → SpellsProblemSection (codes ":domain") s (more t none) (is_for w)
   problem_requirements : (s : Span) (ts : Trees) (ws : List WordAt) → SpellEach (SpellsWord sorts.Keyword) ts ws
       → SpellsProblemSection (codes ":requirements") s ts (problems.has_requirements ws)
-  objects : (s : Span) (ts : Trees) (xs : List Typed) → SpellsTyped sorts.Name ts xs → SpellsProblemSection (codes ":objects") s ts (has_objects xs)
+  objects : (s : Span) (ts : Trees) (xs : List Typed) → SpellsTyped ts xs → SpellsProblemSection (codes ":objects") s ts (has_objects xs)
   htn_section : (s : Span) (ts : Trees) (h : Htn) → SpellsHtn s ts h → SpellsProblemSection (codes ":htn") s ts (has_htn h)
   init : (s : Span) (ts : Trees) (ls : List Literal) → SpellEach SpellsGround ts ls → SpellsProblemSection (codes ":init") s ts (has_init ls)
   goal : (s : Span) (t : Tree) (f : Formula) → SpellsFormula t f → SpellsProblemSection (codes ":goal") s (more t none) (has_goal f)

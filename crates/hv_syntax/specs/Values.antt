@@ -23,23 +23,31 @@ pub record Atom : Type 0 where
 abbrev pub atom_with : WordAt → List Term → Atom
 atom_with w xs = record { symbol = w; terms = xs }
 
--- the type of a name or a variable: none is written, or this one
+-- the type of a name: none is written, or this one
 pub data TypeOf : Type 0 where
   no_type : TypeOf
   of_type : WordAt → TypeOf
 
--- the name of a type, which is `object` where none is written
+-- its name, which is `object` where none is written
 abbrev pub type_name : TypeOf → List ℕ
 type_name no_type = codes "object"
 type_name (of_type w) = w.text
 
--- a name or a variable, and its type
-pub record Typed : Type 0 where
+-- a name or a variable, and its type, where T says types
+pub record TypedBy (T : Type 0) : Type 0 where
   pub name : WordAt
-  pub of : TypeOf
+  pub of : T
 
-abbrev pub typed : TypeOf → WordAt → Typed
+abbrev pub typed : {T : Type 0} → T → WordAt → TypedBy T
 typed t w = record { name = w; of = t }
+
+-- a name and its type
+abbrev pub Typed : Type 0
+Typed = TypedBy TypeOf
+
+-- a variable and its type: the names that are written, where an object of one of them is of the type; it is `object` where none is written
+abbrev pub Variable : Type 0
+Variable = TypedBy (List WordAt)
 
 -- a formula: an atom is true, all or some of a list hold, one does not hold, one holds where another does, for all or some objects, two terms are one
 mutual
@@ -49,8 +57,8 @@ mutual
     or : Formulas → Formula
     not : Formula → Formula
     imply : Formula → Formula → Formula
-    forall : List Typed → Formula → Formula
-    exists : List Typed → Formula → Formula
+    forall : List Variable → Formula → Formula
+    exists : List Variable → Formula → Formula
     equal : Term → Term → Formula
 
   pub data Formulas : Type 0 where
@@ -69,12 +77,19 @@ pub record Literal : Type 0 where
 abbrev pub literal : Bool → Atom → Literal
 literal b a = record { is_positive = b; atom = a }
 
--- what an action brings about: all of these become true
-pub record Effect : Type 0 where
-  pub literals : List Literal
+-- what an action brings about: all items of a list; an item is a literal, which becomes true, or an effect for all objects of these types
+mutual
+  pub data Effect : Type 0 where
+    no_items : Effect
+    more_items : Item → Effect → Effect
 
-abbrev pub effect : List Literal → Effect
-effect ls = record { literals = ls }
+  pub data Item : Type 0 where
+    becomes : Literal → Item
+    for_each : List Variable → Effect → Item
+
+abbrev pub effect : List Item → Effect
+effect [] = no_items
+effect (i ∷ is) = more_items i (effect is)
 
 -- a task, with the label that it may have
 pub record Subtask : Type 0 where
@@ -114,41 +129,41 @@ network xs b ps cs = record { subtasks = xs; is_ordered = b; pairs = ps; constra
 -- a predicate, and its parameters
 pub record Predicate : Type 0 where
   pub name : WordAt
-  pub parameters : List Typed
+  pub parameters : List Variable
 
-abbrev pub predicate : WordAt → List Typed → Predicate
+abbrev pub predicate : WordAt → List Variable → Predicate
 predicate w ps = record { name = w; parameters = ps }
 
 -- a task that methods decompose, with the place of its section
 pub record Task : Type 0 where
   pub name : WordAt
-  pub parameters : List Typed
+  pub parameters : List Variable
   pub place : Span
 
-abbrev pub task : Span → WordAt → List Typed → Task
+abbrev pub task : Span → WordAt → List Variable → Task
 task s w ps = record { name = w; parameters = ps; place = s }
 
 -- a method: the task that it is for, when it may be used, and its network; with the place of its section
 pub record Method : Type 0 where
   pub name : WordAt
-  pub parameters : List Typed
+  pub parameters : List Variable
   pub task : Atom
   pub precondition : Formula
   pub network : Network
   pub place : Span
 
-abbrev pub method : Span → WordAt → (List Typed × Atom) × Network → Formula → Method
+abbrev pub method : Span → WordAt → (List Variable × Atom) × Network → Formula → Method
 method s w ((ps, t), n) f = record { name = w; parameters = ps; task = t; precondition = f; network = n; place = s }
 
 -- an action: when it may be done, and what it brings about; with the place of its section
 pub record Action : Type 0 where
   pub name : WordAt
-  pub parameters : List Typed
+  pub parameters : List Variable
   pub precondition : Formula
   pub effect : Effect
   pub place : Span
 
-abbrev pub action : Span → WordAt → List Typed × Effect → Formula → Action
+abbrev pub action : Span → WordAt → List Variable × Effect → Formula → Action
 action s w (ps, e) f = record { name = w; parameters = ps; precondition = f; effect = e; place = s }
 
 -- a domain: what each kind of section says, tasks, methods and actions each in the order of the text
@@ -164,11 +179,11 @@ pub record Domain : Type 0 where
 
 -- the initial network of a problem, with the place of its section
 pub record Htn : Type 0 where
-  pub parameters : List Typed
+  pub parameters : List Variable
   pub network : Network
   pub place : Span
 
-abbrev pub htn : Span → List Typed → Network → Htn
+abbrev pub htn : Span → List Variable → Network → Htn
 htn s ps n = record { parameters = ps; network = n; place = s }
 
 -- a problem: what each kind of section says; a goal may be absent

@@ -6,6 +6,7 @@ pub mod TypedLists
 pub mod Lists
 pub mod Formulas
 pub mod Literals
+pub mod Effects
 pub mod Networks
 pub mod Declarations
 pub mod Sections

@@ -4,15 +4,15 @@ ghost use Rattle.std.specs.Prelude.{◌≡◌, map, option_map};
 ghost use Rattle.hv_text.specs.Trees.{tree, trees};
 ghost use Rattle.hv_syntax.specs.inside.Reading.{Gives};
 ghost use Rattle.hv_syntax.specs.inside.Declarations.{effect_at, action_of};
-ghost use Rattle.hv_syntax.specs.Views.{word_view, typed_view, formula_view, effect_view};
+ghost use Rattle.hv_syntax.specs.Views.{word_view, variable_view, formula_view, effect_view};
 ghost use Rattle.hv_syntax.specs.DeclarationViews.{action_view};
 
+use crate::effect::{EffectText, read_effect};
 use crate::field::{Slot, field, is_field_list};
 use crate::formula::FormulaText;
-use crate::literal::{EffectText, read_effect};
 use crate::refusal::Refusal;
 use crate::task::{read_parameters, read_precondition};
-use crate::typed::TypedText;
+use crate::variable::VariableText;
 use crate::word::{Placed, read_symbol};
 use hv_text::{Sexp, Span};
 use std::alloc::Global;
@@ -21,7 +21,7 @@ use std::alloc::Global;
 #[derive(Drop)]
 pub struct ActionText<'s> {
     name: Placed<'s>,
-    parameters: Vec<TypedText<'s>>,
+    parameters: Vec<VariableText<'s>>,
     precondition: FormulaText<'s>,
     effect: EffectText<'s>,
     span: Span,
@@ -36,8 +36,8 @@ impl<'s> ActionText<'s> {
     }
 
     /// Its parameters, as written.
-    pub fn parameters(&self) -> &[TypedText<'s>]
-        ensures { map typed_view result.now ≡ (action_view self.now).parameters }
+    pub fn parameters(&self) -> &[VariableText<'s>]
+        ensures { map variable_view result.now ≡ (action_view self.now).parameters }
     {
         &self.parameters
     }

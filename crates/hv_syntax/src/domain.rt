@@ -21,7 +21,7 @@ use crate::section::{
 };
 use crate::task::{TaskText, read_task};
 use crate::typed::{TypedText, read_typed_list};
-use crate::word::{Placed, Sort, span_of};
+use crate::word::{Placed, span_of};
 use hv_text::{Name, Sexp, Span};
 use std::alloc::Global;
 
@@ -140,10 +140,10 @@ fn read_members<'s>(
         return read_keywords(alloc, es).map(DomainSection::Requirements);
     }
     if name.is(b":types") {
-        return read_typed_list(alloc, Sort::Name, es).map(DomainSection::Types);
+        return read_typed_list(alloc, es).map(DomainSection::Types);
     }
     if name.is(b":constants") {
-        return read_typed_list(alloc, Sort::Name, es).map(DomainSection::Constants);
+        return read_typed_list(alloc, es).map(DomainSection::Constants);
     }
     if name.is(b":predicates") {
         return read_predicates(alloc, es).map(DomainSection::Predicates);

@@ -5,13 +5,13 @@ ghost use Rattle.hv_text.specs.Trees.{tree, trees};
 ghost use Rattle.hv_syntax.specs.inside.Reading.{Gives, every};
 ghost use Rattle.hv_syntax.specs.Words.{head_of};
 ghost use Rattle.hv_syntax.specs.inside.Formulas.{formula_of, formula_by, each_formula, variables_of, negation, implication, quantified, equality};
-ghost use Rattle.hv_syntax.specs.Views.{formula_view, typed_view, word_view};
+ghost use Rattle.hv_syntax.specs.Views.{formula_view, variable_view, word_view};
 
 use crate::list::two;
 use crate::refusal::Refusal;
 use crate::term::{AtomText, TermText, read_term, read_terms};
-use crate::typed::{TypedText, read_typed_list};
-use crate::word::{Head, Placed, Sort, head_of};
+use crate::variable::{VariableText, read_typed_variables};
+use crate::word::{Head, Placed, head_of};
 use hv_text::Sexp;
 use std::alloc::Global;
 
@@ -29,21 +29,28 @@ pub enum FormulaText<'s> {
     /// The second holds where the first does.
     Imply(Box<FormulaText<'s>>, Box<FormulaText<'s>>),
     /// It holds for all objects of these types.
-    Forall(Vec<TypedText<'s>>, Box<FormulaText<'s>>),
+    Forall(Vec<VariableText<'s>>, Box<FormulaText<'s>>),
     /// It holds for some objects of these types.
-    Exists(Vec<TypedText<'s>>, Box<FormulaText<'s>>),
+    Exists(Vec<VariableText<'s>>, Box<FormulaText<'s>>),
     /// Both terms are one object.
     Equal(TermText<'s>, TermText<'s>),
 }
 
-// The list of a quantifier: at most 16 variables.
-fn read_variables<'s>(alloc: Global, e: &Sexp<'s>) -> Result<Vec<TypedText<'s>>, Refusal>
-    ensures { Gives (λ v. map typed_view v.items) result (variables_of (tree e.now)) }
+/// Reads the list of a quantifier: at most 16 variables with their types.
+///
+/// # Errors
+///
+/// `NoSpelling` where the expression is none, and `Memory`.
+pub(crate) fn read_variables<'s>(
+    alloc: Global,
+    e: &Sexp<'s>,
+) -> Result<Vec<VariableText<'s>>, Refusal>
+    ensures { Gives (λ v. map variable_view v.items) result (variables_of (tree e.now)) }
 {
     let Sexp::List(members, _) = e else {
         return Err(Refusal::NoSpelling);
     };
-    let variables = read_typed_list(alloc, Sort::Variable, members)?;
+    let variables = read_typed_variables(alloc, members)?;
     if variables.len() > 16 {
         return Err(Refusal::NoSpelling);
     }
@@ -141,8 +148,8 @@ fn read_implication<'s>(alloc: Global, others: &[Sexp<'s>]) -> Result<FormulaTex
 fn read_quantified<'s>(
     alloc: Global,
     others: &[Sexp<'s>],
-) -> Result<(Vec<TypedText<'s>>, Box<FormulaText<'s>>), Refusal>
-    ensures { Gives (λ p. (map typed_view p.0.items, formula_view p.1.value)) result (quantified (trees others.now) (each_formula (trees others.now))) }
+) -> Result<(Vec<VariableText<'s>>, Box<FormulaText<'s>>), Refusal>
+    ensures { Gives (λ p. (map variable_view p.0.items, formula_view p.1.value)) result (quantified (trees others.now) (each_formula (trees others.now))) }
 {
     if others.len() != 2 {
         return Err(Refusal::NoSpelling);

@@ -4,13 +4,13 @@ ghost use Rattle.std.specs.Prelude.{◌≡◌, ◌↔◌, ◌⊎◌, ℕ, true, 
 ghost use Rattle.hv_text.specs.Bytes.{lower};
 ghost use Rattle.hv_text.specs.Sexps.{AreExpressions};
 ghost use Rattle.hv_text.specs.Trees.{Tree, Trees};
-ghost use Rattle.hv_syntax.specs.declared.word.Sort.{Sort};
-ghost use Rattle.hv_syntax.specs.Values.{Term, Atom, Typed, Formula, Literal, Effect, Subtask, Pair, Constraint, Domain, Problem};
+ghost use Rattle.hv_syntax.specs.Values.{Term, Atom, Typed, Variable, Formula, Literal, Effect, Subtask, Pair, Constraint, Domain, Problem};
 ghost use Rattle.hv_syntax.specs.inside.Terms.{term_of, atom_of};
-ghost use Rattle.hv_syntax.specs.inside.TypedLists.{typed_list_of};
+ghost use Rattle.hv_syntax.specs.inside.TypedLists.{typed_list_of, typed_variables_of};
 ghost use Rattle.hv_syntax.specs.inside.Formulas.{formula_of};
 ghost use Rattle.hv_syntax.specs.inside.Lists.{listed};
-ghost use Rattle.hv_syntax.specs.inside.Literals.{literal_of, effect_of};
+ghost use Rattle.hv_syntax.specs.inside.Literals.{literal_of};
+ghost use Rattle.hv_syntax.specs.inside.Effects.{effect_of};
 ghost use Rattle.hv_syntax.specs.inside.Networks.{subtask_of, pair_of, constraint_of};
 ghost use Rattle.hv_syntax.specs.inside.Domains.{domain_of};
 ghost use Rattle.hv_syntax.specs.inside.Problems.{problem_of};
@@ -24,7 +24,7 @@ ghost use Rattle.hv_text.specs.declared.span.Span.{Span};
 ghost use Rattle.hv_syntax.specs.declared.fault.SyntaxKind.{SyntaxKind};
 ghost use Rattle.hv_syntax.specs.FirstFaults.{IsFaultyDomain, IsFaultyProblem};
 ghost use Rattle.hv_syntax.specs.Texts.{IsDomainText, IsDomainFault, IsProblemText, IsProblemFault, IsOwnFaultBy, SaysSome, HasFaultBy};
-ghost use Rattle.hv_syntax.specs.Spellings.{SpellsTerm, SpellsAtom, SpellsTyped, SpellsFormula, SpellsLiteral, SpellsEffect, SpellsList, SpellsSubtask, SpellsPair, SpellsConstraint};
+ghost use Rattle.hv_syntax.specs.Spellings.{SpellsTerm, SpellsAtom, SpellsTyped, SpellsTypedVariables, SpellsFormula, SpellsLiteral, SpellsEffect, SpellsList, SpellsSubtask, SpellsPair, SpellsConstraint};
 
 use hv_text::{a_text_has_one_reading, expressions_or_one_fault};
 
@@ -34,9 +34,10 @@ pub fn atoms_are_spelled()
     ensures atoms { (t : Tree) (a : Atom) → SpellsAtom t a ↔ (atom_of t ≡ Some a) }
 {}
 
-/// So are typed lists: the type behind a group is that of all its names.
+/// So are typed lists of names and of variables: the type behind a group is that of all its words.
 pub fn typed_lists_are_spelled()
-    ensures { (sort : Sort) (ts : Trees) (xs : List Typed) → SpellsTyped sort ts xs ↔ (typed_list_of sort ts ≡ Some xs) }
+    ensures names { (ts : Trees) (xs : List Typed) → SpellsTyped ts xs ↔ (typed_list_of ts ≡ Some xs) }
+    ensures variables { (ts : Trees) (xs : List Variable) → SpellsTypedVariables ts xs ↔ (typed_variables_of ts ≡ Some xs) }
 {}
 
 /// So are formulas.

@@ -3,6 +3,7 @@
 
 mod action;
 mod domain;
+mod effect;
 mod fault;
 mod field;
 mod formula;
@@ -22,10 +23,12 @@ mod task;
 mod term;
 mod typed;
 mod unsupported;
+mod variable;
 mod word;
 
 pub use action::ActionText;
 pub use domain::DomainText;
+pub use effect::{EffectText, ItemText};
 pub use fault::{SyntaxFault, SyntaxKind};
 pub use formula::FormulaText;
 pub use laws::{
@@ -34,7 +37,7 @@ pub use laws::{
     formulas_are_spelled, letter_case_decides_nothing, networks_are_spelled, sections_stand_once,
     texts_are_spelled, typed_lists_are_spelled,
 };
-pub use literal::{EffectText, LiteralText};
+pub use literal::LiteralText;
 pub use method::MethodText;
 pub use network::{ConstraintText, NetworkText, PairText, SubtaskText};
 pub use predicate::PredicateText;
@@ -52,4 +55,5 @@ pub use read::{read_domain, read_problem};
 pub use task::TaskText;
 pub use term::{AtomText, TermText};
 pub use typed::{TypeText, TypedText};
+pub use variable::VariableText;
 pub use word::Placed;

@@ -1,17 +1,15 @@
-//! Literals and effects.
+//! Literals.
 
-ghost use Rattle.std.specs.Prelude.{◌≡◌, ◌≤◌, [], IfOk, map};
+ghost use Rattle.std.specs.Prelude.{◌≡◌, ◌≤◌, IfOk, map};
 ghost use Rattle.hv_text.specs.Trees.{tree, trees};
 ghost use Rattle.hv_text.specs.Rests.{here, ended};
 ghost use Rattle.hv_text.specs.Cursors.{rest_at, left_at};
 ghost use Rattle.hv_syntax.specs.inside.Reading.{Gives, every};
-ghost use Rattle.hv_syntax.specs.inside.Lists.{listed};
-ghost use Rattle.hv_syntax.specs.Values.{effect};
 ghost use Rattle.hv_syntax.specs.Literals.{is_constant, are_constants};
-ghost use Rattle.hv_syntax.specs.inside.Literals.{literal_of, effect_of, ground_literal_of};
-ghost use Rattle.hv_syntax.specs.Views.{term_view, atom_view, literal_view, effect_view};
+ghost use Rattle.hv_syntax.specs.inside.Literals.{literal_of, ground_literal_of};
+ghost use Rattle.hv_syntax.specs.Views.{term_view, atom_view, literal_view};
 
-use crate::list::{conjuncts, negated};
+use crate::list::negated;
 use crate::refusal::Refusal;
 use crate::term::{AtomText, TermText, read_atom};
 use hv_text::{Cursor, Sexp};
@@ -40,32 +38,12 @@ impl<'s> LiteralText<'s> {
     }
 }
 
-/// What an action brings about: all of its literals become true.
-#[derive(Drop)]
-pub struct EffectText<'s> {
-    literals: Vec<LiteralText<'s>>,
-}
-
-impl<'s> EffectText<'s> {
-    /// The effect that brings nothing about.
-    pub(crate) fn nothing(alloc: Global) -> EffectText<'s>
-        ensures { effect_view result ≡ effect [] }
-    {
-        EffectText {
-            literals: Vec::new(alloc),
-        }
-    }
-
-    /// The literals, as written.
-    pub fn literals(&self) -> &[LiteralText<'s>]
-        ensures { map literal_view result.now ≡ (effect_view self.now).literals }
-    {
-        &self.literals
-    }
-}
-
-// An atom, or `(not atom)`.
-fn read_literal<'s>(alloc: Global, e: &Sexp<'s>) -> Result<LiteralText<'s>, Refusal>
+/// Reads a literal: an atom, or `(not atom)`.
+///
+/// # Errors
+///
+/// `NoSpelling` where the expression is none, and `Memory`.
+pub(crate) fn read_literal<'s>(alloc: Global, e: &Sexp<'s>) -> Result<LiteralText<'s>, Refusal>
     ensures { Gives literal_view result (literal_of (tree e.now)) }
 {
     match negated(e) {
@@ -78,42 +56,6 @@ fn read_literal<'s>(alloc: Global, e: &Sexp<'s>) -> Result<LiteralText<'s>, Refu
             atom: read_atom(alloc, e)?,
         }),
     }
-}
-
-fn read_literals<'s>(alloc: Global, es: &[Sexp<'s>]) -> Result<Vec<LiteralText<'s>>, Refusal>
-    ensures { Gives (λ v. map literal_view v.items) result (every literal_of (trees es.now)) }
-{
-    let mut literals = Vec::new(alloc);
-    for e in es {
-        literals.push(read_literal(alloc, e)?)?;
-    }
-    Ok(literals)
-}
-
-// `()`, a literal, or literals behind `and`.
-fn read_listed_literals<'s>(alloc: Global, e: &Sexp<'s>) -> Result<Vec<LiteralText<'s>>, Refusal>
-    ensures { Gives (λ v. map literal_view v.items) result (listed literal_of (tree e.now)) }
-{
-    match conjuncts(e) {
-        Some(es) => read_literals(alloc, es),
-        None => {
-            let mut one = Vec::new(alloc);
-            one.push(read_literal(alloc, e)?)?;
-            Ok(one)
-        }
-    }
-}
-
-/// Reads an effect: `()`, a literal, or literals behind `and`.
-///
-/// # Errors
-///
-/// `NoSpelling` where the expression is no effect, and `Memory`.
-pub(crate) fn read_effect<'s>(alloc: Global, e: &Sexp<'s>) -> Result<EffectText<'s>, Refusal>
-    ensures { Gives effect_view result (effect_of (tree e.now)) }
-{
-    let literals = read_listed_literals(alloc, e)?;
-    Ok(EffectText { literals })
 }
 
 fn is_constant(term: TermText<'_>) -> bool

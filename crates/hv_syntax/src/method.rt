@@ -4,7 +4,7 @@ ghost use Rattle.std.specs.Prelude.{◌≡◌, map, option_map};
 ghost use Rattle.hv_text.specs.Trees.{tree, trees};
 ghost use Rattle.hv_syntax.specs.inside.Reading.{Gives};
 ghost use Rattle.hv_syntax.specs.inside.Declarations.{task_at, method_named, method_of};
-ghost use Rattle.hv_syntax.specs.Views.{word_view, typed_view, atom_view, formula_view};
+ghost use Rattle.hv_syntax.specs.Views.{word_view, variable_view, atom_view, formula_view};
 ghost use Rattle.hv_syntax.specs.NetworkViews.{network_view};
 ghost use Rattle.hv_syntax.specs.DeclarationViews.{method_view};
 
@@ -14,7 +14,7 @@ use crate::network::{NetworkText, read_network};
 use crate::refusal::Refusal;
 use crate::task::{read_parameters, read_precondition};
 use crate::term::{AtomText, read_atom};
-use crate::typed::TypedText;
+use crate::variable::VariableText;
 use crate::word::{Placed, read_symbol};
 use hv_text::{Sexp, Span};
 use std::alloc::Global;
@@ -23,7 +23,7 @@ use std::alloc::Global;
 #[derive(Drop)]
 pub struct MethodText<'s> {
     name: Placed<'s>,
-    parameters: Vec<TypedText<'s>>,
+    parameters: Vec<VariableText<'s>>,
     task: AtomText<'s>,
     precondition: FormulaText<'s>,
     network: NetworkText<'s>,
@@ -39,8 +39,8 @@ impl<'s> MethodText<'s> {
     }
 
     /// Its parameters, as written.
-    pub fn parameters(&self) -> &[TypedText<'s>]
-        ensures { map typed_view result.now ≡ (method_view self.now).parameters }
+    pub fn parameters(&self) -> &[VariableText<'s>]
+        ensures { map variable_view result.now ≡ (method_view self.now).parameters }
     {
         &self.parameters
     }

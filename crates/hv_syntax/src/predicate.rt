@@ -4,12 +4,12 @@ ghost use Rattle.std.specs.Prelude.{◌≡◌, map};
 ghost use Rattle.hv_text.specs.Trees.{tree, trees};
 ghost use Rattle.hv_syntax.specs.inside.Reading.{Gives, every};
 ghost use Rattle.hv_syntax.specs.inside.Declarations.{predicate_of};
-ghost use Rattle.hv_syntax.specs.Views.{word_view, typed_view};
+ghost use Rattle.hv_syntax.specs.Views.{word_view, variable_view};
 ghost use Rattle.hv_syntax.specs.DeclarationViews.{predicate_view};
 
 use crate::refusal::Refusal;
-use crate::typed::{TypedText, read_typed_list};
-use crate::word::{Placed, Sort, read_symbol};
+use crate::variable::{VariableText, read_typed_variables};
+use crate::word::{Placed, read_symbol};
 use hv_text::Sexp;
 use std::alloc::Global;
 
@@ -17,7 +17,7 @@ use std::alloc::Global;
 #[derive(Drop)]
 pub struct PredicateText<'s> {
     name: Placed<'s>,
-    parameters: Vec<TypedText<'s>>,
+    parameters: Vec<VariableText<'s>>,
 }
 
 impl<'s> PredicateText<'s> {
@@ -29,8 +29,8 @@ impl<'s> PredicateText<'s> {
     }
 
     /// Its parameters, as written.
-    pub fn parameters(&self) -> &[TypedText<'s>]
-        ensures { map typed_view result.now ≡ (predicate_view self.now).parameters }
+    pub fn parameters(&self) -> &[VariableText<'s>]
+        ensures { map variable_view result.now ≡ (predicate_view self.now).parameters }
     {
         &self.parameters
     }
@@ -47,7 +47,7 @@ fn read_predicate<'s>(alloc: Global, e: &Sexp<'s>) -> Result<PredicateText<'s>, 
         [] => Err(Refusal::NoSpelling),
         [symbol, others @ ..] => {
             let name = read_symbol(symbol)?;
-            let parameters = read_typed_list(alloc, Sort::Variable, others)?;
+            let parameters = read_typed_variables(alloc, others)?;
             Ok(PredicateText { name, parameters })
         }
     }

@@ -7,9 +7,11 @@ ghost use Rattle.hv_syntax.specs.ProblemViews.{problem_view};
 
 mod declarations;
 mod definitions;
+mod effects;
 mod formulas;
 mod networks;
 mod terms;
+mod variables;
 
 use crate::domain::DomainText;
 use crate::problem::ProblemText;

@@ -8,7 +8,7 @@ ghost use Rattle.hv_text.specs.Shapes.{bare_piece, bare_trees, IsTidy};
 ghost use Rattle.hv_text.specs.declared.fault.TheConstants.{MOST_BYTES};
 ghost use Rattle.hv_syntax.specs.Values.{Formula, Effect, Domain, Problem};
 ghost use Rattle.hv_syntax.specs.inside.Formulas.{formula_of};
-ghost use Rattle.hv_syntax.specs.inside.Literals.{effect_of};
+ghost use Rattle.hv_syntax.specs.inside.Effects.{effect_of};
 ghost use Rattle.hv_syntax.specs.inside.Domains.{domain_of};
 ghost use Rattle.hv_syntax.specs.inside.Problems.{problem_of};
 ghost use Rattle.hv_syntax.specs.Texts.{IsDomainText, IsProblemText};

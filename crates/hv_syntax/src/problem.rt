@@ -7,7 +7,7 @@ ghost use Rattle.hv_syntax.specs.inside.Reading.{Gives};
 ghost use Rattle.hv_syntax.specs.inside.Faults.{Answers};
 ghost use Rattle.hv_syntax.specs.Problems.{problem_standing, add_part, no_parts};
 ghost use Rattle.hv_syntax.specs.inside.Problems.{htn_of, goal_of, problem_section_by, problem_section, parts_from, assembled, whole, problem_of};
-ghost use Rattle.hv_syntax.specs.Views.{word_view, typed_view, formula_view, literal_view};
+ghost use Rattle.hv_syntax.specs.Views.{word_view, typed_view, variable_view, formula_view, literal_view};
 ghost use Rattle.hv_syntax.specs.NetworkViews.{network_view};
 ghost use Rattle.hv_syntax.specs.ProblemViews.{htn_view, problem_section_view, parts_view, problem_view};
 
@@ -25,6 +25,7 @@ use crate::section::{
 };
 use crate::task::read_parameters;
 use crate::typed::{TypedText, read_typed_list};
+use crate::variable::VariableText;
 use crate::word::{Placed, Sort, span_of};
 use hv_text::{Name, Sexp, Span};
 use std::alloc::Global;
@@ -33,15 +34,15 @@ pub(crate) use stream::read_problem_at;
 /// The initial task network of a problem.
 #[derive(Drop)]
 pub struct HtnText<'s> {
-    parameters: Vec<TypedText<'s>>,
+    parameters: Vec<VariableText<'s>>,
     network: NetworkText<'s>,
     span: Span,
 }
 
 impl<'s> HtnText<'s> {
     /// Its parameters, as written.
-    pub fn parameters(&self) -> &[TypedText<'s>]
-        ensures { map typed_view result.now ≡ (htn_view self.now).parameters }
+    pub fn parameters(&self) -> &[VariableText<'s>]
+        ensures { map variable_view result.now ≡ (htn_view self.now).parameters }
     {
         &self.parameters
     }
@@ -218,7 +219,7 @@ fn read_members<'s>(
         return read_keywords(alloc, es).map(ProblemSection::Requirements);
     }
     if name.is(b":objects") {
-        return read_typed_list(alloc, Sort::Name, es).map(ProblemSection::Objects);
+        return read_typed_list(alloc, es).map(ProblemSection::Objects);
     }
     if name.is(b":htn") {
         return read_htn(alloc, span, es).map(ProblemSection::Htn);

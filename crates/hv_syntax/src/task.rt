@@ -5,15 +5,15 @@ ghost use Rattle.hv_text.specs.Trees.{tree, trees};
 ghost use Rattle.hv_syntax.specs.inside.Reading.{Gives};
 ghost use Rattle.hv_syntax.specs.Declarations.{are_none, is_empty_list, is_nothing};
 ghost use Rattle.hv_syntax.specs.inside.Declarations.{parameters_at, precondition_at, task_of};
-ghost use Rattle.hv_syntax.specs.Views.{word_view, typed_view, formula_view};
+ghost use Rattle.hv_syntax.specs.Views.{word_view, variable_view, formula_view};
 ghost use Rattle.hv_syntax.specs.DeclarationViews.{task_view};
 
 use crate::field::{Slot, field, is_field_list};
 use crate::formula::{FormulaText, read_formula};
 use crate::list::conjuncts;
 use crate::refusal::Refusal;
-use crate::typed::{TypedText, read_typed_list};
-use crate::word::{Placed, Sort, read_symbol};
+use crate::variable::{VariableText, read_typed_variables};
+use crate::word::{Placed, read_symbol};
 use hv_text::{Sexp, Span};
 use std::alloc::Global;
 
@@ -21,7 +21,7 @@ use std::alloc::Global;
 #[derive(Drop)]
 pub struct TaskText<'s> {
     name: Placed<'s>,
-    parameters: Vec<TypedText<'s>>,
+    parameters: Vec<VariableText<'s>>,
     span: Span,
 }
 
@@ -34,8 +34,8 @@ impl<'s> TaskText<'s> {
     }
 
     /// Its parameters, as written.
-    pub fn parameters(&self) -> &[TypedText<'s>]
-        ensures { map typed_view result.now ≡ (task_view self.now).parameters }
+    pub fn parameters(&self) -> &[VariableText<'s>]
+        ensures { map variable_view result.now ≡ (task_view self.now).parameters }
     {
         &self.parameters
     }
@@ -56,14 +56,14 @@ impl<'s> TaskText<'s> {
 pub(crate) fn read_parameters<'s>(
     alloc: Global,
     e: Option<&Sexp<'s>>,
-) -> Result<Vec<TypedText<'s>>, Refusal>
-    ensures { Gives (λ v. map typed_view v.items) result (parameters_at (option_map (λ e. tree e.now) e.entry)) }
+) -> Result<Vec<VariableText<'s>>, Refusal>
+    ensures { Gives (λ v. map variable_view v.items) result (parameters_at (option_map (λ e. tree e.now) e.entry)) }
 {
     match e {
         None => Ok(Vec::new(alloc)),
         Some(e) => match e {
             Sexp::Word(..) => Err(Refusal::NoSpelling),
-            Sexp::List(members, _) => read_typed_list(alloc, Sort::Variable, members),
+            Sexp::List(members, _) => read_typed_variables(alloc, members),
         },
     }
 }

@@ -1,4 +1,4 @@
-//! Typed lists.
+//! Typed lists of names.
 
 ghost use Rattle.std.specs.Prelude.{◌≡◌, ◌++◌, map, OnOk, IfErr};
 ghost use Rattle.hv_text.specs.Trees.{trees};
@@ -12,7 +12,7 @@ use crate::word::{Placed, Sort, is_sort};
 use hv_text::Sexp;
 use std::alloc::Global;
 
-/// The type of a name or a variable.
+/// The type of a name.
 #[derive(Clone, Copy)]
 pub enum TypeText<'s> {
     /// None is written: the type is `object`.
@@ -21,7 +21,7 @@ pub enum TypeText<'s> {
     Named(Placed<'s>),
 }
 
-/// A name or a variable, and its type.
+/// A name, and its type.
 #[derive(Clone, Copy)]
 pub struct TypedText<'s> {
     name: Placed<'s>,
@@ -29,7 +29,7 @@ pub struct TypedText<'s> {
 }
 
 impl<'s> TypedText<'s> {
-    /// The name or the variable.
+    /// The name.
     pub fn name(self) -> Placed<'s>
         ensures { word_view result ≡ (typed_view self.entry).name }
     {
@@ -59,17 +59,16 @@ fn give_type<'s>(
     Ok(())
 }
 
-/// Reads a typed list of words of this sort: a type holds for all words since the type before it.
+/// Reads a typed list of names: a type holds for all names since the type before it.
 ///
 /// # Errors
 ///
 /// `NoSpelling` where the expressions are none, and `Memory`.
 pub(crate) fn read_typed_list<'s>(
     alloc: Global,
-    sort: Sort,
     es: &[Sexp<'s>],
 ) -> Result<Vec<TypedText<'s>>, Refusal>
-    ensures { Gives (λ v. map typed_view v.items) result (typed_list_of sort (trees es.now)) }
+    ensures { Gives (λ v. map typed_view v.items) result (typed_list_of (trees es.now)) }
 {
     let mut found = Vec::new(alloc);
     let mut waiting = Vec::new(alloc);
@@ -95,7 +94,7 @@ pub(crate) fn read_typed_list<'s>(
             }
             wanted = true;
         } else {
-            if !is_sort(*name, sort) {
+            if !is_sort(*name, Sort::Name) {
                 return Err(Refusal::NoSpelling);
             }
             waiting.push(word)?;

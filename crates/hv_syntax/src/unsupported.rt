@@ -1,4 +1,4 @@
-//! Forms of the language that are not supported: conditional and quantified effects, numbers, preferences and more.
+//! Forms of the language that are not supported: conditional effects, numbers, preferences and more.
 
 ghost use Rattle.std.specs.Prelude.{◌≡◌, option_map};
 ghost use Rattle.hv_text.specs.Names.{text_of};
@@ -13,7 +13,7 @@ use hv_text::{Name, Sexp};
 pub enum Form {
     /// Unsupported wherever it stands.
     Anywhere,
-    /// Quantified by `forall`, which is unsupported in an effect.
+    /// Quantified by `forall`, in an effect that is not written as one.
     Quantified,
 }
 

@@ -27,7 +27,7 @@ fn plan_again(alloc: Global, text: &[u8]) -> Result<Vec<u8>, Fail> {
     Ok(out)
 }
 
-const DOMAINS: [(&str, &str); 4] = [
+const DOMAINS: [(&str, &str); 5] = [
     (
         "(define (domain FLIP) (:predicates (P)) (:action Flip :effect (p)))",
         "(define (domain flip)\n(:predicates (p))\n(:action flip :parameters () :precondition () :effect (and (p)))\n)\n",
@@ -43,6 +43,10 @@ const DOMAINS: [(&str, &str); 4] = [
     (
         "(define (domain d) (:method m :task (t) :ordered-tasks (t) :constraints (and (= a b)) :precondition (forall (?x ?y - a) (or (p) (imply (q ?x) (exists (?z) (not (= ?z ?y))))))) (:method n :task (t) :subtasks () :order () :constraints (and)))",
         "(define (domain d)\n(:method m :parameters () :task (t) :precondition (forall (?x - a ?y - a) (or (p) (imply (q ?x) (exists (?z - object) (not (= ?z ?y)))))) :ordered-subtasks (and (t)) :constraints (and (= a b)))\n(:method n :parameters () :task (t) :precondition () :subtasks ())\n)\n",
+    ),
+    (
+        "(define (domain d) (:predicates (p ?a - x ?b ?c - (EITHER x y x))) (:action a :parameters (?x - (either X)) :effect (and (forall (?x) (and)) (forall (?y - x) (and (not (p ?y)))))) (:action b :effect (forall () (forall (?y) (p ?y)))) (:action c :effect (not (p))))",
+        "(define (domain d)\n(:predicates (p ?a - x ?b - (either x y x) ?c - (either x y x)))\n(:action a :parameters (?x - x) :precondition () :effect (and (forall (?x - object) ()) (forall (?y - x) (not (p ?y)))))\n(:action b :parameters () :precondition () :effect (forall () (forall (?y - object) (p ?y))))\n(:action c :parameters () :precondition () :effect (and (not (p))))\n)\n",
     ),
 ];
 

@@ -1,5 +1,6 @@
 //! Truth in states, what actions leave, and the states that a plan passes, for both kinds of state.
 
+mod effects;
 mod random;
 
 use crate::texts::{
@@ -136,8 +137,8 @@ fn moved<S: State>(alloc: Global, objects: &[ObjectId]) -> Option<S> {
     let mut state = S::initial(alloc, &world).ok()?;
     let action = world.action(ActionId(0))?;
     let binding = Binding::Given(objects);
-    let deletes = GroundAtoms::of(alloc, action.deletes(), &binding).ok()?;
-    let adds = GroundAtoms::of(alloc, action.adds(), &binding).ok()?;
+    let deletes = GroundAtoms::made(alloc, &world, action.effect(), false, &binding).ok()?;
+    let adds = GroundAtoms::made(alloc, &world, action.effect(), true, &binding).ok()?;
     state.apply(&deletes, &adds).ok()?;
     Some(state)
 }

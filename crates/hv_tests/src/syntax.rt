@@ -219,7 +219,7 @@ fn finds_the_first_fault_of_a_domain(rt: HostRuntime) {
         ),
         (b"(define (domain d) (:action a :task (t)))", shape, (1, 20)),
         (
-            b"(define (domain d) (:action a :effect (forall (?x) (p))))",
+            b"(define (domain d) (:action a :effect (forall ?x (p))))",
             unsupported,
             (1, 20),
         ),

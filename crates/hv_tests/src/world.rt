@@ -8,8 +8,8 @@ use crate::texts::{ONE, TRANSPORT};
 use crate::worlds::{object, world_of};
 use hv_text::Name;
 use hv_world::{
-    Action, ActionId, Formula, Method, MethodId, Network, ObjectId, PredicateId, TaskId, TaskName,
-    Term, TypeId, World,
+    Action, ActionId, Effect, Formula, Method, MethodId, Network, ObjectId, PredicateId, TaskId,
+    TaskName, Term, TypeId, World,
 };
 use std::alloc::Global;
 
@@ -100,7 +100,15 @@ fn network_has_numbers(network: &Network) -> bool {
 }
 
 fn action_has_numbers(action: &Action<'_>) -> bool {
-    action.name().is(b"drive") && action.deletes().len() == 2 && action.adds().len() == 1
+    let as_written = match action.effect() {
+        [
+            Effect::Becomes(first, _),
+            Effect::Becomes(second, _),
+            Effect::Becomes(third, _),
+        ] => { !*first && *second && !*third }
+        _ => false,
+    };
+    action.name().is(b"drive") && as_written
 }
 
 fn top_has_numbers(top: &Method<'_>) -> bool {

@@ -1,21 +1,25 @@
 -- Where there is no static fault, the numbers of a world are those of what it has.
-use Rattle.std.proofs.Common.{◌≡◌, ℕ, zero, suc, ◌+◌, ◌<◌, Bool, true, false, not, ◌||◌, List, [], ◌∷◌, length, Option, Some, None, option_map, bytes_eq, if◌then◌else◌, All, refl, ap, sym, subst, ◌∙◌, arith}
+use Rattle.std.proofs.Common.{◌≡◌, ℕ, zero, suc, ◌+◌, ◌<◌, Bool, true, false, not, ◌||◌, List, [], ◌∷◌, length, Option, Some, None, option_map, bytes_eq, codes, if◌then◌else◌, All, refl, ap, sym, subst, ◌∙◌, arith}
 use Rattle.std.specs.List.{slice_get}
 use Rattle.std.proofs.lemmas.List.{length-map}
 use Rattle.std.proofs.lemmas.List.Elements.{All-weaker, All-map}
+use Rattle.std.proofs.lemmas.List.Quantifiers.{position-Some}
 use Rattle.hv_syntax.specs.Values as text
-use Rattle.hv_syntax.specs.Values.{WordAt, Typed, type_name, Predicate, Domain, Problem}
+use Rattle.hv_syntax.specs.Values.{WordAt, Variable, Predicate, Domain, Problem}
 use Rattle.hv_world.specs.declared.fault.StaticKind.{StaticKind}
 use Rattle.hv_world.specs.declared.fault.StaticKind.TheVariants as kinds
 use Rattle.hv_world.specs.declared.fault.Side.{Side}
 use Rattle.hv_world.specs.Names.{is_among, names, place_in, number_or}
 use Rattle.hv_world.specs.Known.{Known, Signature, signature, signature_at, known_in, variables, predicate_words}
 use Rattle.hv_world.specs.Scopes.{Scope, outer, inside, parameters, size, variable_in, is_some, is_bound}
-use Rattle.hv_world.specs.StaticRules.{type_faults, head_faults, signature_arity, typed_faults, term_faults, terms_faults, atom_faults, formula_faults, all_formula_faults}
-use Rattle.hv_world.specs.Worlds.{World, world_of, type_of, types_of, term_in, terms_in, atom_in, formula_in, formulas_in, number_of}
-use Rattle.hv_world.specs.Values.{Formula}
-use Rattle.hv_world.specs.Bounds.{IsType, IsBoundTerm, AreBoundTerms, IsBoundAtom, IsBoundFormula, AreBoundFormulas}
-use Rattle.hv_world.proofs.StaticLemmas.{first_none, last_none, none_of_each, no_fault, number_within, declared_type}
+use Rattle.hv_world.specs.StaticRules.{types_faults, head_faults, signature_arity, variable_types_faults, term_faults, terms_faults, atom_faults, formula_faults, all_formula_faults, effect_faults, item_faults}
+use Rattle.hv_world.specs.Worlds.{World, world_of, either_number, number_of_type, variable_type, types_of, term_in, terms_in, atom_in, formula_in, formulas_in, effect_in, effects_in, number_of}
+use Rattle.hv_world.specs.Values.{Formula, Effects}
+use Rattle.hv_world.specs.Eithers.{are_same, either_place}
+use Rattle.hv_world.specs.Bounds.{IsType, IsBoundTerm, AreBoundTerms, IsBoundAtom, IsBoundFormula, AreBoundFormulas, IsBoundEffect, AreBoundEffects}
+use Rattle.hv_world.proofs.NoFaults.{first_none, last_none, none_of_each, no_fault}
+use Rattle.hv_world.proofs.AmongLemmas.{number_within, some_within}
+use Rattle.hv_world.proofs.StaticLemmas.{object_is_type}
 
 -- a number of each variable in scope, below the size of the scope
 abbrev pub IsScope : Scope → Type 0
@@ -97,15 +101,28 @@ module _ (d : Domain) (p : Problem) where
         let within : head.0.number < length w.predicates = subst (λ n. head.0.number < n) long below in
         (subst (λ o. number_of o < length w.predicates) (sym head.1) within, terms_bound scope a.terms ok (last_none _ _ e))
 
-    pub types_bound : (vs : List Typed) → typed_faults k s vs ≡ [] → All (IsType w) (types_of k vs)
-    types_bound vs e =
-        All-map (IsType w) (type_of k) vs
-        (All-weaker (λ v. type_faults k s v.of ≡ []) (λ v. IsType w (type_of k v)) (λ v h. number_within k.types (type_name v.of) (declared_type d k s v.of refl h)) vs (none_of_each (λ v. type_faults k s v.of) vs e))
+    type_bound : (ws : List WordAt) → types_faults k s ws ≡ [] → IsType w (number_of_type k ws)
+    type_bound [] e = let some = some_within k.types (codes "object") (object_is_type d) in omega (arith, some)
+    type_bound (x ∷ []) e = let lt = number_within k.types x.text (no_fault (is_among k.types x.text) kinds.UnknownType s x (first_none _ _ e)) in omega (arith, lt)
+    type_bound (x ∷ y ∷ ws) e = by (either_place k.eithers (names (x ∷ y ∷ ws))) refl
+      where
+        by : (o : Option ℕ) → either_place k.eithers (names (x ∷ y ∷ ws)) ≡ o → either_number k o < length k.types + length k.eithers
+        by None h = let some = some_within k.types (codes "object") (object_is_type d) in omega (arith, some)
+        by (Some i) h = let lt = (position-Some (are_same (names (x ∷ y ∷ ws))) k.eithers i [] h).0 in omega (arith, lt)
 
-    quantified : (scope : Scope) (vs : List Typed) (f : Formula) → IsBoundFormula w (size scope + length (variables vs)) f → IsBoundFormula w (size scope + length (types_of k vs)) f
-    quantified scope vs f h =
-        let same : length (variables vs) ≡ length (types_of k vs) = length-map vs (λ v. v.name.text) ∙ sym (length-map vs (type_of k)) in
-        subst (λ n. IsBoundFormula w (size scope + n) f) same h
+    pub types_bound : (vs : List Variable) → variable_types_faults k s vs ≡ [] → All (IsType w) (types_of k vs)
+    types_bound vs e =
+        All-map (IsType w) (variable_type k) vs
+        (All-weaker (λ v. types_faults k s v.of ≡ []) (λ v. IsType w (variable_type k v)) (λ v h. type_bound v.of h) vs (none_of_each (λ v. types_faults k s v.of) vs e))
+
+    pub as_many : (vs : List Variable) → length (variables vs) ≡ length (types_of k vs)
+    as_many vs = length-map vs (λ v. v.name.text) ∙ sym (length-map vs (variable_type k))
+
+    quantified : (scope : Scope) (vs : List Variable) (f : Formula) → IsBoundFormula w (size scope + length (variables vs)) f → IsBoundFormula w (size scope + length (types_of k vs)) f
+    quantified scope vs f h = subst (λ n. IsBoundFormula w (size scope + n) f) (as_many vs) h
+
+    for_all : (scope : Scope) (vs : List Variable) (es : Effects) → AreBoundEffects w (size scope + length (variables vs)) es → AreBoundEffects w (size scope + length (types_of k vs)) es
+    for_all scope vs es h = subst (λ n. AreBoundEffects w (size scope + n) es) (as_many vs) h
 
     mutual
       pub formula_bound : (scope : Scope) (f : text.Formula) → IsScope scope → formula_faults k s scope f ≡ [] → IsBoundFormula w (size scope) (formula_in k scope f)
@@ -123,3 +140,13 @@ module _ (d : Domain) (p : Problem) where
       pub formulas_bound : (scope : Scope) (fs : text.Formulas) → IsScope scope → all_formula_faults k s scope fs ≡ [] → AreBoundFormulas w (size scope) (formulas_in k scope fs)
       formulas_bound scope text.no_formulas ok e = tt
       formulas_bound scope (text.more_formulas f fs) ok e = (formula_bound scope f ok (first_none _ _ e), formulas_bound scope fs ok (last_none _ _ e))
+
+    mutual
+      pub effects_bound : (scope : Scope) (x : text.Effect) → IsScope scope → effect_faults k s scope x ≡ [] → AreBoundEffects w (size scope) (effects_in k scope x)
+      effects_bound scope text.no_items ok e = tt
+      effects_bound scope (text.more_items i x) ok e = (effect_bound scope i ok (first_none _ _ e), effects_bound scope x ok (last_none _ _ e))
+
+      pub effect_bound : (scope : Scope) (i : text.Item) → IsScope scope → item_faults k s scope i ≡ [] → IsBoundEffect w (size scope) (effect_in k scope i)
+      effect_bound scope (text.becomes l) ok e = atom_bound scope l.atom ok e
+      effect_bound scope (text.for_each vs x) ok e =
+          (types_bound vs (first_none _ _ (first_none _ _ e)), for_all scope vs (effects_in k (inside scope (variables vs)) x) (effects_bound (inside scope (variables vs)) x ok (last_none _ _ e)))

@@ -7,7 +7,7 @@ use Rattle.std.proofs.lemmas.List.{length-map}
 use Rattle.std.proofs.lemmas.Option.{get_or_from_slice_get, slice_get-map}
 use Rattle.std.proofs.lemmas.List.Elements.{All-cons, All-nil, All-weaker, All-map, All-append, All-drop, All-take, All-filter}
 use Rattle.hv_syntax.specs.Values as text
-use Rattle.hv_syntax.specs.Values.{WordAt, Typed, Domain, Problem}
+use Rattle.hv_syntax.specs.Values.{WordAt, Variable, Domain, Problem}
 use Rattle.hv_text.specs.declared.span.Span.{Span}
 use Rattle.hv_world.specs.declared.fault.StaticKind.TheVariants as kinds
 use Rattle.hv_world.specs.declared.fault.Side.{Side}
@@ -17,10 +17,10 @@ use Rattle.hv_world.specs.Names.{names, place_in}
 use Rattle.hv_world.specs.Known.{Known, Declaration, declaration, task_declarations, action_declarations, those_before, by_place, declarations, declared_words, at_place, known_in, variables}
 use Rattle.hv_world.specs.Scopes.{Scope, parameters, size}
 use Rattle.hv_world.specs.StaticRules.{at_word_if, head_faults, declared_arity, arity_of_task, variable_faults, atom_faults, literals_faults, term_faults, task_faults, subtask_faults, network_faults, method_faults, action_faults, htn_faults, goal_faults, IsStatic}
-use Rattle.hv_world.specs.Worlds.{World, world_of, type_of, types_of, term_in, terms_in, atom_in, formula_in, task_of, task_in, constraint_in, network_in, method_in, top_in, task_by, action_in, added, deleted}
-use Rattle.hv_world.specs.Bounds.{IsType, IsBoundAtom, IsBoundFormula, TaskTakes, ActionTakes, Takes, IsBoundSubtask, IsBoundConstraint, IsBoundNetwork, IsBoundTask, IsBoundMethod, IsBoundAction, IsBoundGoal, IsBound}
-use Rattle.hv_world.proofs.StaticLemmas.{first_none, last_none, none_of_each, no_fault}
-use Rattle.hv_world.proofs.BoundLemmas.{IsScope, parameters_scope, got_within, terms_bound, term_bound, atom_bound, types_bound, formula_bound}
+use Rattle.hv_world.specs.Worlds.{World, world_of, variable_type, types_of, term_in, terms_in, atom_in, formula_in, task_of, task_in, constraint_in, network_in, method_in, top_in, task_by, action_in, effects_in, added}
+use Rattle.hv_world.specs.Bounds.{IsType, IsBoundAtom, IsBoundFormula, AreBoundEffects, TaskTakes, ActionTakes, Takes, IsBoundSubtask, IsBoundConstraint, IsBoundNetwork, IsBoundTask, IsBoundMethod, IsBoundAction, IsBoundGoal, IsBound}
+use Rattle.hv_world.proofs.NoFaults.{first_none, last_none, none_of_each, no_fault}
+use Rattle.hv_world.proofs.BoundLemmas.{IsScope, parameters_scope, got_within, terms_bound, term_bound, atom_bound, types_bound, as_many, formula_bound, effects_bound}
 
 got : {A : Type 0} (P : A → Type 0) (xs : List A) (i : ℕ) (x : A) → slice_get xs i ≡ Some x → All P xs → P x
 got P xs i x e h = subst P (get_or_from_slice_get xs i x x e) (h i x (got_within xs i x e))
@@ -73,11 +73,11 @@ module _ (d : Domain) (p : Problem) where
 
   task_takes : (i : ℕ) (t : text.Task) → slice_get d.tasks i ≡ Some t → TaskTakes w i (length t.parameters)
   task_takes i t e =
-      subst (λ o. MatchOption o ⊥ (λ x. length x.parameters ≡ length t.parameters)) (sym (slice_get-map (task_by k) d.tasks i ∙ ap (option_map (task_by k)) e)) (length-map t.parameters (type_of k))
+      subst (λ o. MatchOption o ⊥ (λ x. length x.parameters ≡ length t.parameters)) (sym (slice_get-map (task_by k) d.tasks i ∙ ap (option_map (task_by k)) e)) (length-map t.parameters (variable_type k))
 
   action_takes : (i : ℕ) (a : text.Action) → slice_get d.actions i ≡ Some a → ActionTakes w i (length a.parameters)
   action_takes i a e =
-      subst (λ o. MatchOption o ⊥ (λ x. length x.parameters ≡ length a.parameters)) (sym (slice_get-map (action_in k) d.actions i ∙ ap (option_map (action_in k)) e)) (length-map a.parameters (type_of k))
+      subst (λ o. MatchOption o ⊥ (λ x. length x.parameters ≡ length a.parameters)) (sym (slice_get-map (action_in k) d.actions i ∙ ap (option_map (action_in k)) e)) (length-map a.parameters (variable_type k))
 
   tasks_taken : (n : ℕ) (ts : List text.Task) → ((i : ℕ) → slice_get ts i ≡ slice_get d.tasks (n + i)) → All IsTaken (task_declarations n ts)
   tasks_taken n [] h = All-nil IsTaken
@@ -136,17 +136,14 @@ module _ (d : Domain) (p : Problem) where
               (none_of_each (λ c. term_faults k s scope c.left ++ term_faults k s scope c.right) n.constraints (last_none _ _ parts)));
         }
 
-    as_many : (vs : List Typed) → length (variables vs) ≡ length (types_of k vs)
-    as_many vs = length-map vs (λ v. v.name.text) ∙ sym (length-map vs (type_of k))
-
-    section_types : (vs : List Typed) → variable_faults k s vs ≡ [] → All (IsType w) (types_of k vs)
+    section_types : (vs : List Variable) → variable_faults k s vs ≡ [] → All (IsType w) (types_of k vs)
     section_types vs e = types_bound d p s vs (first_none _ _ e)
 
     pub method_bound : (m : text.Method) → method_faults k s m ≡ [] → IsBoundMethod w (method_in k m)
     method_bound m e =
         let scope = parameters (variables m.parameters) in
         let ok = parameters_scope (variables m.parameters) in
-        let same = as_many m.parameters in
+        let same = as_many d p s m.parameters in
         let three = first_none _ _ e in
         let two = first_none _ _ three in
         record {
@@ -164,7 +161,7 @@ module _ (d : Domain) (p : Problem) where
           task = tt;
           precondition = tt;
           network =
-              subst (λ n. IsBoundNetwork w n (network_in k scope h.network)) (as_many h.parameters) (network_bound scope h.place h.network (parameters_scope (variables h.parameters)) (last_none _ _ e));
+              subst (λ n. IsBoundNetwork w n (network_in k scope h.network)) (as_many d p s h.parameters) (network_bound scope h.place h.network (parameters_scope (variables h.parameters)) (last_none _ _ e));
         }
 
     literals_bound : (scope : Scope) (q : text.Literal → Bool) (ls : List text.Literal) → IsScope scope → literals_faults k s scope ls ≡ []
@@ -179,14 +176,12 @@ module _ (d : Domain) (p : Problem) where
     action_bound a e =
         let scope = parameters (variables a.parameters) in
         let ok = parameters_scope (variables a.parameters) in
-        let same = as_many a.parameters in
+        let same = as_many d p s a.parameters in
         let two = first_none _ _ e in
-        let ls = a.effect.literals in
         record {
           parameters = section_types a.parameters (first_none _ _ two);
           precondition = subst (λ n. IsBoundFormula w n (formula_in k scope a.precondition)) same (formula_bound d p s scope a.precondition ok (last_none _ _ two));
-          deletes = subst (λ n. All (IsBoundAtom w n) (deleted k scope ls)) same (literals_bound scope (λ l. not l.is_positive) ls ok (last_none _ _ e));
-          adds = subst (λ n. All (IsBoundAtom w n) (added k scope ls)) same (literals_bound scope (λ l. l.is_positive) ls ok (last_none _ _ e));
+          effect = subst (λ n. AreBoundEffects w n (effects_in k scope a.effect)) same (effects_bound d p s scope a.effect ok (last_none _ _ e));
         }
 
     goal_bound : (o : Option text.Formula) → goal_faults k s o ≡ [] → IsBoundGoal w (option_map (formula_in k (parameters [])) o)

@@ -5,9 +5,10 @@ use Rattle.hv_text.specs.declared.span.Span.{Span}
 use Rattle.std.proofs.lemmas.List.{drop_more, length-map}
 use Rattle.std.specs.Global.{Box}
 use Rattle.hv_syntax.specs.declared.formula.FormulaText.{FormulaText, Imply, the_lemmas}
-use Rattle.hv_syntax.specs.declared.typed.TypedText.{TypedText}
-use Rattle.hv_syntax.specs.Values.{WordAt, Typed, Pair, Network, formulas_of, imply}
-use Rattle.hv_syntax.specs.Views.{typed_view, formula_view}
+use Rattle.hv_syntax.specs.declared.variable.VariableText.{VariableText}
+use Rattle.hv_syntax.specs.declared.effect.ItemText.{ItemText}
+use Rattle.hv_syntax.specs.Values.{WordAt, Variable, Pair, Network, formulas_of, imply, effect}
+use Rattle.hv_syntax.specs.Views.{variable_view, formula_view, item_view}
 use Rattle.hv_world.specs.declared.fault.Side.{Side}
 use Rattle.hv_world.specs.declared.fault.StaticFault.{StaticFault}
 use Rattle.hv_world.specs.Known.{Known, variables}
@@ -20,7 +21,7 @@ use Rattle.hv_world.specs.Networks.{written_by}
 use Rattle.hv_world.specs.Cycles.{is_cyclic}
 use Rattle.hv_world.specs.Scopes.{Scope, outer, parameters, is_some}
 use Rattle.hv_world.specs.Faults.{fault_on, fault_if, faults_at, earlier, least, IsFirst}
-use Rattle.hv_world.specs.StaticRules.{at_word_if, formula_faults, all_formula_faults, pair_faults, label_faults, order_faults}
+use Rattle.hv_world.specs.StaticRules.{at_word_if, formula_faults, all_formula_faults, item_faults, effect_faults, pair_faults, label_faults, order_faults}
 use Rattle.hv_world.proofs.FaultLemmas.{earlier_assoc, least-append, least-both, least-if, least_first}
 
 pub view-Imply : (b c : Box FormulaText) → formula_view (Imply b c) ≡ imply (formula_view b.value) (formula_view c.value)
@@ -40,6 +41,20 @@ module _ (k : Known) (s : Side) (scope : Scope) where
       ∙ earlier_assoc found (least (formula_faults k s scope (formula_view f))) (least rest)
       ∙ ap (earlier found) (sym (least-append (formula_faults k s scope (formula_view f)) rest))
       ∙ ap (λ ys. earlier found (in_formulas ys)) (sym split) ∙ so_far
+
+  abbrev in_items : List ItemText → Option StaticFault
+  in_items xs = least (effect_faults k s scope (effect (map item_view xs)))
+
+  pub items_next : (xs : List ItemText) (i : ℕ) (x : ItemText) (found this next all : Option StaticFault) → i < length xs → x ≡ get_or xs i x
+      → this ≡ least (item_faults k s scope (item_view x)) → next ≡ earlier found this → earlier found (in_items (drop i xs)) ≡ all
+      → earlier next (in_items (drop (i + 1) xs)) ≡ all
+  items_next xs i x found this next all lt is this_is next_is so_far =
+      let split : drop i xs ≡ x ∷ drop (i + 1) xs = drop_more xs i x lt ∙ ap (λ y. y ∷ drop (i + 1) xs) (sym is) in
+      let rest = effect_faults k s scope (effect (map item_view (drop (i + 1) xs))) in
+      ap (λ a. earlier a (least rest)) (next_is ∙ ap (earlier found) this_is)
+      ∙ earlier_assoc found (least (item_faults k s scope (item_view x))) (least rest)
+      ∙ ap (earlier found) (sym (least-append (item_faults k s scope (item_view x)) rest))
+      ∙ ap (λ ys. earlier found (in_items ys)) (sym split) ∙ so_far
 
   pub imply_fault : (f : FormulaText) (b c : Box FormulaText) (g h : FormulaText) (x y : Option StaticFault) → f ≡ Imply b c → g ≡ b.value → h ≡ c.value
       → x ≡ least (formula_faults k s scope (formula_view g)) → y ≡ least (formula_faults k s scope (formula_view h))
@@ -95,11 +110,11 @@ pub first_of_all : (fs : List StaticFault) (f : StaticFault) → least fs ≡ So
 first_of_all fs f e = subst (λ o. MatchOption o (fs ≡ []) (IsFirst fs)) e (least_first fs)
 
 -- the scope of a section is that of its parameters
-pub scope_is : (vs : List TypedText) (ps : List Typed) (t : Names) → map typed_view vs ≡ ps → places_by t ≡ place_in (variables (map typed_view vs))
+pub scope_is : (vs : List VariableText) (ps : List Variable) (t : Names) → map variable_view vs ≡ ps → places_by t ≡ place_in (variables (map variable_view vs))
     → outer (length vs) (places_by t) ≡ parameters (variables ps)
 scope_is vs ps t are placed =
     let long : length vs ≡ length (variables ps) =
-    sym (length-map vs typed_view) ∙ sym (length-map (map typed_view vs) (λ (v : Typed). v.name.text)) ∙ ap (λ xs. length (variables xs)) are in
+    sym (length-map vs variable_view) ∙ sym (length-map (map variable_view vs) (λ (v : Variable). v.name.text)) ∙ ap (λ xs. length (variables xs)) are in
     let places : places_by t ≡ place_in (variables ps) = placed ∙ ap (λ xs. place_in (variables xs)) are in
     λ i. outer (long i) (places i)
 

@@ -3,10 +3,10 @@ use Rattle.std.proofs.Common.{◌≡◌, ℕ, ◌+◌, ◌<◌, ◌≤◌, List,
 use Rattle.std.proofs.lemmas.List.{map-append, append-nil, append_assoc, drop_more, drop_all}
 use Rattle.std.proofs.lemmas.List.Elements.{All-get_or}
 use Rattle.hv_syntax.specs.Values as text
-use Rattle.hv_world.specs.Values.{Subtask, Formula, formulas_of, more_formulas}
+use Rattle.hv_world.specs.Values.{Subtask, Formula, formulas_of, more_formulas, effects_of, more_effects}
 use Rattle.hv_world.specs.Scopes.{Scope}
 use Rattle.hv_world.specs.Known.{Known}
-use Rattle.hv_world.specs.Worlds.{Network, method, formula_in, formulas_in}
+use Rattle.hv_world.specs.Worlds.{Network, method, formula_in, formulas_in, effect_in, effects_in}
 
 -- one more member of a list, seen and changed
 pub map_more : {X A B : Type 0} (f : A → B) (view : X → A) (xs : List X) (i : ℕ) (x : X) (front : List B) (y : B) (all : List B) → i < length xs → x ≡ get_or xs i x → y ≡ f (view x)
@@ -27,6 +27,11 @@ map_all f view xs i front all le so_far = sym (append-nil front) ∙ sym (ap (λ
 pub each_formula_in : (k : Known) (s : Scope) (fs : List text.Formula) → formulas_of (map (formula_in k s) fs) ≡ formulas_in k s (text.formulas_of fs)
 each_formula_in k s [] = refl
 each_formula_in k s (f ∷ fs) = ap (more_formulas (formula_in k s f)) (each_formula_in k s fs)
+
+-- effects, one after another
+pub each_effect_in : (k : Known) (s : Scope) (is : List text.Item) → effects_of (map (effect_in k s) is) ≡ effects_in k s (text.effect is)
+each_effect_in k s [] = refl
+each_effect_in k s (i ∷ is) = ap (more_effects (effect_in k s i)) (each_effect_in k s is)
 
 -- methods of the same parts
 pub method_is : {n m : Option (List ℕ)} {ts us : List ℕ} {x y : Option Subtask} {f g : Formula} {w v : Network} → n ≡ m → ts ≡ us → x ≡ y → f ≡ g → w ≡ v → method n ts x f w ≡ method m us y g v

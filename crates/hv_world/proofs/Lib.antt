@@ -12,6 +12,9 @@ pub mod OrderWalk
 pub mod RepeatLemmas
 pub mod TypeLemmas
 pub mod WithinLemmas
+pub mod NoFaults
+pub mod AmongLemmas
+pub mod EitherLemmas
 pub mod StaticLemmas
 pub mod BuildLemmas
 pub mod TableLemmas
@@ -22,3 +25,6 @@ pub mod OnceLemmas
 pub mod PlaceLemmas
 pub mod TypeDecisions
 pub mod GroundingLemmas
+pub mod GatherLemmas
+pub mod EitherTables
+pub mod UnionLemmas

@@ -26,7 +26,9 @@ use Rattle.hv_world.specs.Worlds.{World, Task, Action, world_of, task_names, act
 use Rattle.hv_world.proofs.BuildLemmas.{of_mapped, predicates_named, tasks_named, actions_named, methods_named}
 use Rattle.hv_world.proofs.NameLemmas.{same_name}
 use Rattle.hv_world.proofs.PlaceLemmas.{pairs_nil, pairs_head, pairs_tail, pairs_front, pairs_back, pairs_cross, by_place_apart}
-use Rattle.hv_world.proofs.StaticLemmas.{first_none, last_none, among_append, methods_arrangeable, top_arrangeable, typing_in_range}
+use Rattle.hv_world.proofs.NoFaults.{first_none, last_none}
+use Rattle.hv_world.proofs.AmongLemmas.{among_append}
+use Rattle.hv_world.proofs.StaticLemmas.{methods_arrangeable, top_arrangeable, typing_in_range}
 
 pub once_none : {X : Type 0} → Once {X = X} []
 once_none i j d lt within = absurd (omega arith)
@@ -140,7 +142,7 @@ world_sound d p static =
     record {
       named = world_named d p static;
       typing = typing_in_range d p static;
-      type_count = refl;
+      type_count = omega arith;
       object_count = refl;
       methods =
           All-map (λ m. IsSoundNetwork m.network) (method_in k) d.methods

@@ -5,8 +5,8 @@ use Rattle.std.proofs.lemmas.List.{length-map, length-take-le, take-append-drop,
 use Rattle.std.proofs.lemmas.Simd.{map-map}
 use Rattle.hv_text.specs.Names.{text_of}
 use Rattle.hv_syntax.specs.declared.word.Placed.{Placed}
-use Rattle.hv_syntax.specs.declared.typed.TypedText.{TypedText}
-use Rattle.hv_syntax.specs.Views.{word_view, typed_view}
+use Rattle.hv_syntax.specs.declared.variable.VariableText.{VariableText}
+use Rattle.hv_syntax.specs.Views.{word_view, variable_view}
 use Rattle.hv_syntax.specs.Values.{WordAt}
 use Rattle.hv_world.specs.declared.fault.StaticKind.{StaticKind}
 use Rattle.hv_world.specs.declared.fault.Side.{Side}
@@ -62,16 +62,16 @@ module _ {X : Type 0} (view : X → WordAt) (k : StaticKind) (s : Side) where
       sym (earlier-none_right found) ∙ ap (λ ys. earlier found (least (faults_at k s (repeated_after (names (map view (take i xs))) (map view ys))))) (sym (drop_all i xs le)) ∙ so_far
 
 -- the word of a variable
-abbrev pub word_of : TypedText → WordAt
-word_of t = (typed_view t).name
+abbrev pub word_of : VariableText → WordAt
+word_of t = (variable_view t).name
 
-pub typed_words_are : (vs : List TypedText) → typed_words (map typed_view vs) ≡ map word_of vs
-typed_words_are vs = map-map (λ v. v.name) typed_view vs
+pub typed_words_are : (vs : List VariableText) → typed_words (map variable_view vs) ≡ map word_of vs
+typed_words_are vs = map-map (λ v. v.name) variable_view vs
 
-pub variables_are : (vs : List TypedText) → variables (map typed_view vs) ≡ map (λ t. (typed_view t).name.text) vs
-variables_are vs = map-map (λ v. v.name.text) typed_view vs
+pub variables_are : (vs : List VariableText) → variables (map variable_view vs) ≡ map (λ t. (variable_view t).name.text) vs
+variables_are vs = map-map (λ v. v.name.text) variable_view vs
 
-pub names_are : (vs : List TypedText) → names (map word_of vs) ≡ variables (map typed_view vs)
+pub names_are : (vs : List VariableText) → names (map word_of vs) ≡ variables (map variable_view vs)
 names_are vs = map-map (λ w. w.text) word_of vs ∙ sym (variables_are vs)
 
 pub word_names : (ws : List Placed) → names (map word_view ws) ≡ map (λ w. (word_view w).text) ws

@@ -18,26 +18,12 @@ use Rattle.hv_world.specs.Cycles.{is_cyclic}
 use Rattle.hv_world.specs.Orders.{IsCyclic}
 use Rattle.hv_world.specs.Types.{IsInRange}
 use Rattle.hv_world.specs.StaticRules.{at_word_if, type_faults, typed_faults, label_faults, order_faults, method_faults, htn_faults, IsStatic}
-use Rattle.hv_world.specs.Worlds.{type_pair, object_pair, typing_by}
+use Rattle.hv_world.specs.Worlds.{type_pair, object_pair, eithers_pairs, typing_by}
 use Rattle.hv_world.proofs.WithinLemmas.{sound_within}
 use Rattle.hv_world.proofs.CycleLemmas.{cycle_found, cycle_there}
-
--- where two lists are nothing together, each is
-pub first_none : {A : Type 0} (xs ys : List A) → xs ++ ys ≡ [] → xs ≡ []
-first_none [] ys e = refl
-first_none (x ∷ xs) ys e = absurd (cc)
-
-pub last_none : {A : Type 0} (xs ys : List A) → xs ++ ys ≡ [] → ys ≡ []
-last_none [] ys e = e
-last_none (x ∷ xs) ys e = absurd (cc)
-
-pub none_of_each : {X A : Type 0} (f : X → List A) (xs : List X) → flat_map f xs ≡ [] → All (λ x. f x ≡ []) xs
-none_of_each f [] e = All-nil (λ x. f x ≡ [])
-none_of_each f (x ∷ xs) e = All-cons (λ y. f y ≡ []) x xs (first_none (f x) (flat_map f xs) e) (none_of_each f xs (last_none (f x) (flat_map f xs) e))
-
-pub no_fault : (b : Bool) (k : StaticKind) (s : Side) (w : WordAt) → at_word_if (not b) k s w ≡ [] → b ≡ true
-no_fault true k s w e = refl
-no_fault false k s w e = absurd (cc)
+use Rattle.hv_world.proofs.NoFaults.{first_none, last_none, none_of_each, no_fault}
+use Rattle.hv_world.proofs.AmongLemmas.{or_right, among_left, among_right, among_self, by_sight_has, number_within, some_within}
+use Rattle.hv_world.proofs.EitherLemmas.{AreNames, eithers_declared, eithers_pairs_below}
 
 clash : (b : Bool) → b ≡ true → b ≡ false → ⊥
 clash b e g = absurd (cc)
@@ -73,79 +59,6 @@ module _ (k : Known) (s : Side) where
 
   pub htn_arrangeable : (h : Htn) → htn_faults k s h ≡ [] → IsArrangeable (written_by h.network)
   htn_arrangeable h e = order_arrangeable h.place h.network (last_none _ _ (last_none _ _ e))
-
--- names among names
-pub among_append : (xs ys : List (List ℕ)) (n : List ℕ) → is_among (xs ++ ys) n ≡ (is_among xs n || is_among ys n)
-among_append [] ys n = refl
-among_append (x ∷ xs) ys n = go (bytes_eq n x) (among_append xs ys n)
-  where
-    go : (b : Bool) → is_among (xs ++ ys) n ≡ (is_among xs n || is_among ys n) → (b || is_among (xs ++ ys) n) ≡ ((b || is_among xs n) || is_among ys n)
-    go true e = refl
-    go false e = e
-
-or_left : (a b : Bool) → a ≡ true → (a || b) ≡ true
-or_left a b e = rw e refl
-
-or_right : (a b : Bool) → b ≡ true → (a || b) ≡ true
-or_right true b e = refl
-or_right false b e = e
-
-pub among_left : (xs ys : List (List ℕ)) (n : List ℕ) → is_among xs n ≡ true → is_among (xs ++ ys) n ≡ true
-among_left xs ys n e = among_append xs ys n ∙ or_left _ _ e
-
-pub among_right : (xs ys : List (List ℕ)) (n : List ℕ) → is_among ys n ≡ true → is_among (xs ++ ys) n ≡ true
-among_right xs ys n e = among_append xs ys n ∙ or_right (is_among xs n) _ e
-
-pub among_self : (n : List ℕ) (ns : List (List ℕ)) → is_among (n ∷ ns) n ≡ true
-among_self n ns = or_left (bytes_eq n n) (is_among ns n) ((bytes_decides n n).1 refl)
-
-noted : (seen : List (List ℕ)) (m n : List ℕ) → is_among seen n ≡ true → is_among (if is_among seen m then seen else seen ++ m ∷ []) n ≡ true
-noted seen m n e = go (is_among seen m)
-  where
-    go : (b : Bool) → is_among (if b then seen else seen ++ m ∷ []) n ≡ true
-    go true = e
-    go false = among_left seen (m ∷ []) n e
-
-noted_itself : (seen : List (List ℕ)) (m : List ℕ) → is_among (if is_among seen m then seen else seen ++ m ∷ []) m ≡ true
-noted_itself seen m = go (is_among seen m) refl
-  where
-    go : (b : Bool) → is_among seen m ≡ b → is_among (if b then seen else seen ++ m ∷ []) m ≡ true
-    go true e = e
-    go false e = among_right seen (m ∷ []) m (among_self m [])
-
-pub still_seen : (seen ns : List (List ℕ)) (n : List ℕ) → is_among seen n ≡ true → is_among (with_names seen ns) n ≡ true
-still_seen seen [] n e = e
-still_seen seen (m ∷ ns) n e = still_seen (if is_among seen m then seen else seen ++ m ∷ []) ns n (noted seen m n e)
-
-pub seen_of : (seen ns : List (List ℕ)) (n : List ℕ) → is_among ns n ≡ true → is_among (with_names seen ns) n ≡ true
-seen_of seen [] n e = absurd (cc)
-seen_of seen (m ∷ ns) n e = go (bytes_eq n m) refl e (seen_of (if is_among seen m then seen else seen ++ m ∷ []) ns n)
-  where
-    go : (b : Bool) → bytes_eq n m ≡ b → (b || is_among ns n) ≡ true → (is_among ns n ≡ true → is_among (with_names seen (m ∷ ns)) n ≡ true) → is_among (with_names seen (m ∷ ns)) n ≡ true
-    go false t h later = later h
-    go true t h later =
-        still_seen (if is_among seen m then seen else seen ++ m ∷ []) ns n
-        (subst (λ q. is_among (if is_among seen m then seen else seen ++ m ∷ []) q ≡ true) (sym ((bytes_decides n m).0 t)) (noted_itself seen m))
-
--- by sight, each of these is among them
-pub by_sight_has : (ns : List (List ℕ)) (n : List ℕ) → is_among ns n ≡ true → is_among (by_sight ns) n ≡ true
-by_sight_has ns n e = seen_of [] ns n e
-
--- a name that is there has a number within
-pub place_there : (ns : List (List ℕ)) (n : List ℕ) → is_among ns n ≡ true → (i : ℕ) × (place_in ns n ≡ Some i) × (i < length ns)
-place_there [] n e = absurd (cc)
-place_there (m ∷ ns) n e = go (bytes_eq n m) e (place_there ns n)
-  where
-    go : (b : Bool) → (b || is_among ns n) ≡ true → (is_among ns n ≡ true → (i : ℕ) × (place_in ns n ≡ Some i) × (i < length ns))
-        → (i : ℕ) × ((if b then Some 0 else option_map suc (place_in ns n)) ≡ Some i) × (i < suc (length ns))
-    go true h later = (0, refl, omega arith)
-    go false h later = let r = later h in let lt = r.2 in (suc r.0, ap (option_map suc) r.1, omega arith)
-
-pub number_within : (ns : List (List ℕ)) (n : List ℕ) → is_among ns n ≡ true → number_in ns n < length ns
-number_within ns n e = let r = place_there ns n e in subst (λ o. number_or (length ns) o < length ns) (sym r.1) r.2
-
-pub some_within : (ns : List (List ℕ)) (n : List ℕ) → is_among ns n ≡ true → 0 < length ns
-some_within ns n e = let lt = number_within ns n e in omega arith
 
 -- the types of a domain, and the objects
 abbrev AreAmong : List (List ℕ) → Typed → Type 0
@@ -193,10 +106,17 @@ module _ (d : Domain) where
     of_known_type s vs e =
         All-weaker (λ v. type_faults known s v.of ≡ []) IsOfType (λ v none. declared_type known s v.of refl none) vs (none_of_each (λ v. type_faults known s v.of) vs e)
 
+    abbrev pub all_types : ℕ
+    all_types = length known.types + length known.eithers
+
+    -- the types with a name are the first of all
+    pub among_all : (i : ℕ) → i < length known.types → i < all_types
+    among_all i lt = omega arith
+
     abbrev AreTypes : ℕ × ℕ → Type 0
     AreTypes q = (q.0 < length known.types) × (q.1 < length known.types)
 
-    parents_within : All AreTypes (map (type_pair known) d.types)
+    pub parents_within : All AreTypes (map (type_pair known) d.types)
     parents_within =
         All-map AreTypes (type_pair known) d.types
         (All-weaker (AreAmong (flat_map both_types d.types)) (λ v. AreTypes (type_pair known v))
@@ -224,12 +144,20 @@ module _ (d : Domain) where
       pub top_arrangeable : IsArrangeable (written_by p.htn.network)
       top_arrangeable = htn_arrangeable known sides.Problem p.htn (last_none _ _ (first_none _ _ (first_none _ _ static.of_problem)))
 
-      pub typing_in_range : IsInRange (typing_by known d p)
-      typing_in_range =
+      pub objects_within : All AreObjectAndType (map (object_pair known) all)
+      objects_within =
           let constants = of_known_type sides.Domain d.constants (last_none _ _ (first_none _ _ (first_none _ _ (first_none _ _ static.of_domain)))) in
           let objects = of_known_type sides.Problem p.objects (first_none _ _ (first_none _ _ (first_none _ _ static.of_problem))) in
+          declared_within (All-append IsOfType d.constants p.objects constants objects)
+
+      pub typing_in_range : IsInRange (typing_by known d p)
+      typing_in_range =
           record {
-            object = some_within known.types (codes "object") object_is_type;
-            parents = parents_within;
-            declared = declared_within (All-append IsOfType d.constants p.objects constants objects);
+            object = among_all 0 (some_within known.types (codes "object") object_is_type);
+            parents =
+                All-append (λ q. (q.0 < all_types) × (q.1 < all_types)) (map (type_pair known) d.types) (eithers_pairs known (length known.types) known.eithers)
+                (All-weaker AreTypes (λ q. (q.0 < all_types) × (q.1 < all_types)) (λ q h. (among_all q.0 h.0, among_all q.1 h.1)) (map (type_pair known) d.types) parents_within)
+                (eithers_pairs_below known (length known.types) all_types known.eithers (omega arith) (omega arith) (eithers_declared d p static));
+            declared =
+                All-weaker AreObjectAndType (λ q. (q.0 < length known.objects) × (q.1 < all_types)) (λ q h. (h.0, among_all q.1 h.1)) (map (object_pair known) all) objects_within;
           }

@@ -13,6 +13,7 @@ use Rattle.hv_syntax.specs.Values.{Predicate, Domain, Problem, type_name}
 use Rattle.hv_syntax.specs.Views.{typed_view}
 use Rattle.hv_world.specs.declared.tables.Declared.{Declared}
 use Rattle.hv_world.specs.Names.{names, is_among, place_in, with_names}
+use Rattle.hv_world.specs.Eithers.{either_types}
 use Rattle.hv_world.specs.Known.{Declaration, both_types, variables, those_before, by_place, signature_at, Signature, signature, Known, known_in, at_place, type_names, object_names, predicate_words, declared_words, declarations}
 use Rattle.hv_world.specs.inside.Tables.{declaration_view, signature_beside}
 use Rattle.hv_world.proofs.NameLemmas.{any-map}
@@ -154,11 +155,11 @@ merge_end tasks actions i done merged new all le pushes within so_far =
     ∙ ap (λ ts. map declaration_view merged ++ by_place (map declaration_view ts) (map declaration_view (drop done actions))) (sym (drop_all i tasks le)) ∙ so_far
 
 -- what tables say that have these parts
-pub known_is : (d : Domain) (p : Problem) (ts os : List (List ℕ)) (arities : List ℕ) (ds : List Declaration) (predicates tasks : List ℕ → Option ℕ)
-    → ts ≡ type_names d → os ≡ object_names d p → predicates ≡ place_in (names (predicate_words d.predicates)) → arities ≡ map (λ q. length q.parameters) d.predicates
+pub known_is : (d : Domain) (p : Problem) (ts os : List (List ℕ)) (es : List (List (List ℕ))) (arities : List ℕ) (ds : List Declaration) (predicates tasks : List ℕ → Option ℕ)
+    → ts ≡ type_names d → es ≡ either_types d p → os ≡ object_names d p → predicates ≡ place_in (names (predicate_words d.predicates)) → arities ≡ map (λ q. length q.parameters) d.predicates
     → ds ≡ declarations d → tasks ≡ place_in (names (declared_words (declarations d)))
-    → ◌≡◌ {A = Known} (record { types = ts; objects = os; predicate = λ n. signature_beside arities (predicates n); task = λ n. at_place ds (tasks n) }) (known_in d p)
-known_is d p ts os arities ds predicates tasks ts_are os_are placed counts ds_are tasked =
+    → ◌≡◌ {A = Known} (record { types = ts; eithers = es; objects = os; predicate = λ n. signature_beside arities (predicates n); task = λ n. at_place ds (tasks n) }) (known_in d p)
+known_is d p ts os es arities ds predicates tasks ts_are es_are os_are placed counts ds_are tasked =
     let signed : (n : List ℕ) → signature_beside arities (predicates n) ≡ (known_in d p).predicate n =
     λ n. (λ i. signature_beside (counts i) (placed i n)) ∙ signature_is d.predicates (place_in (names (predicate_words d.predicates)) n) in
-    λ i. record { types = ts_are i; objects = os_are i; predicate = λ n. signed n i; task = λ n. at_place (ds_are i) (tasked i n) }
+    λ i. record { types = ts_are i; eithers = es_are i; objects = os_are i; predicate = λ n. signed n i; task = λ n. at_place (ds_are i) (tasked i n) }

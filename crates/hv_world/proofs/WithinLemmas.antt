@@ -66,7 +66,7 @@ module _ (k : Known) (s : Side) (n : Network) where
 
 -- a Known of no names
 pub nothing_known : Known
-nothing_known = record { types = []; objects = []; predicate = λ n. None; task = λ n. None }
+nothing_known = record { types = []; eithers = []; objects = []; predicate = λ n. None; task = λ n. None }
 
 not_cyclic : (b : Bool) → (b ≡ true → ⊥) → b ≡ false
 not_cyclic true h = absurd (h refl)

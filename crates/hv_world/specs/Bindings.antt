@@ -1,6 +1,6 @@
 -- The objects of variables, and actions with their objects.
 use Rattle.std.specs.Prelude.{ℕ, List, [], ◌∷◌, ◌++◌, map, slice_index_or}
-use Rattle.hv_world.specs.Values.{Term, object, variable}
+use Rattle.hv_world.specs.Values.{Term, object, variable, Atom}
 use Rattle.hv_world.specs.declared.id.ObjectId.{ObjectId}
 use Rattle.hv_world.specs.declared.binding.Binding.{Binding, Given, With'}
 use Rattle.hv_world.specs.declared.grounding.GroundAction as code
@@ -19,6 +19,18 @@ objects_in (With' p b o) = objects_in b ++ object_number o ∷ []
 abbrev pub object_of : List ℕ → Term → ℕ
 object_of env (object o) = o
 object_of env (variable v) = slice_index_or env v 0
+
+-- a predicate's number, and the numbers of its objects
+pub record GroundAtom : Type 0 where
+  pub predicate : ℕ
+  pub objects : List ℕ
+
+abbrev pub ground_atom : ℕ → List ℕ → GroundAtom
+ground_atom p os = record { predicate = p; objects = os }
+
+-- an atom, with the objects that its terms stand for
+abbrev pub atom_under : List ℕ → Atom → GroundAtom
+atom_under env a = ground_atom a.predicate (map (object_of env) a.terms)
 
 -- an action, and the objects of its parameters
 pub record GroundAction : Type 0 where

@@ -1,7 +1,7 @@
 -- The numbers of a world are those of what it has: types, objects, predicates, tasks, actions, and variables in scope.
-use Rattle.std.specs.Prelude.{◌≡◌, ℕ, ◌+◌, ◌<◌, ◌++◌, List, length, Option, Some, None, All, MatchOption}
+use Rattle.std.specs.Prelude.{◌≡◌, ℕ, ◌+◌, ◌<◌, ◌≤◌, ◌++◌, List, length, Option, Some, None, All, MatchOption}
 use Rattle.std.specs.List.{slice_get}
-use Rattle.hv_world.specs.Values.{Term, object, variable, Atom, Formula, Formulas, holds, and, or, not, imply, forall, exists, equal, no_formulas, more_formulas, TaskName, compound, primitive, Subtask, Constraint}
+use Rattle.hv_world.specs.Values.{Term, object, variable, Atom, Formula, Formulas, holds, and, or, not, imply, forall, exists, equal, no_formulas, more_formulas, Effect, Effects, becomes, for_each, no_effects, more_effects, TaskName, compound, primitive, Subtask, Constraint}
 use Rattle.hv_world.specs.Networks.{IsArrangeable}
 use Rattle.hv_world.specs.Types.{IsInRange}
 use Rattle.hv_text.specs.Lists.{Once}
@@ -9,7 +9,7 @@ use Rattle.hv_world.specs.Worlds.{Network, Method, Action, World, task_names, ac
 
 module _ (w : World) where
   abbrev pub IsType : ℕ → Type 0
-  IsType t = t < length w.types
+  IsType t = t < w.typing.types
 
   -- a term, where n variables are in scope
   abbrev pub IsBoundTerm : ℕ → Term → Type 0
@@ -37,6 +37,15 @@ module _ (w : World) where
     pub AreBoundFormulas : ℕ → Formulas → Type 0
     AreBoundFormulas n no_formulas = Unit {0}
     AreBoundFormulas n (more_formulas f fs) = IsBoundFormula n f × AreBoundFormulas n fs
+
+  abbrev mutual
+    pub IsBoundEffect : ℕ → Effect → Type 0
+    IsBoundEffect n (becomes b a) = IsBoundAtom n a
+    IsBoundEffect n (for_each ts es) = All IsType ts × AreBoundEffects (n + length ts) es
+
+    pub AreBoundEffects : ℕ → Effects → Type 0
+    AreBoundEffects n no_effects = Unit {0}
+    AreBoundEffects n (more_effects e es) = IsBoundEffect n e × AreBoundEffects n es
 
   -- a task of the world has this many parameters, and so for an action
   abbrev pub TaskTakes : ℕ → ℕ → Type 0
@@ -74,8 +83,7 @@ module _ (w : World) where
   pub record IsBoundAction (a : Action) : Type 0 where
     pub parameters : All IsType a.parameters
     pub precondition : IsBoundFormula (length a.parameters) a.precondition
-    pub deletes : All (IsBoundAtom (length a.parameters)) a.deletes
-    pub adds : All (IsBoundAtom (length a.parameters)) a.adds
+    pub effect : AreBoundEffects (length a.parameters) a.effect
 
   abbrev pub IsBoundGoal : Option Formula → Type 0
   IsBoundGoal None = Unit {0}
@@ -94,11 +102,11 @@ pub record IsSoundNetwork (net : Network) : Type 0 where
   pub order : net.order.len ≡ length net.subtasks
   pub arrangeable : IsArrangeable net.order
 
--- what every world keeps: each kind of name stands once, there are as many types and objects as names of them, and orders are sound
+-- what every world keeps: each kind of name stands once, the types with a name stand first, there are as many objects as names of them, and orders are sound
 pub record IsSound (w : World) : Type 0 where
   pub named : AreNamedOnce w
   pub typing : IsInRange w.typing
-  pub type_count : w.typing.types ≡ length w.types
+  pub type_count : length w.types ≤ w.typing.types
   pub object_count : w.typing.objects ≡ length w.objects
   pub methods : All (λ m. IsSoundNetwork m.network) w.methods
   pub top : IsSoundNetwork w.top.network

@@ -1,9 +1,10 @@
 -- What is known of the names of a domain and a problem.
 use Rattle.std.specs.Prelude.{ℕ, suc, ◌≤◌, List, [], ◌∷◌, ◌++◌, map, length, take_while, drop, Option, Some, None, nat_lt, codes}
 use Rattle.std.specs.List.{AllPairs, slice_get, flat_map}
-use Rattle.hv_syntax.specs.Values.{WordAt, type_name, Typed, Predicate, Task, Action, Domain, Problem}
+use Rattle.hv_syntax.specs.Values.{WordAt, type_name, TypedBy, Typed, Predicate, Task, Action, Domain, Problem}
 use Rattle.hv_world.specs.Values.{TaskName, compound, primitive}
 use Rattle.hv_world.specs.Names.{names, place_in, by_sight}
+use Rattle.hv_world.specs.Eithers.{either_types}
 
 -- a predicate, a task or an action as it is declared: its number and how many terms it takes
 pub record Signature : Type 0 where
@@ -63,11 +64,11 @@ abbrev pub signature_at : List Predicate → Option ℕ → Option Signature
 signature_at ps None = None
 signature_at ps (Some i) = elim (slice_get ps i) [ None ↦ None | Some q ↦ Some (signature i (length q.parameters)) ]
 
--- the names of the variables of a typed list
-abbrev pub variables : List Typed → List (List ℕ)
+-- the names or variables of a typed list
+abbrev pub variables : {T : Type 0} → List (TypedBy T) → List (List ℕ)
 variables vs = map (λ v. v.name.text) vs
 
-abbrev pub typed_words : List Typed → List WordAt
+abbrev pub typed_words : {T : Type 0} → List (TypedBy T) → List WordAt
 typed_words vs = map (λ v. v.name) vs
 
 -- a type and its parent
@@ -82,9 +83,11 @@ type_names d = by_sight (codes "object" ∷ flat_map both_types d.types)
 abbrev pub object_names : Domain → Problem → List (List ℕ)
 object_names d p = by_sight (variables (d.constants ++ p.objects))
 
--- what the static rules ask of names: which are types and objects, and how predicates, tasks and actions are declared, a name declared twice as it is first
+-- what the static rules ask of names: which are types and objects, and how predicates, tasks and actions are declared, a name declared twice as it is first;
+-- and which lists of names are types of variables
 pub record Known : Type 0 where
   pub types : List (List ℕ)
+  pub eithers : List (List (List ℕ))
   pub objects : List (List ℕ)
   pub predicate : List ℕ → Option Signature
   pub task : List ℕ → Option Declaration
@@ -93,6 +96,7 @@ abbrev pub known_in : Domain → Problem → Known
 known_in d p =
     record {
       types = type_names d;
+      eithers = either_types d p;
       objects = object_names d p;
       predicate = λ n. signature_at d.predicates (place_in (names (predicate_words d.predicates)) n);
       task = λ n. at_place (declarations d) (place_in (names (declared_words (declarations d))) n);

@@ -1,5 +1,7 @@
 pub mod Values
 pub mod Names
+pub mod Eithers
+pub mod Codes
 pub mod Known
 pub mod Scopes
 pub mod Types
@@ -12,6 +14,7 @@ pub mod Worlds
 pub mod Bounds
 pub mod Bindings
 pub mod Groundings
+pub mod Effects
 pub mod Alike
 pub mod Views
 pub mod NetworkViews

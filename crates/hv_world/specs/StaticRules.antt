@@ -8,7 +8,7 @@ use Rattle.hv_world.specs.declared.fault.StaticKind.TheVariants as kinds
 use Rattle.hv_world.specs.declared.fault.Side.{Side}
 use Rattle.hv_world.specs.declared.fault.Side.TheVariants as sides
 use Rattle.hv_world.specs.declared.fault.StaticFault.{StaticFault}
-use Rattle.hv_syntax.specs.Values.{WordAt, Term, constant, variable, Atom, TypeOf, no_type, of_type, Typed, Formula, Formulas, holds, and, or, imply, forall, exists, equal, no_formulas, more_formulas, Literal, Subtask, Pair, Constraint, Network, Method, Action, Domain, Htn, Problem}
+use Rattle.hv_syntax.specs.Values.{WordAt, Term, constant, variable, Atom, TypeOf, no_type, of_type, Typed, Variable, Formula, Formulas, holds, and, or, imply, forall, exists, equal, no_formulas, more_formulas, Literal, Effect, no_items, more_items, Item, becomes, for_each, Subtask, Pair, Constraint, Network, Method, Action, Domain, Htn, Problem}
 use Rattle.hv_syntax.specs.Values.{not as negation}
 use Rattle.hv_world.specs.Values.{compound, primitive}
 use Rattle.hv_world.specs.Faults.{fault_on, fault_at, faults_at, IsFirst, least}
@@ -41,17 +41,28 @@ arity_of_task None = None
 arity_of_task (Some d) = elim d.what [ compound n ↦ Some d.arity | primitive n ↦ None ]
 
 module _ (k : Known) (s : Side) where
-  -- the type of a name or a variable is declared
+  -- a type is declared
+  abbrev pub type_word_faults : WordAt → List StaticFault
+  type_word_faults w = at_word_if (not (is_among k.types w.text)) kinds.UnknownType s w
+
+  -- the type of a name is declared
   abbrev pub type_faults : TypeOf → List StaticFault
   type_faults no_type = []
-  type_faults (of_type w) = at_word_if (not (is_among k.types w.text)) kinds.UnknownType s w
+  type_faults (of_type w) = type_word_faults w
 
   abbrev pub typed_faults : List Typed → List StaticFault
   typed_faults vs = flat_map (λ v. type_faults v.of) vs
 
+  -- each name of a variable's type is declared
+  abbrev pub types_faults : List WordAt → List StaticFault
+  types_faults ws = flat_map type_word_faults ws
+
+  abbrev pub variable_types_faults : List Variable → List StaticFault
+  variable_types_faults vs = flat_map (λ v. types_faults v.of) vs
+
   -- the types are declared, and no variable stands twice
-  abbrev pub variable_faults : List Typed → List StaticFault
-  variable_faults vs = typed_faults vs ++ faults_at kinds.DuplicateVariable s (repeated (typed_words vs))
+  abbrev pub variable_faults : List Variable → List StaticFault
+  variable_faults vs = variable_types_faults vs ++ faults_at kinds.DuplicateVariable s (repeated (typed_words vs))
 
   -- a constant is declared, a variable is bound
   abbrev pub term_faults : Scope → Term → List StaticFault
@@ -81,6 +92,15 @@ module _ (k : Known) (s : Side) where
 
   abbrev pub literals_faults : Scope → List Literal → List StaticFault
   literals_faults scope ls = flat_map (λ l. atom_faults scope l.atom) ls
+
+  abbrev mutual
+    pub effect_faults : Scope → Effect → List StaticFault
+    effect_faults scope no_items = []
+    effect_faults scope (more_items i e) = item_faults scope i ++ effect_faults scope e
+
+    pub item_faults : Scope → Item → List StaticFault
+    item_faults scope (becomes l) = atom_faults scope l.atom
+    item_faults scope (for_each vs e) = variable_faults vs ++ effect_faults (inside scope (variables vs)) e
 
   -- the task of a method is declared as a task
   abbrev pub task_faults : Scope → Atom → List StaticFault
@@ -119,7 +139,7 @@ module _ (k : Known) (s : Side) where
   abbrev pub action_faults : Action → List StaticFault
   action_faults a =
       let scope = parameters (variables a.parameters) in
-      variable_faults a.parameters ++ formula_faults scope a.precondition ++ literals_faults scope a.effect.literals
+      variable_faults a.parameters ++ formula_faults scope a.precondition ++ effect_faults scope a.effect
 
   abbrev pub htn_faults : Htn → List StaticFault
   htn_faults h = variable_faults h.parameters ++ network_faults (parameters (variables h.parameters)) h.place h.network

@@ -6,9 +6,9 @@ use Rattle.hv_world.specs.declared.id.ObjectId.{ObjectId}
 
 -- what is declared of types and objects, by number
 pub record Typing : Type 0 where
-  pub types : ℕ  -- how many types there are; number 0 is `object`
+  pub types : ℕ  -- how many types there are; number 0 is `object`, and behind those declared stand the either types of variables
   pub objects : ℕ  -- how many objects there are
-  pub parents : List (ℕ × ℕ)  -- a type and its parent
+  pub parents : List (ℕ × ℕ)  -- a type and its parent; an either type is one of each type that it names
   pub declared : List (ℕ × ℕ)  -- an object and its type
 
 -- there is a type `object`, and each number of a pair is that of a type or an object
@@ -25,6 +25,10 @@ pub data Reaches (parents : List (ℕ × ℕ)) : ℕ → ℕ → Type 0 where
 -- the object is of the type: it is `object`, or a chain leads to it from a type that the object has
 abbrev pub Of : Typing → ℕ → ℕ → Type 0
 Of w o t = (o < w.objects) × (t < w.types) × ((t ≡ 0) ⊎ ((a : ℕ) × Contains w.declared (o, a) × Reaches w.parents a t))
+
+-- the object is of one of these types
+abbrev pub IsOfOne : Typing → ℕ → List ℕ → Type 0
+IsOfOne w o ts = (t : ℕ) × Contains ts t × Of w o t
 
 -- what the code's pairs declare
 abbrev pub typing : ℕ → ℕ → List (TypeId × TypeId) → List (ObjectId × TypeId) → Typing

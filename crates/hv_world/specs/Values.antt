@@ -1,7 +1,7 @@
 -- What a world says, with a number for each name.
 use Rattle.std.specs.Prelude.{ℕ, Bool, List, [], ◌∷◌}
 
--- a term: the object of a number, or the variable of a number; the parameters come first, then the variables of the quantifiers around
+-- a term: the object of a number, or the variable of a number; the parameters come first, then the variables of the quantifiers and effects around, the outermost first
 pub data Term : Type 0 where
   object : ℕ → Term
   variable : ℕ → Term
@@ -33,6 +33,20 @@ mutual
 abbrev pub formulas_of : List Formula → Formulas
 formulas_of [] = no_formulas
 formulas_of (f ∷ fs) = more_formulas f (formulas_of fs)
+
+-- an effect: an atom becomes true or false, or all of these effects for all objects of these types
+mutual
+  pub data Effect : Type 0 where
+    becomes : Bool → Atom → Effect
+    for_each : List ℕ → Effects → Effect
+
+  pub data Effects : Type 0 where
+    no_effects : Effects
+    more_effects : Effect → Effects → Effects
+
+abbrev pub effects_of : List Effect → Effects
+effects_of [] = no_effects
+effects_of (e ∷ es) = more_effects e (effects_of es)
 
 -- what a subtask is to do: a task that methods decompose, or an action
 pub data TaskName : Type 0 where

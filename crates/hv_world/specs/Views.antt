@@ -9,9 +9,12 @@ use Rattle.hv_world.specs.declared.formula.Atom as code_atom
 use Rattle.hv_world.specs.declared.formula.Formula as code_formula
 use Rattle.hv_world.specs.declared.formula.Formula.{fold-Formula}
 use Rattle.hv_world.specs.declared.formula.Formula.TheOpen.{Formula-F}
+use Rattle.hv_world.specs.declared.effect.Effect as code_effect
+use Rattle.hv_world.specs.declared.effect.Effect.{fold-Effect}
+use Rattle.hv_world.specs.declared.effect.Effect.TheOpen.{Effect-F}
 use Rattle.hv_world.specs.declared.formula.Subtask as code_subtask
 use Rattle.hv_world.specs.declared.formula.Constraint as code_constraint
-use Rattle.hv_world.specs.Values.{Term, object, variable, Atom, atom, Formula, holds, and, or, not, imply, forall, exists, equal, formulas_of, TaskName, compound, primitive, Subtask, subtask, Constraint, constraint}
+use Rattle.hv_world.specs.Values.{Term, object, variable, Atom, atom, Formula, holds, and, or, not, imply, forall, exists, equal, formulas_of, Effect, becomes, for_each, effects_of, TaskName, compound, primitive, Subtask, subtask, Constraint, constraint}
 
 abbrev pub type_number : TypeId → ℕ
 type_number t = t.0
@@ -40,6 +43,14 @@ formula_step (Formula-F.Equal s t) = equal (term_view s) (term_view t)
 
 abbrev pub formula_view : code_formula.Formula → Formula
 formula_view = fold-Formula Formula formula_step
+
+-- one level, with each effect inside already seen
+abbrev pub effect_step : Effect-F Effect → Effect
+effect_step (Effect-F.Becomes b a) = becomes b (atom_view a)
+effect_step (Effect-F.Forall ts es) = for_each (map type_number ts.items) (effects_of es.items)
+
+abbrev pub effect_view : code_effect.Effect → Effect
+effect_view = fold-Effect Effect effect_step
 
 abbrev pub subtask_view : code_subtask.Subtask → Subtask
 subtask_view s = subtask (name_view s.name) (map term_view s.terms.items)

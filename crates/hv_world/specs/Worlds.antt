@@ -1,9 +1,10 @@
 -- The world of a domain and a problem: what they say, with a number for each name.
-use Rattle.std.specs.Prelude.{ℕ, not, List, [], ◌++◌, map, filter, length, Option, Some, None, option_map}
+use Rattle.std.specs.Prelude.{ℕ, suc, ◌+◌, List, [], ◌∷◌, ◌++◌, map, filter, length, Option, Some, None, option_map}
 use Rattle.hv_syntax.specs.Values as text
-use Rattle.hv_syntax.specs.Values.{Typed, type_name, Domain, Problem}
-use Rattle.hv_world.specs.Values.{Term, object, variable, Atom, atom, Formula, Formulas, holds, and, or, not as negation, imply, forall, exists, equal, no_formulas, more_formulas, TaskName, compound, primitive, Subtask, subtask, Constraint, constraint}
-use Rattle.hv_world.specs.Names.{place_in, number_or, number_in}
+use Rattle.hv_syntax.specs.Values.{WordAt, Typed, type_name, Variable, Domain, Problem}
+use Rattle.hv_world.specs.Values.{Term, object, variable, Atom, atom, Formula, Formulas, holds, and, or, not as negation, imply, forall, exists, equal, no_formulas, more_formulas, Effect, Effects, becomes, for_each, no_effects, more_effects, TaskName, compound, primitive, Subtask, subtask, Constraint, constraint}
+use Rattle.hv_world.specs.Names.{names, place_in, number_or, number_in}
+use Rattle.hv_world.specs.Eithers.{either_place}
 use Rattle.hv_world.specs.Scopes.{Scope, parameters, inside, size, variable_in}
 use Rattle.hv_world.specs.Known.{Signature, Declaration, Known, known_in, variables}
 use Rattle.hv_world.specs.Orders.{Written}
@@ -48,16 +49,15 @@ pub record Task : Type 0 where
 abbrev pub task : List ℕ → List ℕ → Task
 task n ts = record { name = n; parameters = ts }
 
--- an action: what it deletes, and then adds
+-- an action: the types of its parameters, when it may be done, and its effects
 pub record Action : Type 0 where
   pub name : List ℕ
   pub parameters : List ℕ
   pub precondition : Formula
-  pub deletes : List Atom
-  pub adds : List Atom
+  pub effect : Effects
 
-abbrev pub action : List ℕ → List ℕ → Formula → List Atom → List Atom → Action
-action n ts f ds as' = record { name = n; parameters = ts; precondition = f; deletes = ds; adds = as' }
+abbrev pub action : List ℕ → List ℕ → Formula → Effects → Action
+action n ts f es = record { name = n; parameters = ts; precondition = f; effect = es }
 
 pub record World : Type 0 where
   pub types : List (List ℕ)
@@ -112,8 +112,22 @@ module _ (k : Known) where
   abbrev pub type_of : Typed → ℕ
   type_of v = number_in k.types (type_name v.of)
 
-  abbrev pub types_of : List Typed → List ℕ
-  types_of vs = map type_of vs
+  -- the number of the type of this place among the either types, which stand behind those declared; without a place it is `object`
+  abbrev pub either_number : Option ℕ → ℕ
+  either_number None = 0
+  either_number (Some i) = length k.types + i
+
+  -- the number of the type of a variable: of `object` where none is written, of the one that is written, or of that which several names make
+  abbrev pub number_of_type : List WordAt → ℕ
+  number_of_type [] = 0
+  number_of_type (w ∷ []) = number_in k.types w.text
+  number_of_type (v ∷ w ∷ ws) = either_number (either_place k.eithers (names (v ∷ w ∷ ws)))
+
+  abbrev pub variable_type : Variable → ℕ
+  variable_type v = number_of_type v.of
+
+  abbrev pub types_of : List Variable → List ℕ
+  types_of vs = map variable_type vs
 
   abbrev pub term_in : Scope → text.Term → Term
   term_in scope (text.constant w) = object (number_in k.objects w.text)
@@ -140,12 +154,18 @@ module _ (k : Known) where
     formulas_in scope text.no_formulas = no_formulas
     formulas_in scope (text.more_formulas f fs) = more_formulas (formula_in scope f) (formulas_in scope fs)
 
-  -- the atoms of those literals that are positive, or of those that are not
+  -- the atoms of those literals that are positive
   abbrev pub added : Scope → List text.Literal → List Atom
   added scope ls = map (λ l. atom_in scope l.atom) (filter (λ l. l.is_positive) ls)
 
-  abbrev pub deleted : Scope → List text.Literal → List Atom
-  deleted scope ls = map (λ l. atom_in scope l.atom) (filter (λ l. not l.is_positive) ls)
+  abbrev mutual
+    pub effects_in : Scope → text.Effect → Effects
+    effects_in scope text.no_items = no_effects
+    effects_in scope (text.more_items i e) = more_effects (effect_in scope i) (effects_in scope e)
+
+    pub effect_in : Scope → text.Item → Effect
+    effect_in scope (text.becomes l) = becomes l.is_positive (atom_in scope l.atom)
+    effect_in scope (text.for_each vs e) = for_each (types_of vs) (effects_in (inside scope (variables vs)) e)
 
   abbrev pub task_in : Scope → text.Atom → Subtask
   task_in scope a = subtask (task_of (k.task a.symbol.text)) (terms_in scope a.terms)
@@ -199,8 +219,7 @@ module _ (k : Known) where
         name = a.name.text;
         parameters = types_of a.parameters;
         precondition = formula_in scope a.precondition;
-        deletes = deleted scope a.effect.literals;
-        adds = added scope a.effect.literals;
+        effect = effects_in scope a.effect;
       }
 
   -- a type and its parent, an object and its type, by number
@@ -210,12 +229,22 @@ module _ (k : Known) where
   abbrev pub object_pair : Typed → ℕ × ℕ
   object_pair v = (number_in k.objects v.name.text, type_of v)
 
+  -- each type that these names name, and the type of this number, which is above it
+  abbrev pub either_pairs : ℕ → List (List ℕ) → List (ℕ × ℕ)
+  either_pairs t ns = map (λ n. (number_in k.types n, t)) ns
+
+  -- so for either types, of which the first has number t
+  abbrev pub eithers_pairs : ℕ → List (List (List ℕ)) → List (ℕ × ℕ)
+  eithers_pairs t [] = []
+  eithers_pairs t (ns ∷ others) = either_pairs t ns ++ eithers_pairs (suc t) others
+
+  -- the types are those declared, and behind them the either types, each of them a parent of those that it names
   abbrev pub typing_by : Domain → Problem → Typing
   typing_by d p =
       record {
-        types = length k.types;
+        types = length k.types + length k.eithers;
         objects = length k.objects;
-        parents = map type_pair d.types;
+        parents = map type_pair d.types ++ eithers_pairs (length k.types) k.eithers;
         declared = map object_pair (d.constants ++ p.objects);
       }
 

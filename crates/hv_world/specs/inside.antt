@@ -7,3 +7,4 @@ pub mod OrderViews
 pub mod Parts
 pub mod Kept
 pub mod Seeds
+pub mod Gathers

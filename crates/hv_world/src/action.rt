@@ -2,21 +2,22 @@
 
 ghost use Rattle.std.specs.Prelude.{◌≡◌, map};
 ghost use Rattle.hv_text.specs.Names.{text_of};
-ghost use Rattle.hv_world.specs.Views.{type_number, atom_view, formula_view};
+ghost use Rattle.hv_world.specs.Values.{effects_of};
+ghost use Rattle.hv_world.specs.Views.{type_number, formula_view, effect_view};
 ghost use Rattle.hv_world.specs.SectionViews.{action_view};
 
-use crate::formula::{Atom, Formula};
+use crate::effect::Effect;
+use crate::formula::Formula;
 use crate::id::TypeId;
 use hv_text::Name;
 
-/// An action: where its precondition holds, it may be done; it deletes atoms, and then adds others.
+/// An action: where its precondition holds, it may be done, and brings its effects about.
 #[derive(Drop)]
 pub struct Action<'s> {
     pub(crate) name: Name<'s>,
     pub(crate) parameters: Vec<TypeId>,
     pub(crate) precondition: Formula,
-    pub(crate) deletes: Vec<Atom>,
-    pub(crate) adds: Vec<Atom>,
+    pub(crate) effect: Vec<Effect>,
 }
 
 impl<'s> Action<'s> {
@@ -41,17 +42,10 @@ impl<'s> Action<'s> {
         &self.precondition
     }
 
-    /// The atoms that it deletes, as written.
-    pub fn deletes(&self) -> &[Atom]
-        ensures { map atom_view result.now ≡ (action_view self.now).deletes }
+    /// Its effects, as written.
+    pub fn effect(&self) -> &[Effect]
+        ensures { effects_of (map effect_view result.now) ≡ (action_view self.now).effect }
     {
-        &self.deletes
-    }
-
-    /// The atoms that it adds, as written.
-    pub fn adds(&self) -> &[Atom]
-        ensures { map atom_view result.now ≡ (action_view self.now).adds }
-    {
-        &self.adds
+        &self.effect
     }
 }

@@ -92,7 +92,9 @@ fn note_objects(
     rows: &mut IndexMap<TaskName, Vec<bool>>,
     subtask: &Subtask,
 ) -> Result<(), Memory>
-    ensures { OnOk result ((ss : List value.Subtask) → RowsSay ss rows.old → RowsSay (ss ++ subtask_view subtask.now ∷ []) rows.new) }
+    ensures { OnOk result
+        ((ss : List value.Subtask) → RowsSay ss rows.old
+        → RowsSay (ss ++ subtask_view subtask.now ∷ []) rows.new) }
 {
     let row = match rows.get(&subtask.name) {
         Some(marks) => kept_marks(alloc, marks, &subtask.terms)?,
@@ -118,7 +120,8 @@ fn fixed_positions(
 
 // The objects at the marked positions.
 fn marked_objects(alloc: Global, marks: &[bool], terms: &[Term]) -> Result<Vec<usize>, Memory>
-    ensures { IfOk result (λ v. v.items ≡ alike.fixed_objects (is_marked marks.now) 0 (map term_view terms.now)) }
+    ensures { IfOk result
+        (λ v. v.items ≡ alike.fixed_objects (is_marked marks.now) 0 (map term_view terms.now)) }
 {
     let mut objects = Vec::new(alloc);
     for (position, term) in terms.iter().enumerate() {
@@ -136,7 +139,10 @@ fn key_of(
     rows: &IndexMap<TaskName, Vec<bool>>,
     subtask: &Subtask,
 ) -> Result<Key, Memory>
-    ensures { IfOk result (λ k. (ss : List value.Subtask) → RowsSay ss rows.now → Contains ss (subtask_view subtask.now) → key_view k ≡ alike.key ss (subtask_view subtask.now)) }
+    ensures { IfOk result
+        (λ k. (ss : List value.Subtask) → RowsSay ss rows.now
+        → Contains ss (subtask_view subtask.now)
+        → key_view k ≡ alike.key ss (subtask_view subtask.now)) }
 {
     let objects = match rows.get(&subtask.name) {
         Some(marks) => marked_objects(alloc, marks, &subtask.terms)?,
@@ -185,7 +191,9 @@ pub(crate) fn class_sizes(alloc: Global, subtasks: &[Subtask]) -> Result<Vec<usi
 // Takes the mark off the parameter that the term is, if it is one.
 fn unmark_term(marks: &mut [bool], term: Term)
     ensures len { length marks.new ≡ length marks.old }
-    ensures marks { (k : ℕ) → is_marked marks.new k ≡ is_marked marks.old k && not (alike.is_variable k (term_view term)) }
+    ensures marks { (k : ℕ)
+        → is_marked marks.new k ≡ is_marked marks.old k
+        && not (alike.is_variable k (term_view term)) }
 {
     if let Term::Variable(variable) = term
         && variable < marks.len()
@@ -197,7 +205,9 @@ fn unmark_term(marks: &mut [bool], term: Term)
 // Takes the mark off each parameter that is one of these terms.
 fn unmark(marks: &mut [bool], terms: &[Term])
     ensures len { length marks.new ≡ length marks.old }
-    ensures marks { (k : ℕ) → is_marked marks.new k ≡ is_marked marks.old k && not (alike.has_variable k (map term_view terms.now)) }
+    ensures marks { (k : ℕ)
+        → is_marked marks.new k ≡ is_marked marks.old k
+        && not (alike.has_variable k (map term_view terms.now)) }
 {
     for term in terms {
         unmark_term(marks, *term);
@@ -207,7 +217,9 @@ fn unmark(marks: &mut [bool], terms: &[Term])
 // Takes the mark off each parameter that is an argument of a subtask.
 fn unmark_arguments(marks: &mut [bool], subtasks: &[Subtask])
     ensures len { length marks.new ≡ length marks.old }
-    ensures marks { (k : ℕ) → is_marked marks.new k ≡ is_marked marks.old k && not (alike.is_argument k (map subtask_view subtasks.now)) }
+    ensures marks { (k : ℕ)
+        → is_marked marks.new k ≡ is_marked marks.old k
+        && not (alike.is_argument k (map subtask_view subtasks.now)) }
 {
     for subtask in subtasks {
         unmark(marks, &subtask.terms);
@@ -217,7 +229,10 @@ fn unmark_arguments(marks: &mut [bool], subtasks: &[Subtask])
 // Takes the mark off each parameter that is an argument of the task or of a subtask.
 fn keep_free(marks: &mut [bool], task: &[Term], subtasks: &[Subtask])
     ensures len { length marks.new ≡ length marks.old }
-    ensures marks { (k : ℕ) → is_marked marks.new k ≡ (is_marked marks.old k && not (alike.has_variable k (map term_view task.now))) && not (alike.is_argument k (map subtask_view subtasks.now)) }
+    ensures marks { (k : ℕ)
+        → is_marked marks.new k
+        ≡ (is_marked marks.old k && not (alike.has_variable k (map term_view task.now)))
+        && not (alike.is_argument k (map subtask_view subtasks.now)) }
 {
     unmark(marks, task);
     unmark_arguments(marks, subtasks);
@@ -225,7 +240,8 @@ fn keep_free(marks: &mut [bool], task: &[Term], subtasks: &[Subtask])
 
 // The marked positions.
 fn marked_numbers(alloc: Global, marks: &[bool]) -> Result<Vec<usize>, Memory>
-    ensures { IfOk result (λ v. v.items ≡ filter (is_marked marks.now) (range_with_len 0 (length marks.now))) }
+    ensures { IfOk result
+        (λ v. v.items ≡ filter (is_marked marks.now) (range_with_len 0 (length marks.now))) }
 {
     let mut numbers = Vec::new(alloc);
     for (number, mark) in marks.iter().enumerate() {
@@ -243,7 +259,10 @@ pub(crate) fn free_parameters(
     task: &[Term],
     subtasks: &[Subtask],
 ) -> Result<Vec<usize>, Memory>
-    ensures { IfOk result (λ v. v.items ≡ alike.free_parameters parameters (map term_view task.now) (map subtask_view subtasks.now)) }
+    ensures { IfOk result
+        (λ v. v.items
+        ≡ alike.free_parameters parameters (map term_view task.now)
+        (map subtask_view subtasks.now)) }
 {
     let mut marks = vec![in alloc; true; parameters]?;
     keep_free(&mut marks, task, subtasks);
@@ -252,27 +271,33 @@ pub(crate) fn free_parameters(
 
 /// Two subtasks of a network are alike exactly where their keys are the same. This function does nothing: its contract is the law.
 pub fn keys_tell_classes()
-    ensures { (ss : List value.Subtask) (s t : value.Subtask) → Contains ss s → Contains ss t → alike.AreAlike ss s t ↔ alike.key ss s ≡ alike.key ss t }
+    ensures { (ss : List value.Subtask) (s t : value.Subtask) → Contains ss s → Contains ss t
+        → alike.AreAlike ss s t ↔ alike.key ss s ≡ alike.key ss t }
 {}
 
 /// A subtask with objects for its variables, as a plan has it, keeps its key.
 pub fn instances_keep_their_key()
-    ensures { (ss : List value.Subtask) (s : value.Subtask) (g : ℕ → ℕ) → Contains ss s → alike.key ss (alike.subtask_instance g s) ≡ alike.key ss s }
+    ensures { (ss : List value.Subtask) (s : value.Subtask) (g : ℕ → ℕ) → Contains ss s
+        → alike.key ss (alike.subtask_instance g s) ≡ alike.key ss s }
 {}
 
 /// The test for a fixed position says what is fixed.
 pub fn fixed_positions_are_found()
-    ensures { (ss : List value.Subtask) (n : value.TaskName) (k : ℕ) → alike.is_fixed ss n k ≡ true ↔ alike.IsFixed ss n k }
+    ensures { (ss : List value.Subtask) (n : value.TaskName) (k : ℕ)
+        → alike.is_fixed ss n k ≡ true ↔ alike.IsFixed ss n k }
 {}
 
 /// The classes are those of the keys, each once, and with as many as have its key.
 pub fn classes_are_counted()
-    ensures each { (ks : List alike.Key) (k : alike.Key) → Contains ks k → Contains (alike.classes ks) (k, alike.how_many k ks) }
-    ensures sizes { (ks : List alike.Key) → All (λ c. c.1 ≡ alike.how_many c.0 ks) (alike.classes ks) }
+    ensures each { (ks : List alike.Key) (k : alike.Key) → Contains ks k
+        → Contains (alike.classes ks) (k, alike.how_many k ks) }
+    ensures sizes { (ks : List alike.Key)
+        → All (λ c. c.1 ≡ alike.how_many c.0 ks) (alike.classes ks) }
     ensures once { (ks : List alike.Key) → AllPairs (λ c d. c.0 ≢ d.0) (alike.classes ks) }
 {}
 
 /// The test for a free parameter says what is free.
 pub fn free_parameters_are_found()
-    ensures { (task : List value.Term) (ss : List value.Subtask) (i : ℕ) → alike.is_free task ss i ≡ true ↔ alike.IsFree task ss i }
+    ensures { (task : List value.Term) (ss : List value.Subtask) (i : ℕ)
+        → alike.is_free task ss i ≡ true ↔ alike.IsFree task ss i }
 {}

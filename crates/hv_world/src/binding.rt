@@ -14,7 +14,8 @@ pub enum Binding<'a> {
 
 // The object of a number, or by how much the number is past the objects.
 fn given(objects: &[ObjectId], number: usize) -> Result<ObjectId, usize>
-    ensures { MatchResult result (λ o. slice_get (map object_number objects.now) number ≡ Some o.0) (λ past. past + length objects.now ≡ number) }
+    ensures { MatchResult result (λ o. slice_get (map object_number objects.now) number ≡ Some o.0)
+        (λ past. past + length objects.now ≡ number) }
 {
     if number < objects.len() {
         Ok(objects[number])
@@ -25,7 +26,8 @@ fn given(objects: &[ObjectId], number: usize) -> Result<ObjectId, usize>
 
 // The object of a variable, or by how much its number is past those of the binding.
 fn find(binding: &Binding<'_>, variable: usize) -> Result<ObjectId, usize>
-    ensures { MatchResult result (λ o. slice_get (objects_in binding.now) variable ≡ Some o.0) (λ past. past + length (objects_in binding.now) ≡ variable) }
+    ensures { MatchResult result (λ o. slice_get (objects_in binding.now) variable ≡ Some o.0)
+        (λ past. past + length (objects_in binding.now) ≡ variable) }
 {
     match binding {
         Binding::Given(objects) => given(objects, variable),

@@ -26,8 +26,8 @@ use crate::check::first_fault;
 use crate::fault::StaticFault;
 use crate::formula::{Atom, Formula};
 use crate::intern::lists::{
-    actions_in, add_object_pairs, goal_in, init_in, methods_in, predicate_names, tasks_in,
-    type_pairs,
+    actions_in, add_eithers_pairs, add_object_pairs, goal_in, init_in, methods_in, predicate_names,
+    tasks_in, type_pairs,
 };
 use crate::intern::sections::top_in;
 use crate::method::Method;
@@ -48,25 +48,25 @@ fn typing_in<'s>(
     domain: &DomainText<'s>,
     problem: &ProblemText<'s>,
 ) -> Result<Types, Memory>
-    requires { IsInRange (typing_by (known_by tables.now) (domain_view domain.now) (problem_view problem.now)) }
-    ensures { IfOk result (λ w. w ≡ typing_by (known_by tables.now) (domain_view domain.now) (problem_view problem.now)) }
+    requires { IsInRange
+        (typing_by (known_by tables.now) (domain_view domain.now) (problem_view problem.now)) }
+    ensures { IfOk result
+        (λ w. w ≡ typing_by (known_by tables.now) (domain_view domain.now)
+        (problem_view problem.now)) }
 {
-    let parents = type_pairs(alloc, tables, domain.types())?;
+    let types = tables.type_count()?;
+    let mut parents = type_pairs(alloc, tables, domain.types())?;
+    add_eithers_pairs(tables, &mut parents)?;
     let mut declared = Vec::new(alloc);
     add_object_pairs(tables, &mut declared, domain.constants())?;
     add_object_pairs(tables, &mut declared, problem.objects())?;
-    Types::new(
-        alloc,
-        tables.types.len(),
-        tables.objects.len(),
-        parents,
-        declared,
-    )
+    Types::new(alloc, types, tables.objects.len(), parents, declared)
 }
 
 // The places of the names of tasks.
 fn task_names<'s>(alloc: Global, tasks: &[TaskText<'s>]) -> Result<Names<'s>, Memory>
-    ensures { IfOk result (λ t. places_by t ≡ place_in (said_task_names (map said_task tasks.now))) }
+    ensures { IfOk result
+        (λ t. places_by t ≡ place_in (said_task_names (map said_task tasks.now))) }
 {
     let mut words = Vec::new(alloc);
     for task in tasks {
@@ -77,7 +77,8 @@ fn task_names<'s>(alloc: Global, tasks: &[TaskText<'s>]) -> Result<Names<'s>, Me
 
 // The places of the names of actions.
 fn action_names<'s>(alloc: Global, actions: &[ActionText<'s>]) -> Result<Names<'s>, Memory>
-    ensures { IfOk result (λ t. places_by t ≡ place_in (said_action_names (map said_action actions.now))) }
+    ensures { IfOk result
+        (λ t. places_by t ≡ place_in (said_action_names (map said_action actions.now))) }
 {
     let mut words = Vec::new(alloc);
     for action in actions {
@@ -88,7 +89,8 @@ fn action_names<'s>(alloc: Global, actions: &[ActionText<'s>]) -> Result<Names<'
 
 // The places of the names of methods.
 fn method_names<'s>(alloc: Global, methods: &[MethodText<'s>]) -> Result<Names<'s>, Memory>
-    ensures { IfOk result (λ t. places_by t ≡ place_in (said_method_names (map said_method methods.now))) }
+    ensures { IfOk result
+        (λ t. places_by t ≡ place_in (said_method_names (map said_method methods.now))) }
 {
     let mut words = Vec::new(alloc);
     for method in methods {
@@ -102,7 +104,9 @@ fn predicate_places<'s>(
     alloc: Global,
     predicates: &[PredicateText<'s>],
 ) -> Result<Names<'s>, Memory>
-    ensures { IfOk result (λ t. places_by t ≡ place_in (names (predicate_words (map said_predicate predicates.now)))) }
+    ensures { IfOk result
+        (λ t. places_by t
+        ≡ place_in (names (predicate_words (map said_predicate predicates.now)))) }
 {
     let words = predicate_words(alloc, predicates)?;
     Names::of(alloc, &words)
@@ -121,9 +125,14 @@ fn kinds_in<'s>(
     domain: &DomainText<'s>,
     problem: &ProblemText<'s>,
 ) -> Result<Kinds<'s>, Memory>
-    requires { IsInRange (typing_by (known_by tables.now) (domain_view domain.now) (problem_view problem.now)) }
-    ensures typing { IfOk result (λ k. k.typing ≡ typing_by (known_by tables.now) (domain_view domain.now) (problem_view problem.now)) }
-    ensures predicates { IfOk result (λ k. map text_of k.predicates.items ≡ map (λ q. q.name.text) (domain_view domain.now).predicates) }
+    requires { IsInRange
+        (typing_by (known_by tables.now) (domain_view domain.now) (problem_view problem.now)) }
+    ensures typing { IfOk result
+        (λ k. k.typing
+        ≡ typing_by (known_by tables.now) (domain_view domain.now) (problem_view problem.now)) }
+    ensures predicates { IfOk result
+        (λ k. map text_of k.predicates.items
+        ≡ map (λ q. q.name.text) (domain_view domain.now).predicates) }
 {
     let typing = typing_in(alloc, tables, domain, problem)?;
     let predicates = predicate_names(alloc, domain.predicates())?;
@@ -144,9 +153,15 @@ fn sections_in<'s>(
     domain: &DomainText<'s>,
 ) -> Result<Sections<'s>, Memory>
     requires { All (λ m. IsArrangeable (written_by m.network)) (domain_view domain.now).methods }
-    ensures tasks { IfOk result (λ s. map task_view s.tasks.items ≡ map (task_by (known_by tables.now)) (domain_view domain.now).tasks) }
-    ensures methods { IfOk result (λ s. map method_view s.methods.items ≡ map (method_in (known_by tables.now)) (domain_view domain.now).methods) }
-    ensures actions { IfOk result (λ s. map action_view s.actions.items ≡ map (action_in (known_by tables.now)) (domain_view domain.now).actions) }
+    ensures tasks { IfOk result
+        (λ s. map task_view s.tasks.items
+        ≡ map (task_by (known_by tables.now)) (domain_view domain.now).tasks) }
+    ensures methods { IfOk result
+        (λ s. map method_view s.methods.items
+        ≡ map (method_in (known_by tables.now)) (domain_view domain.now).methods) }
+    ensures actions { IfOk result
+        (λ s. map action_view s.actions.items
+        ≡ map (action_in (known_by tables.now)) (domain_view domain.now).actions) }
 {
     let tasks = tasks_in(alloc, tables, domain.tasks())?;
     let methods = methods_in(alloc, tables, domain.methods())?;
@@ -172,9 +187,15 @@ fn start_in<'s>(
     problem: &ProblemText<'s>,
 ) -> Result<Start<'s>, Memory>
     requires { IsArrangeable (written_by (problem_view problem.now).htn.network) }
-    ensures init { IfOk result (λ s. map atom_view s.init.items ≡ added (known_by tables.now) (parameters []) (problem_view problem.now).init) }
-    ensures goal { IfOk result (λ s. option_map formula_view s.goal ≡ option_map (formula_in (known_by tables.now) (parameters [])) (problem_view problem.now).goal) }
-    ensures top { IfOk result (λ s. method_view s.top ≡ top_in (known_by tables.now) (problem_view problem.now).htn) }
+    ensures init { IfOk result
+        (λ s. map atom_view s.init.items
+        ≡ added (known_by tables.now) (parameters []) (problem_view problem.now).init) }
+    ensures goal { IfOk result
+        (λ s. option_map formula_view s.goal
+        ≡ option_map (formula_in (known_by tables.now) (parameters []))
+        (problem_view problem.now).goal) }
+    ensures top { IfOk result
+        (λ s. method_view s.top ≡ top_in (known_by tables.now) (problem_view problem.now).htn) }
 {
     let init = init_in(alloc, tables, problem.init())?;
     let goal = goal_in(alloc, tables, problem.goal())?;
@@ -196,9 +217,12 @@ fn parts_in<'s>(
     domain: &DomainText<'s>,
     problem: &ProblemText<'s>,
 ) -> Result<Parts<'s>, Memory>
-    requires known { known_by tables.now ≡ known_in (domain_view domain.now) (problem_view problem.now) }
+    requires known { known_by tables.now
+        ≡ known_in (domain_view domain.now) (problem_view problem.now) }
     requires sound { IsStatic (domain_view domain.now) (problem_view problem.now) }
-    ensures { IfOk result (λ p. world_of_parts tables.now p ≡ world_by (known_by tables.now) (domain_view domain.now) (problem_view problem.now)) }
+    ensures { IfOk result
+        (λ p. world_of_parts tables.now p
+        ≡ world_by (known_by tables.now) (domain_view domain.now) (problem_view problem.now)) }
 {
     let kinds = kinds_in(alloc, tables, domain, problem)?;
     let sections = sections_in(alloc, tables, domain)?;
@@ -220,10 +244,15 @@ struct Places<'s> {
 }
 
 fn places_of<'s>(alloc: Global, domain: &DomainText<'s>) -> Result<Places<'s>, Memory>
-    ensures predicates { IfOk result (λ p. places_by p.predicates ≡ place_in (names (predicate_words (domain_view domain.now).predicates))) }
-    ensures tasks { IfOk result (λ p. places_by p.tasks ≡ place_in (said_task_names (domain_view domain.now).tasks)) }
-    ensures actions { IfOk result (λ p. places_by p.actions ≡ place_in (said_action_names (domain_view domain.now).actions)) }
-    ensures methods { IfOk result (λ p. places_by p.methods ≡ place_in (said_method_names (domain_view domain.now).methods)) }
+    ensures predicates { IfOk result
+        (λ p. places_by p.predicates
+        ≡ place_in (names (predicate_words (domain_view domain.now).predicates))) }
+    ensures tasks { IfOk result
+        (λ p. places_by p.tasks ≡ place_in (said_task_names (domain_view domain.now).tasks)) }
+    ensures actions { IfOk result
+        (λ p. places_by p.actions ≡ place_in (said_action_names (domain_view domain.now).actions)) }
+    ensures methods { IfOk result
+        (λ p. places_by p.methods ≡ place_in (said_method_names (domain_view domain.now).methods)) }
 {
     let predicates = predicate_places(alloc, domain.predicates())?;
     let tasks = task_names(alloc, domain.tasks())?;
@@ -249,10 +278,14 @@ impl<'s> World<'s> {
         domain: &DomainText<'s>,
         problem: &ProblemText<'s>,
     ) -> Result<World<'s>, StaticFault>
-        ensures world { IfOk result (λ w. world_view w ≡ world_of (domain_view domain.now) (problem_view problem.now)) }
-        ensures sound { IfOk result (λ _. IsStatic (domain_view domain.now) (problem_view problem.now)) }
+        ensures world { IfOk result
+            (λ w. world_view w ≡ world_of (domain_view domain.now) (problem_view problem.now)) }
+        ensures sound { IfOk result
+            (λ _. IsStatic (domain_view domain.now) (problem_view problem.now)) }
         ensures bound { IfOk result (λ w. IsBound (world_view w)) }
-        ensures err { IfErr result (λ f. (f ≡ memory_fault) ⊎ (first_fault (domain_view domain.now) (problem_view problem.now) ≡ Some f)) }
+        ensures err { IfErr result
+            (λ f. (f ≡ memory_fault)
+            ⊎ (first_fault (domain_view domain.now) (problem_view problem.now) ≡ Some f)) }
     {
         let tables = Tables::of(alloc, domain, problem)?;
         match first_fault(alloc, &tables, domain, problem)? {
@@ -272,9 +305,11 @@ impl<'s> World<'s> {
         domain: &DomainText<'s>,
         problem: &ProblemText<'s>,
     ) -> Result<World<'s>, Memory>
-        requires known { known_by tables ≡ known_in (domain_view domain.now) (problem_view problem.now) }
+        requires known { known_by tables
+            ≡ known_in (domain_view domain.now) (problem_view problem.now) }
         requires sound { IsStatic (domain_view domain.now) (problem_view problem.now) }
-        ensures { IfOk result (λ w. world_view w ≡ world_of (domain_view domain.now) (problem_view problem.now)) }
+        ensures { IfOk result
+            (λ w. world_view w ≡ world_of (domain_view domain.now) (problem_view problem.now)) }
     {
         let parts = parts_in(alloc, &tables, domain, problem)?;
         let places = places_of(alloc, domain)?;
@@ -284,14 +319,22 @@ impl<'s> World<'s> {
     // The world of its parts.
     fn of_parts(tables: Tables<'s>, parts: Parts<'s>, places: Places<'s>) -> World<'s>
         requires sound { IsSound (world_of_parts tables parts) }
-        requires predicates { (n : List ℕ) → places_by places.predicates n ≡ place_in (world_of_parts tables parts).predicates n }
-        requires tasks { (n : List ℕ) → places_by places.tasks n ≡ place_in (task_names (world_of_parts tables parts).tasks) n }
-        requires actions { (n : List ℕ) → places_by places.actions n ≡ place_in (action_names (world_of_parts tables parts).actions) n }
-        requires methods { (n : List ℕ) → places_by places.methods n ≡ place_in (method_names (world_of_parts tables parts).methods) n }
+        requires predicates { (n : List ℕ)
+            → places_by places.predicates n ≡ place_in (world_of_parts tables parts).predicates n }
+        requires tasks { (n : List ℕ)
+            → places_by places.tasks n
+            ≡ place_in (task_names (world_of_parts tables parts).tasks) n }
+        requires actions { (n : List ℕ)
+            → places_by places.actions n
+            ≡ place_in (action_names (world_of_parts tables parts).actions) n }
+        requires methods { (n : List ℕ)
+            → places_by places.methods n
+            ≡ place_in (method_names (world_of_parts tables parts).methods) n }
         ensures { world_view result ≡ world_of_parts tables.entry parts.entry }
     {
+        let types = tables.types;
         World {
-            types: tables.types,
+            types: types.names,
             objects: tables.objects,
             typing: parts.kinds.typing,
             predicates: parts.kinds.predicates,

@@ -7,6 +7,7 @@ ghost use Rattle.hv_world.specs.Known.{known_in};
 ghost use Rattle.hv_world.specs.StaticRules.{IsStatic, first_fault};
 ghost use Rattle.hv_world.specs.inside.Tables.{known_by};
 
+mod effects;
 mod formulas;
 mod networks;
 mod sections;
@@ -34,7 +35,9 @@ pub(crate) fn first_fault<'s>(
     problem: &ProblemText<'s>,
 ) -> Result<Option<StaticFault>, Memory>
     requires { known_by tables.now ≡ known_in (domain_view domain.now) (problem_view problem.now) }
-    ensures { IfOk result (λ o. MatchOption o (IsStatic (domain_view domain.now) (problem_view problem.now)) (λ f. first_fault (domain_view domain.now) (problem_view problem.now) ≡ Some f)) }
+    ensures { IfOk result
+        (λ o. MatchOption o (IsStatic (domain_view domain.now) (problem_view problem.now))
+        (λ f. first_fault (domain_view domain.now) (problem_view problem.now) ≡ Some f)) }
 {
     if let Some(fault) = domain_fault(alloc, tables, domain)? {
         return Ok(Some(fault));

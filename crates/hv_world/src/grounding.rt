@@ -67,7 +67,8 @@ impl GroundActions {
     /// The action of a place.
     pub fn at(&self, place: usize) -> GroundAction<'_>
         requires { place < length (ground_actions_view self.now) }
-        ensures { slice_get (ground_actions_view self.now) place ≡ Some (ground_action_view result) }
+        ensures { slice_get (ground_actions_view self.now) place
+            ≡ Some (ground_action_view result) }
     {
         GroundAction {
             action: self.actions[place],
@@ -77,7 +78,8 @@ impl GroundActions {
 
     /// The action of a place, where there is one.
     pub fn get(&self, place: usize) -> Option<GroundAction<'_>>
-        ensures { option_map ground_action_view result ≡ slice_get (ground_actions_view self.now) place }
+        ensures { option_map ground_action_view result
+            ≡ slice_get (ground_actions_view self.now) place }
     {
         if place < self.len() {
             Some(self.at(place))
@@ -93,7 +95,9 @@ impl GroundActions {
     ///
     /// `Memory` where a growth was refused, or where all together would have 2^32 objects.
     pub fn push(&mut self, action: ActionId, objects: &[ObjectId]) -> Result<(), Memory>
-        ensures pushed { OnOk result (ground_actions_view self.new ≡ ground_actions_view self.old ++ ground_action action.0 (map object_number objects.now) ∷ []) }
+        ensures pushed { OnOk result
+            (ground_actions_view self.new ≡ ground_actions_view self.old
+            ++ ground_action action.0 (map object_number objects.now) ∷ []) }
         ensures same { OnErr result (ground_actions_view self.new ≡ ground_actions_view self.old) }
     {
         self.actions.push(action)?;

@@ -2,6 +2,7 @@
 //! the number behind the last, and a predicate or a task that is not declared the number 0; neither
 //! is in a world, since it is a static fault.
 
+pub(crate) mod effects;
 pub(crate) mod formulas;
 pub(crate) mod lists;
 pub(crate) mod literals;

@@ -7,6 +7,7 @@ mod alike;
 mod binding;
 mod build;
 mod check;
+mod effect;
 mod fault;
 mod formula;
 mod grounding;
@@ -31,13 +32,15 @@ pub use alike::{
     instances_keep_their_key, keys_tell_classes,
 };
 pub use binding::Binding;
+pub use effect::Effect;
 pub use fault::{Side, StaticFault, StaticKind};
 pub use formula::{Atom, Constraint, Formula, Subtask, Term};
 pub use grounding::{GroundAction, GroundActions};
 pub use id::{ActionId, MethodId, ObjectId, PredicateId, TaskId, TaskName, TypeId};
 pub use laws::{
     a_world_or_a_fault, cycles_are_found, cyclic_orders_are_faults, declarations_go_by_place,
-    names_are_found, orders_are_decided, static_worlds_are_bound, types_are_decided,
+    eithers_are_unions, names_are_found, orders_are_decided, static_worlds_are_bound,
+    types_are_decided,
 };
 pub use method::Method;
 pub use network::Network;

@@ -24,7 +24,9 @@ pub struct Method<'s> {
     precondition: Formula,
     network: Network,
     free_parameters: Vec<usize>,
-    ghost free: { free_parameters.items ≡ alike.free_parameters (length parameters.items) (terms_of (option_map subtask_view task)) (network_view network).subtasks },
+    ghost free: { free_parameters.items
+        ≡ alike.free_parameters (length parameters.items) (terms_of (option_map subtask_view task))
+        (network_view network).subtasks },
 }
 
 // The terms of a task, where there is one.
@@ -50,7 +52,10 @@ impl<'s> Method<'s> {
         precondition: Formula,
         network: Network,
     ) -> Result<Method<'s>, Memory>
-        ensures { IfOk result (λ m. method_view m ≡ method (option_map text_of name.entry) (map type_number parameters.items) (option_map subtask_view task) (formula_view precondition) (network_view network)) }
+        ensures { IfOk result
+            (λ m. method_view m
+            ≡ method (option_map text_of name.entry) (map type_number parameters.items)
+            (option_map subtask_view task) (formula_view precondition) (network_view network)) }
     {
         let free_parameters = free_parameters(
             alloc,
@@ -106,7 +111,8 @@ impl<'s> Method<'s> {
     /// The numbers of those of its parameters that are arguments neither of its task nor of a
     /// subtask, ascending.
     pub fn free_parameters(&self) -> &[usize]
-        ensures { let m = method_view self.now in result.now ≡ alike.free_parameters (length m.parameters) (terms_of m.task) m.network.subtasks }
+        ensures { let m = method_view self.now in result.now
+            ≡ alike.free_parameters (length m.parameters) (terms_of m.task) m.network.subtasks }
     {
         &self.free_parameters
     }

@@ -1,19 +1,18 @@
 //! Tables of names.
 
 ghost use Rattle.std.specs.Prelude.{◌≡◌, [], map, IfOk, OnOk};
-ghost use Rattle.std.specs.List.{flat_map};
 ghost use Rattle.hv_text.specs.Names.{text_of};
-ghost use Rattle.hv_syntax.specs.Views.{word_view, typed_view};
+ghost use Rattle.hv_syntax.specs.Views.{word_view, variable_view};
 ghost use Rattle.hv_world.specs.Names.{names, place_in, repeated};
 ghost use Rattle.hv_world.specs.Known.{variables, typed_words};
 ghost use Rattle.hv_world.specs.Scopes.{is_some};
 ghost use Rattle.hv_world.specs.Faults.{faults_at, least};
-ghost use Rattle.hv_world.specs.inside.Seeds.{start_of, written_names};
+ghost use Rattle.hv_world.specs.inside.Seeds.{start_of};
 ghost use Rattle.hv_world.specs.inside.Tables.{places_by, seed_of, with_place};
 
 use crate::fault::{Side, StaticFault, StaticKind, earlier, fault_if};
 use crate::seed::Seeded;
-use hv_syntax::{Placed, TypedText};
+use hv_syntax::{Placed, VariableText};
 use hv_text::{Memory, Name};
 use indexmap::IndexMap;
 use std::alloc::Global;
@@ -36,7 +35,8 @@ impl<'s> Names<'s> {
 
     /// The first places of the names of words.
     pub(crate) fn of(alloc: Global, words: &[Placed<'s>]) -> Result<Names<'s>, Memory>
-        ensures places { IfOk result (λ t. places_by t ≡ place_in (names (map word_view words.now))) }
+        ensures places { IfOk result
+            (λ t. places_by t ≡ place_in (names (map word_view words.now))) }
         ensures seed { IfOk result (λ t. seed_of t ≡ start_of (names (map word_view words.now))) }
     {
         let mut names = Names {
@@ -50,15 +50,20 @@ impl<'s> Names<'s> {
     }
 
     /// The first places of the names of variables.
-    pub(crate) fn of_variables(alloc: Global, list: &[TypedText<'s>]) -> Result<Names<'s>, Memory>
-        ensures places { IfOk result (λ t. places_by t ≡ place_in (variables (map typed_view list.now))) }
-        ensures seed { IfOk result (λ t. seed_of t ≡ start_of (flat_map written_names (map typed_view list.now))) }
+    pub(crate) fn of_variables(
+        alloc: Global,
+        list: &[VariableText<'s>],
+    ) -> Result<Names<'s>, Memory>
+        ensures places { IfOk result
+            (λ t. places_by t ≡ place_in (variables (map variable_view list.now))) }
+        ensures seed { IfOk result
+            (λ t. seed_of t ≡ start_of (variables (map variable_view list.now))) }
     {
         let mut names = Names {
-            places: IndexMap::with_hasher(alloc, Seeded::new().with_typed(list)),
+            places: IndexMap::with_hasher(alloc, Seeded::new().with_variables(list)),
         };
         for place in 0..list.len() {
-            let declared = list[place];
+            let declared = &list[place];
             let variable = declared.name();
             names.add(variable.name(), place)?;
         }
@@ -67,7 +72,8 @@ impl<'s> Names<'s> {
 
     // Notes a place, where the name has none.
     fn add(&mut self, name: Name<'s>, place: usize) -> Result<(), Memory>
-        ensures places { OnOk result (places_by self.new ≡ with_place (places_by self.old) (text_of name.entry) place) }
+        ensures places { OnOk result
+            (places_by self.new ≡ with_place (places_by self.old) (text_of name.entry) place) }
         ensures seed { seed_of self.new ≡ seed_of self.old }
     {
         if !self.places.contains_key(&name) {
@@ -115,11 +121,11 @@ pub(crate) fn repeated_word<'s>(
 }
 
 /// Where a name stands first among variables.
-pub(crate) fn place_among<'s>(list: &[TypedText<'s>], name: Name<'s>) -> Option<usize>
-    ensures { result ≡ place_in (variables (map typed_view list.now)) (text_of name.entry) }
+pub(crate) fn place_among<'s>(list: &[VariableText<'s>], name: Name<'s>) -> Option<usize>
+    ensures { result ≡ place_in (variables (map variable_view list.now)) (text_of name.entry) }
 {
     for place in 0..list.len() {
-        let variable = list[place];
+        let variable = &list[place];
         let word = variable.name();
         if name == word.name() {
             return Some(place);
@@ -130,15 +136,16 @@ pub(crate) fn place_among<'s>(list: &[TypedText<'s>], name: Name<'s>) -> Option<
 
 /// The first of a quantifier's variables that has one of its name before it; there are few of them.
 pub(crate) fn repeated_variable<'s>(
-    variables: &[TypedText<'s>],
+    variables: &[VariableText<'s>],
     kind: StaticKind,
     side: Side,
 ) -> Option<StaticFault>
-    ensures { result ≡ least (faults_at kind side (repeated (typed_words (map typed_view variables.now)))) }
+    ensures { result
+        ≡ least (faults_at kind side (repeated (typed_words (map variable_view variables.now)))) }
 {
     let mut found = None;
     for place in 0..variables.len() {
-        let variable = variables[place];
+        let variable = &variables[place];
         let word = variable.name();
         let is_first = place_among(variables, word.name()) == Some(place);
         let fault = fault_if(!is_first, kind, side, word);
@@ -150,16 +157,17 @@ pub(crate) fn repeated_variable<'s>(
 /// The first of a list of parameters that has one of its name before it.
 pub(crate) fn repeated_parameter<'s>(
     table: &Names<'s>,
-    list: &[TypedText<'s>],
+    list: &[VariableText<'s>],
     kind: StaticKind,
     side: Side,
 ) -> Option<StaticFault>
-    requires { places_by table.now ≡ place_in (variables (map typed_view list.now)) }
-    ensures { result ≡ least (faults_at kind side (repeated (typed_words (map typed_view list.now)))) }
+    requires { places_by table.now ≡ place_in (variables (map variable_view list.now)) }
+    ensures { result
+        ≡ least (faults_at kind side (repeated (typed_words (map variable_view list.now)))) }
 {
     let mut found = None;
     for place in 0..list.len() {
-        let variable = list[place];
+        let variable = &list[place];
         let word = variable.name();
         let is_first = table.place(word.name()) == Some(place);
         let fault = fault_if(!is_first, kind, side, word);

@@ -31,7 +31,10 @@ impl Network {
         order: Order,
         constraints: Vec<Constraint>,
     ) -> Result<Network, Memory>
-        ensures { IfOk result (λ n. network_view n ≡ network (map subtask_view subtasks.items) order (map constraint_view constraints.items)) }
+        ensures { IfOk result
+            (λ n. network_view n
+            ≡ network (map subtask_view subtasks.items) order
+            (map constraint_view constraints.items)) }
     {
         let class_sizes = class_sizes(alloc, &subtasks)?;
         Ok(Network {

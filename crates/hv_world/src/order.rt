@@ -47,7 +47,9 @@ ghost use Rattle.hv_world.specs.inside.OrderWalks.{list_at, lists_of};
 
 /// Whether each pair goes on to a subtask written later.
 fn all_go_on(pairs: &[(usize, usize)]) -> bool
-    ensures { MatchBool result (All (λ p. p.0 < p.1) pairs.now) ((k : ℕ) × (k < length pairs.now) × ((slice_index_or pairs.now k (0, 0)).1 ≤ (slice_index_or pairs.now k (0, 0)).0)) }
+    ensures { MatchBool result (All (λ p. p.0 < p.1) pairs.now)
+        ((k : ℕ) × (k < length pairs.now)
+        × ((slice_index_or pairs.now k (0, 0)).1 ≤ (slice_index_or pairs.now k (0, 0)).0)) }
 {
     for (earlier, later) in pairs {
         if later <= earlier {
@@ -86,7 +88,9 @@ fn as_written(
     pairs: Vec<(usize, usize)>,
 ) -> Result<Option<Order>, AllocError>
     requires { All (λ p. (p.0 < len) × (p.1 < len)) pairs.items }
-    ensures { IfOk result (λ o. MatchOption o (IsCyclic (written len true pairs.items)) (λ o. o ≡ written len true pairs.items)) }
+    ensures { IfOk result
+        (λ o. MatchOption o (IsCyclic (written len true pairs.items))
+        (λ o. o ≡ written len true pairs.items)) }
 {
     if !all_go_on(&pairs) {
         return Ok(None);
@@ -107,7 +111,9 @@ fn by_pairs(
     pairs: Vec<(usize, usize)>,
 ) -> Result<Option<Order>, AllocError>
     requires { All (λ p. (p.0 < len) × (p.1 < len)) pairs.items }
-    ensures { IfOk result (λ o. MatchOption o (IsCyclic (written len false pairs.items)) (λ o. o ≡ written len false pairs.items)) }
+    ensures { IfOk result
+        (λ o. MatchOption o (IsCyclic (written len false pairs.items))
+        (λ o. o ≡ written len false pairs.items)) }
 {
     let direct = earlier_lists(alloc, len, &pairs)?;
     let Some(arrangement) = row_of(alloc, &direct)? else {
@@ -131,7 +137,10 @@ impl Order {
         pairs: Vec<(usize, usize)>,
     ) -> Result<Option<Order>, Memory>
         requires { All (λ p. (p.0 < len) × (p.1 < len)) pairs.items }
-        ensures { IfOk result (λ o. MatchOption o (IsCyclic (written len is_ordered pairs.items)) (λ o. (o ≡ written len is_ordered pairs.items) × (IsCyclic (written len is_ordered pairs.items) → ⊥))) }
+        ensures { IfOk result
+            (λ o. MatchOption o (IsCyclic (written len is_ordered pairs.items))
+            (λ o. (o ≡ written len is_ordered pairs.items)
+            × (IsCyclic (written len is_ordered pairs.items) → ⊥))) }
     {
         let order = if is_ordered {
             as_written(alloc, len, pairs)?

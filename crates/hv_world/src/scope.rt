@@ -7,14 +7,15 @@ ghost use Rattle.hv_world.specs.Names.{number_or};
 ghost use Rattle.hv_world.specs.inside.Tables.{scope_view};
 
 use crate::names::{Names, place_among};
-use hv_syntax::TypedText;
+use hv_syntax::VariableText;
 use hv_text::{Memory, Name};
 
-/// The parameters of a section and how many they are, or the variables of a quantifier inside a scope.
+/// The parameters of a section and how many they are, or the variables of a quantifier or an effect inside
+/// it.
 #[derive(Clone, Copy)]
 pub(crate) enum Scope<'a, 's> {
     Parameters(&'a Names<'s>, usize),
-    Inside(&'a Scope<'a, 's>, &'a [TypedText<'s>]),
+    Inside(&'a Scope<'a, 's>, &'a [VariableText<'s>]),
 }
 
 impl<'a, 's> Scope<'a, 's> {
@@ -22,7 +23,7 @@ impl<'a, 's> Scope<'a, 's> {
     pub(crate) fn binds(&self, name: Name<'s>) -> bool
         ensures { result ≡ is_bound (scope_view self.now) (text_of name.entry) }
     {
-        match self {
+        match *self {
             Scope::Parameters(names, _) => names.place(name).is_some(),
             Scope::Inside(outer, variables) => {
                 place_among(variables, name).is_some() || outer.binds(name)
@@ -47,7 +48,9 @@ impl<'a, 's> Scope<'a, 's> {
     ///
     /// `Memory` where no number can say how many variables are in scope: they fill all memory.
     pub(crate) fn variable(&self, name: Name<'s>) -> Result<usize, Memory>
-        ensures { IfOk result (λ v. v ≡ number_or (size (scope_view self.now)) (variable_in (scope_view self.now) (text_of name.entry))) }
+        ensures { IfOk result
+            (λ v. v ≡ number_or (size (scope_view self.now))
+            (variable_in (scope_view self.now) (text_of name.entry))) }
     {
         match self.place(name)? {
             Some(number) => Ok(number),
@@ -59,7 +62,7 @@ impl<'a, 's> Scope<'a, 's> {
     fn place(&self, name: Name<'s>) -> Result<Option<usize>, Memory>
         ensures { IfOk result (λ o. o ≡ variable_in (scope_view self.now) (text_of name.entry)) }
     {
-        match self {
+        match *self {
             Scope::Parameters(names, _) => Ok(names.place(name)),
             Scope::Inside(outer, variables) => match place_among(variables, name) {
                 Some(place) => outer.past(place),

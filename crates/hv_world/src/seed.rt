@@ -4,11 +4,13 @@ ghost use Rattle.std.specs.Prelude.{◌≡◌, map, fold};
 ghost use Rattle.std.specs.List.{flat_map};
 ghost use Rattle.std.specs.Hash.DefaultHasher as sip;
 ghost use Rattle.hv_text.specs.Names.{text_of};
-ghost use Rattle.hv_syntax.specs.Views.{word_view, typed_view};
+ghost use Rattle.hv_syntax.specs.Views.{word_view, typed_view, variable_view};
 ghost use Rattle.hv_world.specs.Names.{names};
+ghost use Rattle.hv_world.specs.Known.{variables};
 ghost use Rattle.hv_world.specs.inside.Seeds.{name_writes, with_taken_in, written_names};
+ghost use Rattle.hv_world.specs.inside.Tables.{names_in};
 
-use hv_syntax::{Placed, TypeText, TypedText};
+use hv_syntax::{Placed, TypeText, TypedText, VariableText};
 use hv_text::Name;
 use std::hash::{BuildHasher, DefaultHasher, Hash, Hasher};
 
@@ -42,7 +44,8 @@ impl Seeded {
 
     /// The start with the names of a typed list and their types taken in.
     pub(crate) fn with_typed(self, list: &[TypedText<'_>]) -> Seeded
-        ensures { result.start ≡ with_taken_in self.start (flat_map written_names (map typed_view list.now)) }
+        ensures { result.start
+            ≡ with_taken_in self.start (flat_map written_names (map typed_view list.now)) }
     {
         let mut seed = self;
         for typed in list {
@@ -54,9 +57,43 @@ impl Seeded {
         seed
     }
 
+    /// The start with the names of variables taken in.
+    pub(crate) fn with_variables(self, list: &[VariableText<'_>]) -> Seeded
+        ensures { result.start ≡ with_taken_in self.start (variables (map variable_view list.now)) }
+    {
+        let mut seed = self;
+        for variable in list {
+            seed.take_in(variable.name().name());
+        }
+        seed
+    }
+
+    /// The start with the names of lists taken in.
+    pub(crate) fn with_lists(self, lists: &[Vec<Name<'_>>]) -> Seeded
+        ensures { result.start ≡ with_taken_in self.start (flat_map names_in lists.now) }
+    {
+        let mut seed = self;
+        for list in lists {
+            seed = seed.with_names(list);
+        }
+        seed
+    }
+
+    // The start with names taken in.
+    fn with_names(self, names: &[Name<'_>]) -> Seeded
+        ensures { result.start ≡ with_taken_in self.start (map text_of names.now) }
+    {
+        let mut seed = self;
+        for name in names {
+            seed.take_in(*name);
+        }
+        seed
+    }
+
     // No word holds a space: it ends each name.
     fn take_in(&mut self, name: Name<'_>)
-        ensures { self.new.start ≡ fold sip.write self.old.start (name_writes (text_of name.entry)) }
+        ensures { self.new.start
+            ≡ fold sip.write self.old.start (name_writes (text_of name.entry)) }
     {
         name.hash(&mut self.start);
         self.start.write_u8(b' ');

@@ -1,14 +1,17 @@
 //! What a domain and a problem declare.
 
-ghost use Rattle.std.specs.Prelude.{◌≡◌, length, map, option_map, IfOk};
+ghost use Rattle.std.specs.Prelude.{◌≡◌, ◌+◌, length, map, option_map, IfOk};
 ghost use Rattle.hv_text.specs.Names.{text_of};
 ghost use Rattle.hv_syntax.specs.DeclarationViews.{predicate_view};
 ghost use Rattle.hv_syntax.specs.DomainViews.{domain_view};
 ghost use Rattle.hv_syntax.specs.ProblemViews.{problem_view};
 ghost use Rattle.hv_world.specs.Names.{names, place_in, is_among, number_in};
-ghost use Rattle.hv_world.specs.Known.{known_in, predicate_words, declared_words, declarations};
-ghost use Rattle.hv_world.specs.inside.Tables.{known_by, places_by, signature_view, declaration_view};
+ghost use Rattle.hv_world.specs.Eithers.{either_types, either_place};
+ghost use Rattle.hv_world.specs.Known.{type_names, known_in, predicate_words, declared_words, declarations};
+ghost use Rattle.hv_world.specs.inside.Tables.{known_by, names_in, places_by, signature_view, declaration_view};
 
+mod eithers;
+pub(crate) mod gather;
 pub(crate) mod sections;
 mod sight;
 pub(crate) mod words;
@@ -16,6 +19,7 @@ pub(crate) mod words;
 use crate::id::{PredicateId, TaskName};
 use crate::names::Names;
 use crate::seed::Seeded;
+use crate::tables::eithers::either_types;
 use crate::tables::sections::declarations;
 use crate::tables::sight::{object_names, type_names};
 use crate::tables::words::{arities, declared_words, predicate_words};
@@ -41,6 +45,13 @@ pub(crate) struct Declared<'s> {
     pub start: u32,
 }
 
+/// The types: those with a name, and behind them those that several names make.
+#[derive(Drop)]
+pub(crate) struct TypeTable<'s> {
+    pub names: IndexSet<Name<'s>, Seeded>,
+    pub eithers: IndexSet<Vec<Name<'s>>, Seeded>,
+}
+
 /// The predicates: where the name of each stands first, and how many terms each takes.
 #[derive(Drop)]
 pub(crate) struct PredicateTable<'s> {
@@ -58,10 +69,27 @@ pub(crate) struct TaskTable<'s> {
 /// What names are declared; of several declarations of a name the first counts.
 #[derive(Drop)]
 pub(crate) struct Tables<'s> {
-    pub types: IndexSet<Name<'s>, Seeded>,
+    pub types: TypeTable<'s>,
     pub objects: IndexSet<Name<'s>, Seeded>,
     pub predicates: PredicateTable<'s>,
     pub tasks: TaskTable<'s>,
+}
+
+// The table of types.
+fn type_table<'s>(
+    alloc: Global,
+    domain: &DomainText<'s>,
+    problem: &ProblemText<'s>,
+) -> Result<TypeTable<'s>, Memory>
+    ensures names { IfOk result
+        (λ t. map text_of t.names.keys ≡ type_names (domain_view domain.now)) }
+    ensures eithers { IfOk result
+        (λ t. map names_in t.eithers.keys
+        ≡ either_types (domain_view domain.now) (problem_view problem.now)) }
+{
+    let names = type_names(alloc, domain.types())?;
+    let eithers = either_types(alloc, domain, problem)?;
+    Ok(TypeTable { names, eithers })
 }
 
 // The table of predicates.
@@ -69,8 +97,12 @@ fn predicate_table<'s>(
     alloc: Global,
     predicates: &[PredicateText<'s>],
 ) -> Result<PredicateTable<'s>, Memory>
-    ensures places { IfOk result (λ t. places_by t.places ≡ place_in (names (predicate_words (map predicate_view predicates.now)))) }
-    ensures arities { IfOk result (λ t. t.arities.items ≡ map (λ q. length q.parameters) (map predicate_view predicates.now)) }
+    ensures places { IfOk result
+        (λ t. places_by t.places
+        ≡ place_in (names (predicate_words (map predicate_view predicates.now)))) }
+    ensures arities { IfOk result
+        (λ t. t.arities.items
+        ≡ map (λ q. length q.parameters) (map predicate_view predicates.now)) }
 {
     let words = predicate_words(alloc, predicates)?;
     let places = Names::of(alloc, &words)?;
@@ -80,8 +112,11 @@ fn predicate_table<'s>(
 
 // The table of tasks and actions.
 fn task_table<'s>(alloc: Global, domain: &DomainText<'s>) -> Result<TaskTable<'s>, Memory>
-    ensures places { IfOk result (λ t. places_by t.places ≡ place_in (names (declared_words (declarations (domain_view domain.now))))) }
-    ensures list { IfOk result (λ t. map declaration_view t.list.items ≡ declarations (domain_view domain.now)) }
+    ensures places { IfOk result
+        (λ t. places_by t.places
+        ≡ place_in (names (declared_words (declarations (domain_view domain.now))))) }
+    ensures list { IfOk result
+        (λ t. map declaration_view t.list.items ≡ declarations (domain_view domain.now)) }
 {
     let list = declarations(alloc, domain)?;
     let words = declared_words(alloc, &list)?;
@@ -100,9 +135,10 @@ impl<'s> Tables<'s> {
         domain: &DomainText<'s>,
         problem: &ProblemText<'s>,
     ) -> Result<Tables<'s>, Memory>
-        ensures { IfOk result (λ t. known_by t ≡ known_in (domain_view domain.now) (problem_view problem.now)) }
+        ensures { IfOk result
+            (λ t. known_by t ≡ known_in (domain_view domain.now) (problem_view problem.now)) }
     {
-        let types = type_names(alloc, domain.types())?;
+        let types = type_table(alloc, domain, problem)?;
         let objects = object_names(alloc, domain.constants(), problem.objects())?;
         let predicates = predicate_table(alloc, domain.predicates())?;
         let tasks = task_table(alloc, domain)?;
@@ -118,16 +154,50 @@ impl<'s> Tables<'s> {
     pub(crate) fn is_type(&self, name: Name<'s>) -> bool
         ensures { result ≡ is_among (known_by self.now).types (text_of name.entry) }
     {
-        self.types.contains(&name)
+        self.types.names.contains(&name)
     }
 
-    /// The number of a type; of one that is not declared, the number behind the last.
+    /// The number of a type with a name; of one that is not declared, the number behind the last
+    /// of them.
     pub(crate) fn type_number(&self, name: Name<'s>) -> usize
         ensures { result ≡ number_in (known_by self.now).types (text_of name.entry) }
     {
-        match self.types.get_index_of(&name) {
+        match self.types.names.get_index_of(&name) {
             Some(number) => number,
-            None => self.types.len(),
+            None => self.types.names.len(),
+        }
+    }
+
+    /// The place of the type that these names make; none where they make no type of their own.
+    pub(crate) fn either_place(&self, list: &Vec<Name<'s>>) -> Option<usize>
+        ensures { result ≡ either_place (known_by self.now).eithers (names_in list.now) }
+    {
+        self.types.eithers.get_index_of(list)
+    }
+
+    /// How many types there are.
+    ///
+    /// # Errors
+    ///
+    /// `Memory` where no number can say it: their names fill all memory.
+    pub(crate) fn type_count(&self) -> Result<usize, Memory>
+        ensures { IfOk result
+            (λ n. n ≡ length (known_by self.now).types + length (known_by self.now).eithers) }
+    {
+        self.number_past(self.types.eithers.len())
+    }
+
+    /// The number so far past the types with a name.
+    ///
+    /// # Errors
+    ///
+    /// `Memory` where it is no `usize`: the names of types fill all memory.
+    pub(crate) fn number_past(&self, place: usize) -> Result<usize, Memory>
+        ensures { IfOk result (λ n. n ≡ length (known_by self.now).types + place) }
+    {
+        match self.types.names.len().checked_add(place) {
+            Some(number) => Ok(number),
+            None => Err(Memory),
         }
     }
 
@@ -150,7 +220,8 @@ impl<'s> Tables<'s> {
 
     /// A predicate, as it is declared first.
     pub(crate) fn predicate(&self, name: Name<'s>) -> Option<Signature>
-        ensures { option_map signature_view result ≡ (known_by self.now).predicate (text_of name.entry) }
+        ensures { option_map signature_view result
+            ≡ (known_by self.now).predicate (text_of name.entry) }
     {
         let place = self.predicates.places.place(name)?;
         let arity = self.predicates.arities.get(place)?;
@@ -162,7 +233,8 @@ impl<'s> Tables<'s> {
 
     /// A task or an action, as it is declared first.
     pub(crate) fn task(&self, name: Name<'s>) -> Option<Declared<'s>>
-        ensures { option_map declaration_view result ≡ (known_by self.now).task (text_of name.entry) }
+        ensures { option_map declaration_view result
+            ≡ (known_by self.now).task (text_of name.entry) }
     {
         let place = self.tasks.places.place(name)?;
         let declared = self.tasks.list.get(place)?;

@@ -27,7 +27,9 @@ impl Model for Types {
 
     ghost view = { λ w. typing w.types w.objects w.parents.items w.declared.items };
 
-    ghost invariant = { λ w. AreMembersBelow w.objects (typing w.types w.objects w.parents.items w.declared.items) (object_lists w.members.items) };
+    ghost invariant = { λ w. AreMembersBelow w.objects
+        (typing w.types w.objects w.parents.items w.declared.items)
+        (object_lists w.members.items) };
 }
 
 impl Types {
@@ -105,7 +107,8 @@ fn parents_by_type(
 ) -> Result<Vec<Vec<TypeId>>, Memory>
     requires { All (λ p. p.0.0 < types) pairs.now }
     ensures size { IfOk result (λ lists. length lists.items ≡ types) }
-    ensures lists { IfOk result (λ lists. AreSeconds (map (λ p. (p.0.0, p.1.0)) pairs.now) (type_lists lists.items)) }
+    ensures lists { IfOk result
+        (λ lists. AreSeconds (map (λ p. (p.0.0, p.1.0)) pairs.now) (type_lists lists.items)) }
 {
     let mut lists = no_lists(alloc, types)?;
     for (child, parent) in pairs {
@@ -122,7 +125,8 @@ fn types_by_object(
 ) -> Result<Vec<Vec<TypeId>>, Memory>
     requires { All (λ p. p.0.0 < objects) pairs.now }
     ensures size { IfOk result (λ lists. length lists.items ≡ objects) }
-    ensures lists { IfOk result (λ lists. AreSeconds (map (λ p. (p.0.0, p.1.0)) pairs.now) (type_lists lists.items)) }
+    ensures lists { IfOk result
+        (λ lists. AreSeconds (map (λ p. (p.0.0, p.1.0)) pairs.now) (type_lists lists.items)) }
 {
     let mut lists = no_lists(alloc, objects)?;
     for (object, of) in pairs {
@@ -145,7 +149,8 @@ fn is_at_end(objects: &[ObjectId], object: ObjectId) -> bool
 // Puts an object at the end of an ascending list, unless it stands there. Says whether it put it.
 fn put(list: &mut Vec<ObjectId>, object: ObjectId) -> Result<bool, Memory>
     requires { AscendsBelow (object.0 + 1) (object_numbers list.old.items) }
-    ensures { IfOk result (λ b. IsPut object.0 (object_numbers list.old.items) b (object_numbers list.new.items)) }
+    ensures { IfOk result
+        (λ b. IsPut object.0 (object_numbers list.old.items) b (object_numbers list.new.items)) }
 {
     if is_at_end(list, object) {
         return Ok(false);
@@ -162,11 +167,15 @@ fn put_above(
     members: &mut [Vec<ObjectId>],
 ) -> Result<(), Memory>
     requires size { length parents.now ≡ length members.old }
-    requires waiting { (t : ℕ) → Contains (type_numbers waiting.old.items) t → t < length parents.now }
-    requires parents { (a b : ℕ) → Contains (list_of (type_lists parents.now) a) b → b < length parents.now }
+    requires waiting { (t : ℕ) → Contains (type_numbers waiting.old.items) t
+        → t < length parents.now }
+    requires parents { (a b : ℕ) → Contains (list_of (type_lists parents.now) a) b
+        → b < length parents.now }
     requires members { (t : ℕ) → AscendsBelow object.0 (list_of (object_lists members.old) t) }
     ensures waiting { OnOk result (waiting.new.items ≡ []) }
-    ensures members { OnOk result (IsPutAbove (type_lists parents.now) (type_numbers waiting.old.items) object.0 (object_lists members.old) (object_lists members.new)) }
+    ensures members { OnOk result
+        (IsPutAbove (type_lists parents.now) (type_numbers waiting.old.items) object.0
+        (object_lists members.old) (object_lists members.new)) }
 {
     'climb: while let Some(at) = waiting.pop() {
         if put(&mut members[at.0], object)? {
@@ -187,7 +196,9 @@ fn members(
     requires object { 0 < types }
     requires parents { All (λ p. (p.0.0 < types) × (p.1.0 < types)) parents.now }
     requires declared { All (λ p. (p.0.0 < objects) × (p.1.0 < types)) declared.now }
-    ensures { IfOk result (λ lists. AreMembersBelow objects (typing types objects parents.now declared.now) (object_lists lists.items)) }
+    ensures { IfOk result
+        (λ lists. AreMembersBelow objects (typing types objects parents.now declared.now)
+        (object_lists lists.items)) }
 {
     let above = parents_by_type(alloc, types, parents)?;
     let direct = types_by_object(alloc, objects, declared)?;

@@ -42,11 +42,19 @@ pub struct World<'s> {
     pub(crate) task_names: Names<'s>,
     pub(crate) action_names: Names<'s>,
     pub(crate) method_names: Names<'s>,
-    pub ghost sound: { IsSound (world_from types.keys objects.keys typing predicates.items tasks.items methods.items actions.items init.items goal top) },
-    pub ghost of_predicates: { (n : List ℕ) → places_by predicate_names n ≡ place_in (map text_of predicates.items) n },
-    pub ghost of_tasks: { (n : List ℕ) → places_by task_names n ≡ place_in (worlds.task_names (map task_view tasks.items)) n },
-    pub ghost of_actions: { (n : List ℕ) → places_by action_names n ≡ place_in (worlds.action_names (map action_view actions.items)) n },
-    pub ghost of_methods: { (n : List ℕ) → places_by method_names n ≡ place_in (worlds.method_names (map method_view methods.items)) n },
+    pub ghost sound: { IsSound
+        (world_from types.keys objects.keys typing predicates.items tasks.items methods.items
+        actions.items init.items goal top) },
+    pub ghost of_predicates: { (n : List ℕ)
+        → places_by predicate_names n ≡ place_in (map text_of predicates.items) n },
+    pub ghost of_tasks: { (n : List ℕ)
+        → places_by task_names n ≡ place_in (worlds.task_names (map task_view tasks.items)) n },
+    pub ghost of_actions: { (n : List ℕ)
+        → places_by action_names n
+        ≡ place_in (worlds.action_names (map action_view actions.items)) n },
+    pub ghost of_methods: { (n : List ℕ)
+        → places_by method_names n
+        ≡ place_in (worlds.method_names (map method_view methods.items)) n },
 }
 
 impl<'s> World<'s> {
@@ -66,7 +74,8 @@ impl<'s> World<'s> {
 
     /// The objects of a type, each once, ascending. None for a number that no type has.
     pub fn objects_of(&self, of: TypeId) -> &[ObjectId]
-        ensures exact { (o : ℕ) → Contains (object_numbers result.now) o ↔ Of (world_view self.now).typing o of.0 }
+        ensures exact { (o : ℕ)
+            → Contains (object_numbers result.now) o ↔ Of (world_view self.now).typing o of.0 }
         ensures ascending { IsStrictlyIncreasing (object_numbers result.now) }
         ensures once { Once (object_numbers result.now) }
     {
@@ -96,28 +105,33 @@ impl<'s> World<'s> {
 
     /// The task of a number, where there is one.
     pub fn task(&self, task: TaskId) -> Option<&Task<'s>>
-        ensures { option_map (λ t. task_view t.now) result ≡ slice_get (world_view self.now).tasks task.0 }
+        ensures { option_map (λ t. task_view t.now) result
+            ≡ slice_get (world_view self.now).tasks task.0 }
     {
         self.tasks.get(task.0)
     }
 
     /// The method of a number, where there is one.
     pub fn method(&self, method: MethodId) -> Option<&Method<'s>>
-        ensures { option_map (λ m. method_view m.now) result ≡ slice_get (world_view self.now).methods method.0 }
+        ensures { option_map (λ m. method_view m.now) result
+            ≡ slice_get (world_view self.now).methods method.0 }
     {
         self.methods.get(method.0)
     }
 
     /// The action of a number, where there is one.
     pub fn action(&self, action: ActionId) -> Option<&Action<'s>>
-        ensures { option_map (λ a. action_view a.now) result ≡ slice_get (world_view self.now).actions action.0 }
+        ensures { option_map (λ a. action_view a.now) result
+            ≡ slice_get (world_view self.now).actions action.0 }
     {
         self.actions.get(action.0)
     }
 
     /// Whether these are as many objects as types, and each is of its type.
     pub fn are_of(&self, objects: &[ObjectId], types: &[TypeId]) -> bool
-        ensures { IsTrue result ↔ AreOf (world_view self.now).typing (map object_number objects.now) (map type_number types.now) }
+        ensures { IsTrue result
+            ↔ AreOf (world_view self.now).typing (map object_number objects.now)
+            (map type_number types.now) }
     {
         let mut left = types;
         for object in objects {
@@ -138,7 +152,11 @@ impl<'s> World<'s> {
     /// of the number, the objects are not as many as its parameters, or one is not of the type of
     /// its parameter.
     pub fn ground<'a>(&self, action: ActionId, objects: &'a [ObjectId]) -> Option<GroundAction<'a>>
-        ensures { MatchOption result (IsGrounding (world_view self.now) (ground_action action.0 (map object_number objects.now)) → ⊥) (λ g. (ground_action_view g ≡ ground_action action.0 (map object_number objects.now)) × IsGrounding (world_view self.now) (ground_action_view g)) }
+        ensures { MatchOption result
+            (IsGrounding (world_view self.now)
+            (ground_action action.0 (map object_number objects.now)) → ⊥)
+            (λ g. (ground_action_view g ≡ ground_action action.0 (map object_number objects.now))
+            × IsGrounding (world_view self.now) (ground_action_view g)) }
     {
         let declared = self.action(action)?;
         if self.are_of(objects, declared.parameters()) {
@@ -185,14 +203,16 @@ impl<'s> World<'s> {
 
     /// The name of a predicate, where one has the number.
     pub fn predicate_name(&self, predicate: PredicateId) -> Option<Name<'s>>
-        ensures { option_map text_of result ≡ slice_get (world_view self.now).predicates predicate.0 }
+        ensures { option_map text_of result
+            ≡ slice_get (world_view self.now).predicates predicate.0 }
     {
         Some(*self.predicates.get(predicate.0)?)
     }
 
     /// The type of a name.
     pub fn type_named(&self, name: Name<'s>) -> Option<TypeId>
-        ensures { option_map (λ t. t.0) result ≡ place_in (world_view self.now).types (text_of name.entry) }
+        ensures { option_map (λ t. t.0) result
+            ≡ place_in (world_view self.now).types (text_of name.entry) }
     {
         match self.types.get_index_of(&name) {
             Some(place) => Some(TypeId(place)),
@@ -202,7 +222,8 @@ impl<'s> World<'s> {
 
     /// The constant or object of a name.
     pub fn object_named(&self, name: Name<'s>) -> Option<ObjectId>
-        ensures { option_map (λ o. o.0) result ≡ place_in (world_view self.now).objects (text_of name.entry) }
+        ensures { option_map (λ o. o.0) result
+            ≡ place_in (world_view self.now).objects (text_of name.entry) }
     {
         match self.objects.get_index_of(&name) {
             Some(place) => Some(ObjectId(place)),
@@ -212,7 +233,8 @@ impl<'s> World<'s> {
 
     /// The predicate of a name.
     pub fn predicate_named(&self, name: Name<'s>) -> Option<PredicateId>
-        ensures { option_map (λ p. p.0) result ≡ place_in (world_view self.now).predicates (text_of name.entry) }
+        ensures { option_map (λ p. p.0) result
+            ≡ place_in (world_view self.now).predicates (text_of name.entry) }
     {
         match self.predicate_names.place(name) {
             Some(place) => Some(PredicateId(place)),
@@ -222,7 +244,8 @@ impl<'s> World<'s> {
 
     /// The task or the action of a name.
     pub fn task_named(&self, name: Name<'s>) -> Option<TaskName>
-        ensures { option_map name_view result ≡ task_named (world_view self.now) (text_of name.entry) }
+        ensures { option_map name_view result
+            ≡ task_named (world_view self.now) (text_of name.entry) }
     {
         match self.task_names.place(name) {
             Some(place) => Some(TaskName::Compound(TaskId(place))),
@@ -235,7 +258,8 @@ impl<'s> World<'s> {
 
     /// The method of a name.
     pub fn method_named(&self, name: Name<'s>) -> Option<MethodId>
-        ensures { option_map (λ m. m.0) result ≡ method_named (world_view self.now) (text_of name.entry) }
+        ensures { option_map (λ m. m.0) result
+            ≡ method_named (world_view self.now) (text_of name.entry) }
     {
         match self.method_names.place(name) {
             Some(place) => Some(MethodId(place)),

@@ -1,7 +1,7 @@
 -- The changes of atoms as the code keeps them, and the next of them.
 use Rattle.std.specs.Prelude.{◌≡◌, ℕ, ◌<◌, ◌≤◌, ◌⊎◌, List, [], ◌∷◌, map, bytes_eq, AllPairs, All, if◌then◌else◌}
 use Rattle.std.specs.List.{Contains}
-use Rattle.hv_state.specs.Atoms.{GroundAtom}
+use Rattle.hv_world.specs.Bindings.{GroundAtom}
 use Rattle.hv_state.specs.Changes.{Change}
 use Rattle.hv_state.specs.inside.Bits.{Has}
 use Rattle.hv_state.specs.inside.Rows.{row_of, atom_of, Ascend}

@@ -1,16 +1,18 @@
--- Truth, and what is spoken of, for what a formula of the code has for parts.
-use Rattle.std.specs.Prelude.{List, map}
-use Rattle.hv_world.specs.Bindings.{objects_in}
-use Rattle.hv_world.specs.Values.{formulas_of}
-use Rattle.hv_world.specs.Views.{formula_view, type_number}
+-- Truth, and what is spoken of, for what a formula of the code has for parts, and what is made so for what an effect has.
+use Rattle.std.specs.Prelude.{Bool, List, map}
+use Rattle.hv_world.specs.Bindings.{GroundAtom, objects_in}
+use Rattle.hv_world.specs.Values.{formulas_of, effects_of}
+use Rattle.hv_world.specs.Views.{formula_view, effect_view, type_number}
 use Rattle.hv_world.specs.WorldViews.{world_view}
 use Rattle.hv_world.specs.declared.binding.Binding.{Binding}
+use Rattle.hv_world.specs.declared.effect.Effect.{Effect}
 use Rattle.hv_world.specs.declared.formula.Formula.{Formula}
 use Rattle.hv_world.specs.declared.id.TypeId.{TypeId}
 use Rattle.hv_world.specs.declared.world.World.{World}
-use Rattle.hv_state.specs.Atoms.{GroundAtom, Atoms}
+use Rattle.hv_state.specs.Atoms.{Atoms}
 use Rattle.hv_state.specs.Truth.{True, AllTrue, SomeTrue, ForEach, ForSome}
 use Rattle.hv_state.specs.Changes.{Mentions, SomeMention}
+use Rattle.hv_state.specs.inside.Makings.{IsMadeBy, IsMadeBySome}
 
 -- all of the formulas are true, or some of them
 abbrev pub AreAllTrueIn : World → Atoms → List Formula → Binding → Type 0
@@ -35,3 +37,13 @@ SpokenOfBySome w fs b g = SomeMention (world_view w).typing g (formulas_of (map 
 
 abbrev pub SpokenOfForSome : World → Formula → List TypeId → Binding → GroundAtom → Type 0
 SpokenOfForSome w f ts b g = ForSome (world_view w).typing (Mentions (world_view w).typing g (formula_view f)) (map type_number ts) (objects_in b)
+
+-- the atoms that an effect of the code makes true, or false, or some of several effects, or they where the next variables have objects of these types
+abbrev pub MadeBy : World → Bool → Effect → Binding → Atoms
+MadeBy w is_true e b g = IsMadeBy (world_view w).typing is_true g (effect_view e) (objects_in b)
+
+abbrev pub MadeBySome : World → Bool → List Effect → Binding → Atoms
+MadeBySome w is_true es b g = IsMadeBySome (world_view w).typing is_true g (effects_of (map effect_view es)) (objects_in b)
+
+abbrev pub MadeForSome : World → Bool → List Effect → List TypeId → Binding → Atoms
+MadeForSome w is_true es ts b g = ForSome (world_view w).typing (IsMadeBySome (world_view w).typing is_true g (effects_of (map effect_view es))) (map type_number ts) (objects_in b)

@@ -5,14 +5,14 @@ use Rattle.std.specs.Ordering.{nat_cmp}
 use Rattle.std.specs.Cmp.Lexicographic.{slice_cmp}
 use Rattle.std.specs.declared.cmp.Ordering.TheVariants.{Less}
 use Rattle.hv_world.specs.Values.{Atom}
-use Rattle.hv_world.specs.Bindings.{objects_in, object_of}
+use Rattle.hv_world.specs.Bindings.{GroundAtom, ground_atom, objects_in, object_of}
 use Rattle.hv_world.specs.Views.{term_view, atom_view}
 use Rattle.hv_world.specs.declared.binding.Binding.{Binding}
 use Rattle.hv_world.specs.declared.formula.Atom as code_atom
 use Rattle.hv_world.specs.declared.formula.Term as code_term
 use Rattle.hv_state.specs.declared.rows.Row.{Row}
 use Rattle.hv_state.specs.declared.shared.SharedRow.{SharedRow}
-use Rattle.hv_state.specs.Atoms.{GroundAtom, ground_atom, Atoms, atoms_under}
+use Rattle.hv_state.specs.Atoms.{Atoms, atoms_under}
 
 -- an atom as a row: its predicate, and then its objects
 abbrev pub row_of : GroundAtom → List ℕ
@@ -39,6 +39,18 @@ rows_shared rs = map shared_numbers rs
 -- these rows have come behind the old ones
 abbrev pub HaveCome : List Row → List (List ℕ) → List Row → Type 0
 HaveCome old more new = rows_in new ≡ rows_in old ++ more
+
+-- the row of some atom of a set
+abbrev pub IsRowOf : Atoms → List ℕ → Type 0
+IsRowOf S r = (g : GroundAtom) × S g × (row_of g ≡ r)
+
+-- the rows of the atoms of a set have come to the old ones, in whatever order and however often
+abbrev pub HaveJoined : List Row → Atoms → List Row → Type 0
+HaveJoined old S new = (r : List ℕ) → Contains (rows_in new) r ↔ (Contains (rows_in old) r ⊎ IsRowOf S r)
+
+-- these are the rows of the atoms of a set
+abbrev pub AreRowsOf : Atoms → List Row → Type 0
+AreRowsOf S rows = (r : List ℕ) → Contains (rows_in rows) r ↔ IsRowOf S r
 
 -- the rows of the atoms of the code, and the objects of its terms, where variables have those of a binding
 abbrev pub rows_with : Binding → List code_atom.Atom → List (List ℕ)

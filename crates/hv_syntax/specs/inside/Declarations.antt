@@ -2,15 +2,14 @@
 use Rattle.std.specs.Prelude.{◌&&◌, List, [], ◌∷◌, Option, Some, None, option_map, option_and_then, if◌then◌else◌}
 use Rattle.hv_text.specs.Trees.{Tree, word, list, Trees, none, more}
 use Rattle.hv_text.specs.declared.span.Span.{Span}
-use Rattle.hv_syntax.specs.declared.word.Sort.TheVariants as sorts
 use Rattle.hv_syntax.specs.declared.field.Slot.TheVariants as slots
 use Rattle.hv_syntax.specs.inside.Words.{symbol_of}
 use Rattle.hv_syntax.specs.inside.Reading.{both, tuple}
-use Rattle.hv_syntax.specs.Values.{WordAt, Atom, Typed, Formula, and, no_formulas, Effect, effect, Predicate, predicate, Task, task, Method, method, Action, action}
+use Rattle.hv_syntax.specs.Values.{WordAt, Atom, Variable, Formula, and, no_formulas, Effect, no_items, Predicate, predicate, Task, task, Method, method, Action, action}
 use Rattle.hv_syntax.specs.inside.Terms.{atom_of}
-use Rattle.hv_syntax.specs.inside.TypedLists.{typed_list_of}
+use Rattle.hv_syntax.specs.inside.TypedLists.{typed_variables_of}
 use Rattle.hv_syntax.specs.inside.Formulas.{formula_of}
-use Rattle.hv_syntax.specs.inside.Literals.{effect_of}
+use Rattle.hv_syntax.specs.inside.Effects.{effect_of}
 use Rattle.hv_syntax.specs.Fields.{field, is_field_list}
 use Rattle.hv_syntax.specs.inside.Networks.{network_of}
 use Rattle.hv_syntax.specs.Declarations.{is_nothing, method_slots}
@@ -19,13 +18,13 @@ use Rattle.hv_syntax.specs.Declarations.{is_nothing, method_slots}
 abbrev pub predicate_of : Tree → Option Predicate
 predicate_of (word w s) = None
 predicate_of (list none s) = None
-predicate_of (list (more t ts) s) = both predicate (symbol_of t) (typed_list_of sorts.Variable ts)
+predicate_of (list (more t ts) s) = both predicate (symbol_of t) (typed_variables_of ts)
 
 -- parameters, `(typed(var))`, none where they are absent
-abbrev pub parameters_at : Option Tree → Option (List Typed)
+abbrev pub parameters_at : Option Tree → Option (List Variable)
 parameters_at None = Some []
 parameters_at (Some (word w s)) = None
-parameters_at (Some (list ts s)) = typed_list_of sorts.Variable ts
+parameters_at (Some (list ts s)) = typed_variables_of ts
 
 -- a precondition, always true where it is absent
 abbrev pub precondition_at : Option Tree → Option Formula
@@ -34,7 +33,7 @@ precondition_at (Some t) = formula_of t
 
 -- an effect, none where it is absent
 abbrev pub effect_at : Option Tree → Option Effect
-effect_at None = Some (effect [])
+effect_at None = Some no_items
 effect_at (Some t) = effect_of t
 
 -- the task of a method, which must be written

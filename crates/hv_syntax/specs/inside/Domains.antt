@@ -4,7 +4,6 @@ use Rattle.hv_text.specs.Trees.{Tree, Trees}
 use Rattle.hv_text.specs.declared.span.Span.{Span}
 use Rattle.hv_syntax.specs.declared.fault.SyntaxKind.{SyntaxKind}
 use Rattle.hv_syntax.specs.declared.fault.SyntaxKind.TheVariants as kinds
-use Rattle.hv_syntax.specs.declared.word.Sort.TheVariants as sorts
 use Rattle.hv_syntax.specs.Words.{is}
 use Rattle.hv_syntax.specs.inside.Reading.{every}
 use Rattle.hv_syntax.specs.Values.{WordAt, Domain}
@@ -18,8 +17,8 @@ use Rattle.hv_syntax.specs.Domains.{DomainSection, add_section, domain_standing,
 abbrev pub domain_section_by : List ℕ → Span → Trees → Option DomainSection
 domain_section_by w s ts =
     if is w (codes ":requirements") then option_map has_requirements (every keyword_of ts) else
-    if is w (codes ":types") then option_map has_types (typed_list_of sorts.Name ts) else
-    if is w (codes ":constants") then option_map has_constants (typed_list_of sorts.Name ts) else
+    if is w (codes ":types") then option_map has_types (typed_list_of ts) else
+    if is w (codes ":constants") then option_map has_constants (typed_list_of ts) else
     if is w (codes ":predicates") then option_map has_predicates (every predicate_of ts) else
     if is w (codes ":task") then option_map has_task (task_of s ts) else
     if is w (codes ":method") then option_map has_method (method_of s ts) else

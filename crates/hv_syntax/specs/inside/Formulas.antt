@@ -1,23 +1,22 @@
 -- How the code reads: the grammar of formulas.
 use Rattle.std.specs.Prelude.{nat_le, length, List, [], ◌∷◌, Option, Some, None, option_map, option_and_then, if◌then◌else◌}
 use Rattle.hv_text.specs.Trees.{Tree, word, list, Trees, none, more}
-use Rattle.hv_syntax.specs.declared.word.Sort.TheVariants as sorts
 use Rattle.hv_syntax.specs.declared.word.Head.{Head}
 use Rattle.hv_syntax.specs.declared.word.Head.TheVariants as heads
 use Rattle.hv_syntax.specs.Words.{head_of}
 use Rattle.hv_syntax.specs.inside.Reading.{both, every, all_some, tuple, two}
-use Rattle.hv_syntax.specs.Values.{WordAt, word_at, atom_with, Typed, Formula, holds, and, or, not, imply, forall, exists, equal, no_formulas, formulas_of}
+use Rattle.hv_syntax.specs.Values.{WordAt, word_at, atom_with, Variable, Formula, holds, and, or, not, imply, forall, exists, equal, no_formulas, formulas_of}
 use Rattle.hv_syntax.specs.inside.Terms.{term_of}
-use Rattle.hv_syntax.specs.inside.TypedLists.{typed_list_of}
+use Rattle.hv_syntax.specs.inside.TypedLists.{typed_variables_of}
 
 -- at most 16 variables
-abbrev pub few : List Typed → Option (List Typed)
+abbrev pub few : List Variable → Option (List Variable)
 few vs = if nat_le (length vs) 16 then Some vs else None
 
 -- the list of a quantifier: `(typed(var))`, at most 16 of them
-abbrev pub variables_of : Tree → Option (List Typed)
+abbrev pub variables_of : Tree → Option (List Variable)
 variables_of (word w s) = None
-variables_of (list ts s) = option_and_then few (typed_list_of sorts.Variable ts)
+variables_of (list ts s) = option_and_then few (typed_variables_of ts)
 
 -- all of these hold
 abbrev pub and_all : List Formula → Formula
@@ -37,8 +36,8 @@ abbrev pub implication : List (Option Formula) → Option Formula
 implication (p ∷ q ∷ []) = both imply p q
 implication _ = None
 
--- variables and a formula behind a quantifier
-abbrev pub quantified : Trees → List (Option Formula) → Option (List Typed × Formula)
+-- variables and a formula or an effect behind a quantifier
+abbrev pub quantified : {A : Type 0} → Trees → List (Option A) → Option (List Variable × A)
 quantified (more vs ts) (v ∷ p ∷ []) = both tuple (variables_of vs) p
 quantified _ _ = None
 

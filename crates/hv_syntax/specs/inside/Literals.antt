@@ -1,9 +1,9 @@
--- How the code reads: the grammar of literals and effects.
+-- How the code reads: the grammar of literals.
 use Rattle.std.specs.Prelude.{true, false, Option, Some, None, option_map, option_and_then, if◌then◌else◌}
 use Rattle.hv_text.specs.Trees.{Tree}
-use Rattle.hv_syntax.specs.Values.{Literal, literal, Effect, effect}
+use Rattle.hv_syntax.specs.Values.{Literal, literal}
 use Rattle.hv_syntax.specs.inside.Terms.{atom_of}
-use Rattle.hv_syntax.specs.inside.Lists.{negated, listed}
+use Rattle.hv_syntax.specs.inside.Lists.{negated}
 use Rattle.hv_syntax.specs.Literals.{are_constants}
 
 -- what stands behind `not`, or the whole where nothing does
@@ -14,10 +14,6 @@ literal_by None e = option_map (literal true) (atom_of e)
 -- a literal: an atom, or `(not atom)`
 abbrev pub literal_of : Tree → Option Literal
 literal_of e = literal_by (negated e) e
-
--- an effect: `()`, a literal, or `(and literal*)`
-abbrev pub effect_of : Tree → Option Effect
-effect_of e = option_map effect (listed literal_of e)
 
 -- a literal, where its terms are names
 abbrev pub if_ground : Literal → Option Literal

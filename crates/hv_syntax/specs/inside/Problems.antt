@@ -5,7 +5,6 @@ use Rattle.hv_text.specs.declared.span.Span.{Span}
 use Rattle.hv_syntax.specs.declared.field.Slot.TheVariants as slots
 use Rattle.hv_syntax.specs.declared.fault.SyntaxKind.{SyntaxKind}
 use Rattle.hv_syntax.specs.declared.fault.SyntaxKind.TheVariants as kinds
-use Rattle.hv_syntax.specs.declared.word.Sort.TheVariants as sorts
 use Rattle.hv_syntax.specs.Words.{is}
 use Rattle.hv_syntax.specs.inside.Reading.{both, every, only}
 use Rattle.hv_syntax.specs.Values.{WordAt, Formula, Literal, Htn, htn, Problem}
@@ -32,7 +31,7 @@ abbrev pub problem_section_by : List ℕ → Span → Trees → Option ProblemSe
 problem_section_by w s ts =
     if is w (codes ":domain") then option_map is_for (one_name ts) else
     if is w (codes ":requirements") then option_map has_requirements (every keyword_of ts) else
-    if is w (codes ":objects") then option_map has_objects (typed_list_of sorts.Name ts) else
+    if is w (codes ":objects") then option_map has_objects (typed_list_of ts) else
     if is w (codes ":htn") then option_map has_htn (htn_of s ts) else
     if is w (codes ":init") then option_map has_init (every ground_literal_of ts) else
     if is w (codes ":goal") then option_map has_goal (goal_of ts) else

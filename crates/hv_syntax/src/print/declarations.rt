@@ -1,9 +1,9 @@
 //! Predicates, and the sections of tasks, methods, actions and initial networks.
 
 ghost use Rattle.std.specs.Prelude.{◌≡◌, ◌++◌, map, OnOk, codes};
-ghost use Rattle.hv_syntax.specs.Canonical.{text, spaced, each, the_list, typed_members, formula_expression};
+ghost use Rattle.hv_syntax.specs.Canonical.{text, spaced, each, the_list, variable_members, formula_expression};
 ghost use Rattle.hv_syntax.specs.CanonicalSections.{predicate_expression, section_of_each, task_section, method_section, action_section, htn_section, lines};
-ghost use Rattle.hv_syntax.specs.Views.{typed_view, formula_view};
+ghost use Rattle.hv_syntax.specs.Views.{variable_view, formula_view};
 ghost use Rattle.hv_syntax.specs.DeclarationViews.{predicate_view, task_view, method_view, action_view};
 ghost use Rattle.hv_syntax.specs.ProblemViews.{htn_view};
 
@@ -11,20 +11,22 @@ use crate::action::ActionText;
 use crate::formula::FormulaText;
 use crate::method::MethodText;
 use crate::predicate::PredicateText;
-use crate::print::formulas::{put_effect, put_formula};
+use crate::print::effects::put_effect;
+use crate::print::formulas::put_formula;
 use crate::print::networks::put_network;
-use crate::print::terms::{put_atom, put_spaced_typed, put_typed, put_word};
+use crate::print::terms::{put_atom, put_word};
+use crate::print::variables::{put_spaced_variables, put_variables};
 use crate::problem::HtnText;
 use crate::task::TaskText;
-use crate::typed::TypedText;
+use crate::variable::VariableText;
 use hv_text::Memory;
 
 // Puts the field `:parameters`, a space before it.
-fn put_parameters(out: &mut Vec<u8>, parameters: &[TypedText<'_>]) -> Result<(), Memory>
-    ensures { OnOk result (out.new.items ≡ out.old.items ++ (codes " :parameters " ++ text (the_list (typed_members (map typed_view parameters.now))))) }
+fn put_parameters(out: &mut Vec<u8>, parameters: &[VariableText<'_>]) -> Result<(), Memory>
+    ensures { OnOk result (out.new.items ≡ out.old.items ++ (codes " :parameters " ++ text (the_list (variable_members (map variable_view parameters.now))))) }
 {
     out.extend_from_slice(b" :parameters (")?;
-    put_typed(out, parameters)?;
+    put_variables(out, parameters)?;
     out.push(b')')?;
     Ok(())
 }
@@ -43,7 +45,7 @@ fn put_predicate(out: &mut Vec<u8>, predicate: &PredicateText<'_>) -> Result<(),
 {
     out.push(b'(')?;
     put_word(out, predicate.name())?;
-    put_spaced_typed(out, predicate.parameters())?;
+    put_spaced_variables(out, predicate.parameters())?;
     out.push(b')')?;
     Ok(())
 }

@@ -1,16 +1,17 @@
-//! Formulas, literals and effects.
+//! Formulas and literals.
 
 ghost use Rattle.std.specs.Prelude.{◌≡◌, ◌++◌, map, OnOk};
 ghost use Rattle.hv_syntax.specs.Values.{formulas_of, not, forall, exists, equal};
-ghost use Rattle.hv_syntax.specs.Canonical.{text, spaced, each, conjunction, formula_expression, formula_expressions, literal_expression, effect_expression};
+ghost use Rattle.hv_syntax.specs.Canonical.{text, spaced, each, formula_expression, formula_expressions, literal_expression};
 ghost use Rattle.hv_syntax.specs.inside.Formulas.{and_all, or_all};
-ghost use Rattle.hv_syntax.specs.Views.{typed_view, term_view, formula_view, literal_view, effect_view};
+ghost use Rattle.hv_syntax.specs.Views.{variable_view, term_view, formula_view, literal_view};
 
 use crate::formula::FormulaText;
-use crate::literal::{EffectText, LiteralText};
-use crate::print::terms::{put_atom, put_term, put_typed};
+use crate::literal::LiteralText;
+use crate::print::terms::{put_atom, put_term};
+use crate::print::variables::put_variables;
 use crate::term::TermText;
-use crate::typed::TypedText;
+use crate::variable::VariableText;
 use hv_text::Memory;
 
 // Puts that two terms are one.
@@ -94,13 +95,13 @@ fn put_negation(out: &mut Vec<u8>, part: &FormulaText<'_>) -> Result<(), Memory>
 #[cycle(put)]
 fn put_forall(
     out: &mut Vec<u8>,
-    variables: &[TypedText<'_>],
+    variables: &[VariableText<'_>],
     part: &FormulaText<'_>,
 ) -> Result<(), Memory>
-    ensures { OnOk result (out.new.items ≡ out.old.items ++ text (formula_expression (forall (map typed_view variables.now) (formula_view part.now)))) }
+    ensures { OnOk result (out.new.items ≡ out.old.items ++ text (formula_expression (forall (map variable_view variables.now) (formula_view part.now)))) }
 {
     out.extend_from_slice(b"(forall (")?;
-    put_typed(out, variables)?;
+    put_variables(out, variables)?;
     out.extend_from_slice(b") ")?;
     put_formula(out, part)?;
     out.push(b')')?;
@@ -110,13 +111,13 @@ fn put_forall(
 #[cycle(put)]
 fn put_exists(
     out: &mut Vec<u8>,
-    variables: &[TypedText<'_>],
+    variables: &[VariableText<'_>],
     part: &FormulaText<'_>,
 ) -> Result<(), Memory>
-    ensures { OnOk result (out.new.items ≡ out.old.items ++ text (formula_expression (exists (map typed_view variables.now) (formula_view part.now)))) }
+    ensures { OnOk result (out.new.items ≡ out.old.items ++ text (formula_expression (exists (map variable_view variables.now) (formula_view part.now)))) }
 {
     out.extend_from_slice(b"(exists (")?;
-    put_typed(out, variables)?;
+    put_variables(out, variables)?;
     out.extend_from_slice(b") ")?;
     put_formula(out, part)?;
     out.push(b')')?;
@@ -135,8 +136,12 @@ fn put_formulas(out: &mut Vec<u8>, formulas: &[FormulaText<'_>]) -> Result<(), M
     Ok(())
 }
 
-// Puts a literal.
-fn put_literal(out: &mut Vec<u8>, literal: &LiteralText<'_>) -> Result<(), Memory>
+/// Puts a literal.
+///
+/// # Errors
+///
+/// `Memory` where a growth was refused.
+pub(crate) fn put_literal(out: &mut Vec<u8>, literal: &LiteralText<'_>) -> Result<(), Memory>
     ensures { OnOk result (out.new.items ≡ out.old.items ++ text (literal_expression (literal_view literal.now))) }
 {
     if literal.is_positive() {
@@ -161,34 +166,4 @@ pub(crate) fn put_literals(out: &mut Vec<u8>, literals: &[LiteralText<'_>]) -> R
         put_literal(out, literal)?;
     }
     Ok(())
-}
-
-// Puts literals as `()` where there are none, and else behind `and`.
-fn put_listed_literals(out: &mut Vec<u8>, literals: &[LiteralText<'_>]) -> Result<(), Memory>
-    ensures { OnOk result (out.new.items ≡ out.old.items ++ text (conjunction (each literal_expression (map literal_view literals.now)))) }
-{
-    match literals {
-        [] => {
-            out.extend_from_slice(b"()")?;
-            Ok(())
-        }
-        [first, others @ ..] => {
-            out.extend_from_slice(b"(and ")?;
-            put_literal(out, first)?;
-            put_literals(out, others)?;
-            out.push(b')')?;
-            Ok(())
-        }
-    }
-}
-
-/// Puts an effect.
-///
-/// # Errors
-///
-/// `Memory` where a growth was refused.
-pub(crate) fn put_effect(out: &mut Vec<u8>, effect: &EffectText<'_>) -> Result<(), Memory>
-    ensures { OnOk result (out.new.items ≡ out.old.items ++ text (effect_expression (effect_view effect.now))) }
-{
-    put_listed_literals(out, effect.literals())
 }

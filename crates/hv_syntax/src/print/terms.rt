@@ -1,9 +1,9 @@
-//! Words, terms, atoms and typed lists.
+//! Words, terms, atoms, and typed lists of names.
 
 ghost use Rattle.std.specs.Prelude.{◌≡◌, ◌++◌, ◌∷◌, [], map, OnOk};
 ghost use Rattle.hv_text.specs.Names.{text_of};
 ghost use Rattle.hv_syntax.specs.Values.{type_name};
-ghost use Rattle.hv_syntax.specs.Canonical.{text, joined, spaced, each, word_expression, term_expression, atom_expression, typed_members};
+ghost use Rattle.hv_syntax.specs.Canonical.{text, spaced, each, word_expression, term_expression, atom_expression, typed_members};
 ghost use Rattle.hv_syntax.specs.Views.{word_view, term_view, atom_view, type_view, typed_view};
 
 use crate::term::{AtomText, TermText};
@@ -100,7 +100,7 @@ fn put_type(out: &mut Vec<u8>, of: TypeText<'_>) -> Result<(), Memory>
     }
 }
 
-/// Puts a name or a variable, a dash and its type.
+/// Puts a name, a dash and its type.
 ///
 /// # Errors
 ///
@@ -113,7 +113,7 @@ pub(crate) fn put_one_typed(out: &mut Vec<u8>, one: TypedText<'_>) -> Result<(),
     put_type(out, one.of())
 }
 
-/// Puts a typed list, each member with its own type, and a space before each.
+/// Puts a typed list of names, each with its own type, and a space before each.
 ///
 /// # Errors
 ///
@@ -126,21 +126,4 @@ pub(crate) fn put_spaced_typed(out: &mut Vec<u8>, list: &[TypedText<'_>]) -> Res
         put_one_typed(out, *one)?;
     }
     Ok(())
-}
-
-/// Puts a typed list, each member with its own type.
-///
-/// # Errors
-///
-/// `Memory` where a growth was refused.
-pub(crate) fn put_typed(out: &mut Vec<u8>, list: &[TypedText<'_>]) -> Result<(), Memory>
-    ensures { OnOk result (out.new.items ≡ out.old.items ++ joined (typed_members (map typed_view list.now))) }
-{
-    match list {
-        [] => Ok(()),
-        [first, others @ ..] => {
-            put_one_typed(out, *first)?;
-            put_spaced_typed(out, others)
-        }
-    }
 }

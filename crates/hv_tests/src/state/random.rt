@@ -8,14 +8,18 @@ use hv_state::{BitState, SortedState, State, Stop, Trace};
 use hv_world::{ActionId, Formula, GroundActions, ObjectId, World};
 use std::alloc::Global;
 
-// Effects that add what they delete, and what is so already; and the last action may not be
-// applicable.
+// Effects that add what they delete, what is so already, and what they say for all objects; and the
+// last action may not be applicable.
 const LAMPS: &[u8] = b"(define (domain lamps)\n\
     (:predicates (hot) (on ?x) (near ?x ?y))\n\
     (:action light :parameters (?x ?y) :effect (and (on ?x) (not (near ?x ?y))))\n\
     (:action quench :parameters (?x ?y) :effect (and (not (on ?x)) (not (on ?y))))\n\
     (:action swap :parameters (?x ?y) :effect (and (not (on ?x)) (on ?y)))\n\
     (:action warm :parameters (?x ?y) :effect (and (not (hot)) (hot)))\n\
+    (:action spread :parameters (?x ?y) :effect (forall (?z)\n\
+    (and (near ?x ?z) (not (near ?z ?x)) (forall (?x) (not (on ?x))))))\n\
+    (:action link :parameters (?x ?y) :effect (and (forall (?x ?z) (not (near ?z ?y)))\n\
+    (forall (?x) (near ?x ?y)) (not (near ?x ?x))))\n\
     (:action cool :parameters (?x ?y) :precondition (or (hot) (on ?x))\n\
     :effect (not (hot))))";
 
@@ -40,6 +44,10 @@ const NEAR_A: u32 = 16 + 128 + 1024;
 const NEAR_B: u32 = 32 + 256 + 2048;
 
 const NEAR_C: u32 = 64 + 512 + 4096;
+
+const FROM: [u32; 3] = [16 + 32 + 64, 128 + 256 + 512, 1024 + 2048 + 4096];
+
+const TO: [u32; 3] = [NEAR_A, NEAR_B, NEAR_C];
 
 // (on b), (near a b) and (near b a).
 const BEGUN: u32 = 4 + 32 + 128;
@@ -93,6 +101,8 @@ fn after(word: u32, action: usize, x: usize, y: usize) -> Option<u32> {
         1 => Some(word & !(on_x | on_y)),
         2 => Some(word & !on_x | on_y),
         3 => Some(word | HOT),
+        4 => Some(word & !(*TO.get(x)? | ANY_ON) | *FROM.get(x)?),
+        5 => Some(word & !*NEAR.get(x)?.get(x)? | *TO.get(y)?),
         _ if has_any(word, HOT | on_x) => Some(word & !HOT),
         _ => None,
     }
@@ -121,7 +131,7 @@ fn random_walk(alloc: Global, seed: &mut u64) -> Option<Walk> {
     let mut word = BEGUN;
     words.push(word).ok()?;
     for number in 0..next_random(seed, 7) {
-        let action = next_random(seed, 5);
+        let action = next_random(seed, 7);
         let x = next_random(seed, 3);
         let y = next_random(seed, 3);
         actions

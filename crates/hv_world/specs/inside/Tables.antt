@@ -1,11 +1,11 @@
 -- What the tables of the code say.
-use Rattle.std.specs.Prelude.{ℕ, List, [], ◌∷◌, map, Option, Some, None, bytes_eq, if◌then◌else◌}
+use Rattle.std.specs.Prelude.{ℕ, List, [], ◌∷◌, map, Option, Some, None, bytes_eq, if◌then◌else◌, Vec}
 use Rattle.std.specs.List.{slice_get}
 use Rattle.std.specs.declared.hash.DefaultHasher.{DefaultHasher}
 use Rattle.indexmap.specs.IndexMap.{hasher_of}
 use Rattle.hv_text.specs.Names.{text_of}
 use Rattle.hv_text.specs.declared.name.Name.{Name}
-use Rattle.hv_syntax.specs.Views.{word_view, typed_view}
+use Rattle.hv_syntax.specs.Views.{word_view, variable_view}
 use Rattle.hv_world.specs.declared.names.Names.{Names}
 use Rattle.hv_world.specs.declared.scope.Scope as code
 use Rattle.hv_world.specs.declared.scope.Scope.TheVariants as scopes
@@ -34,7 +34,7 @@ with_place places m k n = elim (places n) [ None ↦ if bytes_eq n m then Some k
 
 abbrev pub scope_view : code.Scope → Scope
 scope_view (scopes.Parameters t n) = outer n (places_by t.now)
-scope_view (scopes.Inside' p s vs) = inside (scope_view s) (variables (map typed_view vs.now))
+scope_view (scopes.Inside' p s vs) = inside (scope_view s) (variables (map variable_view vs.now))
 
 abbrev pub signature_view : code_signature.Signature → Signature
 signature_view g = signature g.predicate.0 g.arity
@@ -46,10 +46,15 @@ abbrev pub signature_beside : List ℕ → Option ℕ → Option Signature
 signature_beside arities None = None
 signature_beside arities (Some i) = elim (slice_get arities i) [ None ↦ None | Some k ↦ Some (signature i k) ]
 
+-- the names that a list of the code has
+abbrev pub names_in : {A : Type 0} → Vec Name A → List (List ℕ)
+names_in v = map text_of v.items
+
 abbrev pub known_by : Tables → Known
 known_by t =
     record {
-      types = map text_of t.types.keys;
+      types = map text_of t.types.names.keys;
+      eithers = map names_in t.types.eithers.keys;
       objects = map text_of t.objects.keys;
       predicate = λ n. signature_beside t.predicates.arities.items (places_by t.predicates.places n);
       task = λ n. at_place (map declaration_view t.tasks.list.items) (places_by t.tasks.places n);

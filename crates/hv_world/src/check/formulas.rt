@@ -2,7 +2,7 @@
 
 ghost use Rattle.std.specs.Prelude.{◌≡◌, ◌++◌, map};
 ghost use Rattle.hv_syntax.specs.Values.{formulas_of};
-ghost use Rattle.hv_syntax.specs.Views.{typed_view, formula_view};
+ghost use Rattle.hv_syntax.specs.Views.{variable_view, formula_view};
 ghost use Rattle.hv_world.specs.Known.{variables};
 ghost use Rattle.hv_world.specs.Scopes.{inside};
 ghost use Rattle.hv_world.specs.Faults.{least};
@@ -14,7 +14,7 @@ use crate::check::types::variable_fault;
 use crate::fault::{Side, StaticFault, earlier};
 use crate::scope::Scope;
 use crate::tables::Tables;
-use hv_syntax::{FormulaText, TypedText};
+use hv_syntax::{FormulaText, VariableText};
 
 /// The first fault of a formula.
 #[cycle(check)]
@@ -24,7 +24,9 @@ pub(crate) fn formula_fault<'s>(
     side: Side,
     formula: &FormulaText<'s>,
 ) -> Option<StaticFault>
-    ensures { result ≡ least (formula_faults (known_by tables.now) side (scope_view scope.now) (formula_view formula.now)) }
+    ensures { result
+        ≡ least (formula_faults (known_by tables.now) side (scope_view scope.now)
+        (formula_view formula.now)) }
 {
     match formula {
         FormulaText::Holds(atom) => atom_fault(tables, scope, side, atom),
@@ -52,10 +54,14 @@ fn quantified_fault<'s>(
     tables: &Tables<'s>,
     scope: &Scope<'_, 's>,
     side: Side,
-    list: &[TypedText<'s>],
+    list: &[VariableText<'s>],
     part: &FormulaText<'s>,
 ) -> Option<StaticFault>
-    ensures { result ≡ least (variable_faults (known_by tables.now) side (map typed_view list.now) ++ formula_faults (known_by tables.now) side (inside (scope_view scope.now) (variables (map typed_view list.now))) (formula_view part.now)) }
+    ensures { result
+        ≡ least (variable_faults (known_by tables.now) side (map variable_view list.now)
+        ++ formula_faults (known_by tables.now) side
+        (inside (scope_view scope.now) (variables (map variable_view list.now)))
+        (formula_view part.now)) }
 {
     let inner = Scope::Inside(&*scope, list);
     let variables = variable_fault(tables, side, list);
@@ -71,7 +77,9 @@ fn formulas_fault<'s>(
     side: Side,
     formulas: &[FormulaText<'s>],
 ) -> Option<StaticFault>
-    ensures { result ≡ least (all_formula_faults (known_by tables.now) side (scope_view scope.now) (formulas_of (map formula_view formulas.now))) }
+    ensures { result
+        ≡ least (all_formula_faults (known_by tables.now) side (scope_view scope.now)
+        (formulas_of (map formula_view formulas.now))) }
 {
     let mut found = None;
     for formula in formulas {

@@ -32,7 +32,9 @@ fn subtask_fault<'s>(
     side: Side,
     subtask: &SubtaskText<'s>,
 ) -> Option<StaticFault>
-    ensures { result ≡ least (subtask_faults (known_by tables.now) side (scope_view scope.now) (subtask_view subtask.now)) }
+    ensures { result
+        ≡ least (subtask_faults (known_by tables.now) side (scope_view scope.now)
+        (subtask_view subtask.now)) }
 {
     let task = subtask.task();
     let arity = declared_arity(tables, task.symbol().name());
@@ -46,7 +48,9 @@ fn subtasks_fault<'s>(
     side: Side,
     subtasks: &[SubtaskText<'s>],
 ) -> Option<StaticFault>
-    ensures { result ≡ least (subtasks_faults (known_by tables.now) side (scope_view scope.now) (map subtask_view subtasks.now)) }
+    ensures { result
+        ≡ least (subtasks_faults (known_by tables.now) side (scope_view scope.now)
+        (map subtask_view subtasks.now)) }
 {
     let mut found = None;
     for subtask in subtasks {
@@ -63,7 +67,9 @@ fn constraints_fault<'s>(
     side: Side,
     constraints: &[ConstraintText<'s>],
 ) -> Option<StaticFault>
-    ensures { result ≡ least (constraints_faults (known_by tables.now) side (scope_view scope.now) (map constraint_view constraints.now)) }
+    ensures { result
+        ≡ least (constraints_faults (known_by tables.now) side (scope_view scope.now)
+        (map constraint_view constraints.now)) }
 {
     let mut found = None;
     for constraint in constraints {
@@ -75,7 +81,10 @@ fn constraints_fault<'s>(
 
 // The fault of a word that is no label.
 fn unknown_label<'s>(labels: &Names<'s>, side: Side, word: Placed<'s>) -> Option<StaticFault>
-    ensures { result ≡ fault_if (not (is_some (places_by labels.now (word_view word.entry).text))) kinds.UnknownLabel side (word_view word.entry) }
+    ensures { result
+        ≡ fault_if (not
+        (is_some (places_by labels.now (word_view word.entry).text))) kinds.UnknownLabel side
+        (word_view word.entry) }
 {
     let is_known = labels.has(word.name());
     fault_if(!is_known, StaticKind::UnknownLabel, side, word)
@@ -83,7 +92,8 @@ fn unknown_label<'s>(labels: &Names<'s>, side: Side, word: Placed<'s>) -> Option
 
 // The first word of pairs that is none of the names of a table.
 fn unknown_labels<'s>(labels: &Names<'s>, side: Side, pairs: &[PairText<'s>]) -> Option<StaticFault>
-    ensures { (k : Known) (ls : List (List ℕ)) → places_by labels.now ≡ place_in ls → result ≡ least (flat_map (pair_faults k side ls) (map pair_view pairs.now)) }
+    ensures { (k : Known) (ls : List (List ℕ)) → places_by labels.now ≡ place_in ls
+        → result ≡ least (flat_map (pair_faults k side ls) (map pair_view pairs.now)) }
 {
     let mut found = None;
     for pair in pairs {
@@ -101,7 +111,8 @@ fn label_fault(
     side: Side,
     network: &NetworkText<'_>,
 ) -> Result<Option<StaticFault>, Memory>
-    ensures { IfOk result (λ o. (k : Known) → o ≡ least (label_faults k side (network_view network.now))) }
+    ensures { IfOk result
+        (λ o. (k : Known) → o ≡ least (label_faults k side (network_view network.now))) }
 {
     let words = label_words(alloc, network.subtasks())?;
     let labels = Names::of(alloc, &words)?;
@@ -112,7 +123,10 @@ fn label_fault(
 
 // Whether the order of a network puts a subtask before itself.
 fn is_cyclic_order(alloc: Global, network: &NetworkText<'_>) -> Result<bool, Memory>
-    requires { All (λ p. (p.0 < (written_by (network_view network.now)).len) × (p.1 < (written_by (network_view network.now)).len)) (written_by (network_view network.now)).pairs }
+    requires { All
+        (λ p. (p.0 < (written_by (network_view network.now)).len)
+        × (p.1 < (written_by (network_view network.now)).len))
+        (written_by (network_view network.now)).pairs }
     ensures { IfOk result (λ b. b ≡ is_cyclic (written_by (network_view network.now))) }
 {
     let pairs = numbered_pairs(alloc, network)?;
@@ -128,7 +142,8 @@ fn order_fault(
     span: Span,
     network: &NetworkText<'_>,
 ) -> Result<Option<StaticFault>, Memory>
-    ensures { IfOk result (λ o. (k : Known) → o ≡ least (order_faults k side span (network_view network.now))) }
+    ensures { IfOk result
+        (λ o. (k : Known) → o ≡ least (order_faults k side span (network_view network.now))) }
 {
     if let Some(fault) = label_fault(alloc, side, network)? {
         return Ok(Some(fault));
@@ -153,7 +168,10 @@ pub(crate) fn network_fault<'s>(
     span: Span,
     network: &NetworkText<'s>,
 ) -> Result<Option<StaticFault>, Memory>
-    ensures { IfOk result (λ o. o ≡ least (network_faults (known_by tables.now) side (scope_view scope.now) span (network_view network.now))) }
+    ensures { IfOk result
+        (λ o. o ≡ least
+        (network_faults (known_by tables.now) side (scope_view scope.now) span
+        (network_view network.now))) }
 {
     let subtasks = subtasks_fault(tables, scope, side, network.subtasks());
     let constraints = constraints_fault(tables, scope, side, network.constraints());

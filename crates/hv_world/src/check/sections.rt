@@ -11,6 +11,7 @@ ghost use Rattle.hv_world.specs.Faults.{least};
 ghost use Rattle.hv_world.specs.StaticRules.{variable_faults, method_faults, action_faults, htn_faults, goal_faults, literals_faults};
 ghost use Rattle.hv_world.specs.inside.Tables.{known_by};
 
+use crate::check::effects::effect_fault;
 use crate::check::formulas::formula_fault;
 use crate::check::networks::network_fault;
 use crate::check::terms::{literals_fault, task_fault};
@@ -29,7 +30,9 @@ fn compound_fault<'s>(
     tables: &Tables<'s>,
     task: &TaskText<'s>,
 ) -> Result<Option<StaticFault>, Memory>
-    ensures { IfOk result (λ o. o ≡ least (variable_faults (known_by tables.now) sides.Domain (task_view task.now).parameters)) }
+    ensures { IfOk result
+        (λ o. o ≡ least
+        (variable_faults (known_by tables.now) sides.Domain (task_view task.now).parameters)) }
 {
     let list = task.parameters();
     let names = Names::of_variables(alloc, list)?;
@@ -42,7 +45,9 @@ fn method_fault<'s>(
     tables: &Tables<'s>,
     method: &MethodText<'s>,
 ) -> Result<Option<StaticFault>, Memory>
-    ensures { IfOk result (λ o. o ≡ least (method_faults (known_by tables.now) sides.Domain (method_view method.now))) }
+    ensures { IfOk result
+        (λ o. o ≡ least
+        (method_faults (known_by tables.now) sides.Domain (method_view method.now))) }
 {
     let side = Side::Domain;
     let list = method.parameters();
@@ -64,7 +69,9 @@ fn action_fault<'s>(
     tables: &Tables<'s>,
     action: &ActionText<'s>,
 ) -> Result<Option<StaticFault>, Memory>
-    ensures { IfOk result (λ o. o ≡ least (action_faults (known_by tables.now) sides.Domain (action_view action.now))) }
+    ensures { IfOk result
+        (λ o. o ≡ least
+        (action_faults (known_by tables.now) sides.Domain (action_view action.now))) }
 {
     let side = Side::Domain;
     let list = action.parameters();
@@ -72,10 +79,9 @@ fn action_fault<'s>(
     let scope = Scope::Parameters(&names, list.len());
     let parameters = parameter_fault(tables, &names, side, list);
     let precondition = formula_fault(tables, &scope, side, action.precondition());
-    let effect = action.effect();
-    let literals = literals_fault(tables, &scope, side, effect.literals());
+    let effect = effect_fault(tables, &scope, side, action.effect().items());
     let head = earlier(parameters, precondition);
-    Ok(earlier(head, literals))
+    Ok(earlier(head, effect))
 }
 
 /// The first fault of the tasks that methods decompose.
@@ -88,7 +94,10 @@ pub(crate) fn compounds_fault<'s>(
     tables: &Tables<'s>,
     tasks: &[TaskText<'s>],
 ) -> Result<Option<StaticFault>, Memory>
-    ensures { IfOk result (λ o. o ≡ least (flat_map (λ t. variable_faults (known_by tables.now) sides.Domain t.parameters) (map task_view tasks.now))) }
+    ensures { IfOk result
+        (λ o. o ≡ least
+        (flat_map (λ t. variable_faults (known_by tables.now) sides.Domain t.parameters)
+        (map task_view tasks.now))) }
 {
     let mut found = None;
     for task in tasks {
@@ -108,7 +117,10 @@ pub(crate) fn methods_fault<'s>(
     tables: &Tables<'s>,
     methods: &[MethodText<'s>],
 ) -> Result<Option<StaticFault>, Memory>
-    ensures { IfOk result (λ o. o ≡ least (flat_map (method_faults (known_by tables.now) sides.Domain) (map method_view methods.now))) }
+    ensures { IfOk result
+        (λ o. o ≡ least
+        (flat_map (method_faults (known_by tables.now) sides.Domain)
+        (map method_view methods.now))) }
 {
     let mut found = None;
     for method in methods {
@@ -128,7 +140,10 @@ pub(crate) fn actions_fault<'s>(
     tables: &Tables<'s>,
     actions: &[ActionText<'s>],
 ) -> Result<Option<StaticFault>, Memory>
-    ensures { IfOk result (λ o. o ≡ least (flat_map (action_faults (known_by tables.now) sides.Domain) (map action_view actions.now))) }
+    ensures { IfOk result
+        (λ o. o ≡ least
+        (flat_map (action_faults (known_by tables.now) sides.Domain)
+        (map action_view actions.now))) }
 {
     let mut found = None;
     for action in actions {
@@ -148,7 +163,8 @@ pub(crate) fn htn_fault<'s>(
     tables: &Tables<'s>,
     htn: &HtnText<'s>,
 ) -> Result<Option<StaticFault>, Memory>
-    ensures { IfOk result (λ o. o ≡ least (htn_faults (known_by tables.now) sides.Problem (htn_view htn.now))) }
+    ensures { IfOk result
+        (λ o. o ≡ least (htn_faults (known_by tables.now) sides.Problem (htn_view htn.now))) }
 {
     let side = Side::Problem;
     let list = htn.parameters();
@@ -165,7 +181,9 @@ pub(crate) fn init_fault<'s>(
     tables: &Tables<'s>,
     literals: &[LiteralText<'s>],
 ) -> Option<StaticFault>
-    ensures { result ≡ least (literals_faults (known_by tables.now) sides.Problem (parameters []) (map literal_view literals.now)) }
+    ensures { result
+        ≡ least (literals_faults (known_by tables.now) sides.Problem (parameters [])
+        (map literal_view literals.now)) }
 {
     let names = Names::none(alloc);
     let scope = Scope::Parameters(&names, 0);
@@ -178,7 +196,9 @@ pub(crate) fn goal_fault<'s>(
     tables: &Tables<'s>,
     goal: Option<&FormulaText<'s>>,
 ) -> Option<StaticFault>
-    ensures { result ≡ least (goal_faults (known_by tables.now) sides.Problem (option_map (λ g. formula_view g.now) goal.entry)) }
+    ensures { result
+        ≡ least (goal_faults (known_by tables.now) sides.Problem
+        (option_map (λ g. formula_view g.now) goal.entry)) }
 {
     let names = Names::none(alloc);
     let scope = Scope::Parameters(&names, 0);

@@ -21,7 +21,9 @@ fn term_fault<'s>(
     side: Side,
     term: TermText<'s>,
 ) -> Option<StaticFault>
-    ensures { result ≡ least (term_faults (known_by tables.now) side (scope_view scope.now) (term_view term.entry)) }
+    ensures { result
+        ≡ least (term_faults (known_by tables.now) side (scope_view scope.now)
+        (term_view term.entry)) }
 {
     match term {
         TermText::Constant(word) => {
@@ -42,7 +44,9 @@ fn terms_fault<'s>(
     side: Side,
     terms: &[TermText<'s>],
 ) -> Option<StaticFault>
-    ensures { result ≡ least (terms_faults (known_by tables.now) side (scope_view scope.now) (map term_view terms.now)) }
+    ensures { result
+        ≡ least (terms_faults (known_by tables.now) side (scope_view scope.now)
+        (map term_view terms.now)) }
 {
     let mut found = None;
     for term in terms {
@@ -60,7 +64,10 @@ pub(crate) fn equality_fault<'s>(
     left: TermText<'s>,
     right: TermText<'s>,
 ) -> Option<StaticFault>
-    ensures { result ≡ least (term_faults (known_by tables.now) side (scope_view scope.now) (term_view left.entry) ++ term_faults (known_by tables.now) side (scope_view scope.now) (term_view right.entry)) }
+    ensures { result
+        ≡ least (term_faults (known_by tables.now) side (scope_view scope.now)
+        (term_view left.entry)
+        ++ term_faults (known_by tables.now) side (scope_view scope.now) (term_view right.entry)) }
 {
     let left = term_fault(tables, scope, side, left);
     let right = term_fault(tables, scope, side, right);
@@ -126,7 +133,11 @@ pub(crate) fn application_fault<'s>(
     arity: Option<usize>,
     atom: &AtomText<'s>,
 ) -> Option<StaticFault>
-    ensures { result ≡ least (head_faults kind side (atom_view atom.now).symbol arity (length (atom_view atom.now).terms) ++ terms_faults (known_by tables.now) side (scope_view scope.now) (atom_view atom.now).terms) }
+    ensures { result
+        ≡ least (head_faults kind side (atom_view atom.now).symbol arity
+        (length (atom_view atom.now).terms)
+        ++ terms_faults (known_by tables.now) side (scope_view scope.now)
+        (atom_view atom.now).terms) }
 {
     let head = head_fault(kind, side, atom.symbol(), arity, atom.terms().len());
     let terms = terms_fault(tables, scope, side, atom.terms());
@@ -140,7 +151,9 @@ pub(crate) fn atom_fault<'s>(
     side: Side,
     atom: &AtomText<'s>,
 ) -> Option<StaticFault>
-    ensures { result ≡ least (atom_faults (known_by tables.now) side (scope_view scope.now) (atom_view atom.now)) }
+    ensures { result
+        ≡ least (atom_faults (known_by tables.now) side (scope_view scope.now)
+        (atom_view atom.now)) }
 {
     let arity = predicate_arity(tables, atom.symbol().name());
     let kind = StaticKind::UnknownPredicate;
@@ -154,7 +167,9 @@ pub(crate) fn literals_fault<'s>(
     side: Side,
     literals: &[LiteralText<'s>],
 ) -> Option<StaticFault>
-    ensures { result ≡ least (literals_faults (known_by tables.now) side (scope_view scope.now) (map literal_view literals.now)) }
+    ensures { result
+        ≡ least (literals_faults (known_by tables.now) side (scope_view scope.now)
+        (map literal_view literals.now)) }
 {
     let mut found = None;
     for literal in literals {
@@ -171,7 +186,9 @@ pub(crate) fn task_fault<'s>(
     side: Side,
     task: &AtomText<'s>,
 ) -> Option<StaticFault>
-    ensures { result ≡ least (task_faults (known_by tables.now) side (scope_view scope.now) (atom_view task.now)) }
+    ensures { result
+        ≡ least (task_faults (known_by tables.now) side (scope_view scope.now)
+        (atom_view task.now)) }
 {
     let arity = task_arity(tables, task.symbol().name());
     let kind = StaticKind::UnknownTask;

@@ -26,7 +26,9 @@ use std::alloc::Global;
 
 // The first of these words that has one of its name before it.
 fn repeated_name(alloc: Global, words: &[Placed<'_>]) -> Result<Option<StaticFault>, Memory>
-    ensures { IfOk result (λ o. o ≡ least (faults_at kinds.DuplicateName sides.Domain (repeated (map word_view words.now)))) }
+    ensures { IfOk result
+        (λ o. o ≡ least
+        (faults_at kinds.DuplicateName sides.Domain (repeated (map word_view words.now)))) }
 {
     let names = Names::of(alloc, words)?;
     let kind = StaticKind::DuplicateName;
@@ -58,7 +60,8 @@ pub(crate) fn domain_fault<'s>(
     tables: &Tables<'s>,
     domain: &DomainText<'s>,
 ) -> Result<Option<StaticFault>, Memory>
-    ensures { IfOk result (λ o. o ≡ least (domain_faults_by (known_by tables.now) (domain_view domain.now))) }
+    ensures { IfOk result
+        (λ o. o ≡ least (domain_faults_by (known_by tables.now) (domain_view domain.now))) }
 {
     let duplicate = duplicate_fault(alloc, domain)?;
     let constant = typed_fault(tables, Side::Domain, domain.constants());
@@ -81,7 +84,8 @@ pub(crate) fn problem_fault<'s>(
     tables: &Tables<'s>,
     problem: &ProblemText<'s>,
 ) -> Result<Option<StaticFault>, Memory>
-    ensures { IfOk result (λ o. o ≡ least (problem_faults_by (known_by tables.now) (problem_view problem.now))) }
+    ensures { IfOk result
+        (λ o. o ≡ least (problem_faults_by (known_by tables.now) (problem_view problem.now))) }
 {
     let object = typed_fault(tables, Side::Problem, problem.objects());
     let htn = htn_fault(alloc, tables, problem.htn())?;

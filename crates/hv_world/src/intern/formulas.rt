@@ -2,7 +2,7 @@
 
 ghost use Rattle.std.specs.Prelude.{◌≡◌, map, IfOk};
 ghost use Rattle.hv_syntax.specs.Values.{formulas_of as said_formulas_of};
-ghost use Rattle.hv_syntax.specs.Views.{typed_view, formula_view as said_formula};
+ghost use Rattle.hv_syntax.specs.Views.{variable_view, formula_view as said_formula};
 ghost use Rattle.hv_world.specs.inside.Tables.{known_by, scope_view};
 ghost use Rattle.hv_world.specs.Scopes.{inside};
 ghost use Rattle.hv_world.specs.Known.{variables};
@@ -14,7 +14,7 @@ use crate::formula::Formula;
 use crate::intern::terms::{atom_in, term_in, types_of};
 use crate::scope::Scope;
 use crate::tables::Tables;
-use hv_syntax::{FormulaText, TypedText};
+use hv_syntax::{FormulaText, VariableText};
 use hv_text::Memory;
 use std::alloc::Global;
 
@@ -30,7 +30,9 @@ pub(crate) fn formula_in<'s>(
     scope: &Scope<'_, 's>,
     formula: &FormulaText<'s>,
 ) -> Result<Formula, Memory>
-    ensures { IfOk result (λ f. formula_view f ≡ formula_in (known_by tables.now) (scope_view scope.now) (said_formula formula.now)) }
+    ensures { IfOk result
+        (λ f. formula_view f
+        ≡ formula_in (known_by tables.now) (scope_view scope.now) (said_formula formula.now)) }
 {
     match formula {
         FormulaText::Holds(atom) => Ok(Formula::Holds(atom_in(alloc, tables, scope, atom)?)),
@@ -69,10 +71,14 @@ fn quantified_in<'s>(
     alloc: Global,
     tables: &Tables<'s>,
     scope: &Scope<'_, 's>,
-    list: &[TypedText<'s>],
+    list: &[VariableText<'s>],
     part: &FormulaText<'s>,
 ) -> Result<Formula, Memory>
-    ensures { IfOk result (λ f. formula_view f ≡ formula_in (known_by tables.now) (inside (scope_view scope.now) (variables (map typed_view list.now))) (said_formula part.now)) }
+    ensures { IfOk result
+        (λ f. formula_view f
+        ≡ formula_in (known_by tables.now)
+        (inside (scope_view scope.now) (variables (map variable_view list.now)))
+        (said_formula part.now)) }
 {
     let inner = Scope::Inside(&*scope, list);
     formula_in(alloc, tables, &inner, part)
@@ -85,7 +91,10 @@ fn formulas_in<'s>(
     scope: &Scope<'_, 's>,
     formulas: &[FormulaText<'s>],
 ) -> Result<Vec<Formula>, Memory>
-    ensures { IfOk result (λ v. formulas_of (map formula_view v.items) ≡ formulas_in (known_by tables.now) (scope_view scope.now) (said_formulas_of (map said_formula formulas.now))) }
+    ensures { IfOk result
+        (λ v. formulas_of (map formula_view v.items)
+        ≡ formulas_in (known_by tables.now) (scope_view scope.now)
+        (said_formulas_of (map said_formula formulas.now))) }
 {
     let mut numbered = Vec::new(alloc);
     for formula in formulas {

@@ -1,6 +1,6 @@
 //! What a domain and a problem list, over numbers.
 
-ghost use Rattle.std.specs.Prelude.{◌≡◌, ◌++◌, [], map, option_map, All, IfOk, OnOk};
+ghost use Rattle.std.specs.Prelude.{◌≡◌, ◌++◌, [], length, map, option_map, All, IfOk, OnOk};
 ghost use Rattle.hv_text.specs.Names.{text_of};
 ghost use Rattle.hv_syntax.specs.Views.{typed_view, formula_view as said_formula, literal_view as said_literal};
 ghost use Rattle.hv_syntax.specs.DeclarationViews.{predicate_view as said_predicate, task_view as said_task, method_view as said_method, action_view as said_action};
@@ -10,7 +10,7 @@ ghost use Rattle.hv_world.specs.inside.Tables.{known_by};
 ghost use Rattle.hv_world.specs.Views.{atom_view, formula_view};
 ghost use Rattle.hv_world.specs.MethodViews.{method_view};
 ghost use Rattle.hv_world.specs.SectionViews.{task_view, action_view};
-ghost use Rattle.hv_world.specs.Worlds.{type_pair, object_pair, added, formula_in, method_in, task_by, action_in};
+ghost use Rattle.hv_world.specs.Worlds.{type_pair, object_pair, either_pairs, eithers_pairs, added, formula_in, method_in, task_by, action_in};
 
 use crate::action::Action;
 use crate::formula::{Atom, Formula};
@@ -36,7 +36,9 @@ pub(crate) fn type_pairs<'s>(
     tables: &Tables<'s>,
     list: &[TypedText<'s>],
 ) -> Result<Vec<(TypeId, TypeId)>, Memory>
-    ensures { IfOk result (λ v. map (λ p. (p.0.0, p.1.0)) v.items ≡ map (type_pair (known_by tables.now)) (map typed_view list.now)) }
+    ensures { IfOk result
+        (λ v. map (λ p. (p.0.0, p.1.0)) v.items
+        ≡ map (type_pair (known_by tables.now)) (map typed_view list.now)) }
 {
     let mut pairs = Vec::new(alloc);
     for typed in list {
@@ -46,13 +48,50 @@ pub(crate) fn type_pairs<'s>(
     Ok(pairs)
 }
 
+// Puts each of the types that a list names, with the type that they make, behind others.
+fn add_either_pairs<'s>(
+    tables: &Tables<'s>,
+    pairs: &mut Vec<(TypeId, TypeId)>,
+    list: &[Name<'s>],
+    above: usize,
+) -> Result<(), Memory>
+    ensures { OnOk result
+        (map (λ p. (p.0.0, p.1.0)) pairs.new.items ≡ map (λ p. (p.0.0, p.1.0)) pairs.old.items
+        ++ either_pairs (known_by tables.now) above (map text_of list.now)) }
+{
+    for name in list {
+        pairs.push((TypeId(tables.type_number(*name)), TypeId(above)))?;
+    }
+    Ok(())
+}
+
+/// Puts the types that names make, each with those that it names, behind others.
+pub(crate) fn add_eithers_pairs<'s>(
+    tables: &Tables<'s>,
+    pairs: &mut Vec<(TypeId, TypeId)>,
+) -> Result<(), Memory>
+    ensures { OnOk result
+        (map (λ p. (p.0.0, p.1.0)) pairs.new.items ≡ map (λ p. (p.0.0, p.1.0)) pairs.old.items
+        ++ eithers_pairs (known_by tables.now) (length (known_by tables.now).types)
+        (known_by tables.now).eithers) }
+{
+    let eithers = tables.types.eithers.as_slice();
+    for (place, list) in eithers.iter().enumerate() {
+        let above = tables.number_past(place)?;
+        add_either_pairs(tables, pairs, list, above)?;
+    }
+    Ok(())
+}
+
 /// Puts the constants or objects of a list, each with its type, behind others.
 pub(crate) fn add_object_pairs<'s>(
     tables: &Tables<'s>,
     pairs: &mut Vec<(ObjectId, TypeId)>,
     list: &[TypedText<'s>],
 ) -> Result<(), Memory>
-    ensures { OnOk result (map (λ p. (p.0.0, p.1.0)) pairs.new.items ≡ map (λ p. (p.0.0, p.1.0)) pairs.old.items ++ map (object_pair (known_by tables.now)) (map typed_view list.now)) }
+    ensures { OnOk result
+        (map (λ p. (p.0.0, p.1.0)) pairs.new.items ≡ map (λ p. (p.0.0, p.1.0)) pairs.old.items
+        ++ map (object_pair (known_by tables.now)) (map typed_view list.now)) }
 {
     for typed in list {
         let number = ObjectId(tables.object_number(typed.name().name()));
@@ -66,7 +105,8 @@ pub(crate) fn predicate_names<'s>(
     alloc: Global,
     predicates: &[PredicateText<'s>],
 ) -> Result<Vec<Name<'s>>, Memory>
-    ensures { IfOk result (λ v. map text_of v.items ≡ map (λ q. q.name.text) (map said_predicate predicates.now)) }
+    ensures { IfOk result
+        (λ v. map text_of v.items ≡ map (λ q. q.name.text) (map said_predicate predicates.now)) }
 {
     let mut names = Vec::new(alloc);
     for predicate in predicates {
@@ -82,7 +122,9 @@ pub(crate) fn tasks_in<'s>(
     tables: &Tables<'s>,
     tasks: &[TaskText<'s>],
 ) -> Result<Vec<Task<'s>>, Memory>
-    ensures { IfOk result (λ v. map task_view v.items ≡ map (task_by (known_by tables.now)) (map said_task tasks.now)) }
+    ensures { IfOk result
+        (λ v. map task_view v.items
+        ≡ map (task_by (known_by tables.now)) (map said_task tasks.now)) }
 {
     let mut numbered = Vec::new(alloc);
     for task in tasks {
@@ -98,7 +140,9 @@ pub(crate) fn methods_in<'s>(
     methods: &[MethodText<'s>],
 ) -> Result<Vec<Method<'s>>, Memory>
     requires { All (λ m. IsArrangeable (written_by (said_method m).network)) methods.now }
-    ensures { IfOk result (λ v. map method_view v.items ≡ map (method_in (known_by tables.now)) (map said_method methods.now)) }
+    ensures { IfOk result
+        (λ v. map method_view v.items
+        ≡ map (method_in (known_by tables.now)) (map said_method methods.now)) }
 {
     let mut numbered = Vec::new(alloc);
     for method in methods {
@@ -113,7 +157,9 @@ pub(crate) fn actions_in<'s>(
     tables: &Tables<'s>,
     actions: &[ActionText<'s>],
 ) -> Result<Vec<Action<'s>>, Memory>
-    ensures { IfOk result (λ v. map action_view v.items ≡ map (action_in (known_by tables.now)) (map said_action actions.now)) }
+    ensures { IfOk result
+        (λ v. map action_view v.items
+        ≡ map (action_in (known_by tables.now)) (map said_action actions.now)) }
 {
     let mut numbered = Vec::new(alloc);
     for action in actions {
@@ -128,7 +174,9 @@ pub(crate) fn init_in<'s>(
     tables: &Tables<'s>,
     literals: &[LiteralText<'s>],
 ) -> Result<Vec<Atom>, Memory>
-    ensures { IfOk result (λ v. map atom_view v.items ≡ added (known_by tables.now) (parameters []) (map said_literal literals.now)) }
+    ensures { IfOk result
+        (λ v. map atom_view v.items
+        ≡ added (known_by tables.now) (parameters []) (map said_literal literals.now)) }
 {
     let names = Names::none(alloc);
     added(alloc, tables, &Scope::Parameters(&names, 0), literals)
@@ -140,7 +188,10 @@ pub(crate) fn goal_in<'s>(
     tables: &Tables<'s>,
     goal: Option<&FormulaText<'s>>,
 ) -> Result<Option<Formula>, Memory>
-    ensures { IfOk result (λ o. option_map formula_view o ≡ option_map (formula_in (known_by tables.now) (parameters [])) (option_map (λ f. said_formula f.now) goal.entry)) }
+    ensures { IfOk result
+        (λ o. option_map formula_view o
+        ≡ option_map (formula_in (known_by tables.now) (parameters []))
+        (option_map (λ f. said_formula f.now) goal.entry)) }
 {
     let Some(goal) = goal else {
         return Ok(None);

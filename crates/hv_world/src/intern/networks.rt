@@ -18,7 +18,8 @@ use std::alloc::Global;
 
 // What a word names: a task or an action.
 fn task_named<'s>(tables: &Tables<'s>, symbol: Placed<'s>) -> TaskName
-    ensures { name_view result ≡ task_of ((known_by tables.now).task (word_view symbol.entry).text) }
+    ensures { name_view result
+        ≡ task_of ((known_by tables.now).task (word_view symbol.entry).text) }
 {
     match tables.task(symbol.name()) {
         Some(declared) => declared.what,
@@ -33,7 +34,9 @@ pub(crate) fn task_in<'s>(
     scope: &Scope<'_, 's>,
     task: &AtomText<'s>,
 ) -> Result<Subtask, Memory>
-    ensures { IfOk result (λ x. subtask_view x ≡ task_in (known_by tables.now) (scope_view scope.now) (said_atom task.now)) }
+    ensures { IfOk result
+        (λ x. subtask_view x
+        ≡ task_in (known_by tables.now) (scope_view scope.now) (said_atom task.now)) }
 {
     let name = task_named(tables, task.symbol());
     let terms = terms_in(alloc, tables, scope, task.terms())?;
@@ -47,7 +50,10 @@ pub(crate) fn subtasks_in<'s>(
     scope: &Scope<'_, 's>,
     subtasks: &[SubtaskText<'s>],
 ) -> Result<Vec<Subtask>, Memory>
-    ensures { IfOk result (λ v. map subtask_view v.items ≡ subtasks_in (known_by tables.now) (scope_view scope.now) (map said_subtask subtasks.now)) }
+    ensures { IfOk result
+        (λ v. map subtask_view v.items
+        ≡ subtasks_in (known_by tables.now) (scope_view scope.now)
+        (map said_subtask subtasks.now)) }
 {
     let mut numbered = Vec::new(alloc);
     for subtask in subtasks {
@@ -62,7 +68,10 @@ fn constraint_in<'s>(
     scope: &Scope<'_, 's>,
     constraint: ConstraintText<'s>,
 ) -> Result<Constraint, Memory>
-    ensures { IfOk result (λ c. constraint_view c ≡ constraint_in (known_by tables.now) (scope_view scope.now) (said_constraint constraint.entry)) }
+    ensures { IfOk result
+        (λ c. constraint_view c
+        ≡ constraint_in (known_by tables.now) (scope_view scope.now)
+        (said_constraint constraint.entry)) }
 {
     let left = term_in(tables, scope, constraint.left())?;
     let right = term_in(tables, scope, constraint.right())?;
@@ -80,7 +89,10 @@ pub(crate) fn constraints_in<'s>(
     scope: &Scope<'_, 's>,
     constraints: &[ConstraintText<'s>],
 ) -> Result<Vec<Constraint>, Memory>
-    ensures { IfOk result (λ v. map constraint_view v.items ≡ constraints_in (known_by tables.now) (scope_view scope.now) (map said_constraint constraints.now)) }
+    ensures { IfOk result
+        (λ v. map constraint_view v.items
+        ≡ constraints_in (known_by tables.now) (scope_view scope.now)
+        (map said_constraint constraints.now)) }
 {
     let mut numbered = Vec::new(alloc);
     for constraint in constraints {

@@ -15,8 +15,8 @@ ghost use Rattle.hv_world.specs.Worlds.{network_in, method_in, top_in, task_by, 
 
 use crate::action::Action;
 use crate::formula::Formula;
+use crate::intern::effects::effects_in;
 use crate::intern::formulas::formula_in;
-use crate::intern::literals::{added, deleted};
 use crate::intern::networks::{constraints_in, subtasks_in, task_in};
 use crate::intern::terms::types_of;
 use crate::labels::numbered_pairs;
@@ -51,7 +51,9 @@ fn network_in<'s>(
     network: &NetworkText<'s>,
 ) -> Result<Network, Memory>
     requires { IsArrangeable (written_by (said_network network.now)) }
-    ensures { IfOk result (λ n. network_view n ≡ network_in (known_by tables.now) (scope_view scope.now) (said_network network.now)) }
+    ensures { IfOk result
+        (λ n. network_view n
+        ≡ network_in (known_by tables.now) (scope_view scope.now) (said_network network.now)) }
 {
     let subtasks = subtasks_in(alloc, tables, scope, network.subtasks())?;
     let order = order_of(alloc, network)?;
@@ -70,7 +72,8 @@ pub(crate) fn method_in<'s>(
     method: &MethodText<'s>,
 ) -> Result<Method<'s>, Memory>
     requires { IsArrangeable (written_by (said_method method.now).network) }
-    ensures { IfOk result (λ m. method_view m ≡ method_in (known_by tables.now) (said_method method.now)) }
+    ensures { IfOk result
+        (λ m. method_view m ≡ method_in (known_by tables.now) (said_method method.now)) }
 {
     let word = method.name();
     let list = method.parameters();
@@ -149,22 +152,20 @@ pub(crate) fn action_in<'s>(
     tables: &Tables<'s>,
     action: &ActionText<'s>,
 ) -> Result<Action<'s>, Memory>
-    ensures { IfOk result (λ a. action_view a ≡ action_in (known_by tables.now) (said_action action.now)) }
+    ensures { IfOk result
+        (λ a. action_view a ≡ action_in (known_by tables.now) (said_action action.now)) }
 {
     let word = action.name();
     let list = action.parameters();
     let names = Names::of_variables(alloc, list)?;
     let scope = Scope::Parameters(&names, list.len());
-    let literals = action.effect().literals();
     let parameters = types_of(alloc, tables, list)?;
     let precondition = formula_in(alloc, tables, &scope, action.precondition())?;
-    let deletes = deleted(alloc, tables, &scope, literals)?;
-    let adds = added(alloc, tables, &scope, literals)?;
+    let effect = effects_in(alloc, tables, &scope, action.effect().items())?;
     Ok(Action {
         name: word.name(),
         parameters,
         precondition,
-        deletes,
-        adds,
+        effect,
     })
 }

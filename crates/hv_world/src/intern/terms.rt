@@ -1,17 +1,19 @@
 //! Terms, atoms and types over numbers.
 
 ghost use Rattle.std.specs.Prelude.{◌≡◌, map, codes, IfOk};
-ghost use Rattle.hv_syntax.specs.Views.{typed_view, term_view as said_term, atom_view as said_atom, word_view};
+ghost use Rattle.hv_syntax.specs.Views.{typed_view, variable_view, term_view as said_term, atom_view as said_atom, word_view};
 ghost use Rattle.hv_world.specs.inside.Tables.{known_by, scope_view};
-ghost use Rattle.hv_world.specs.Names.{number_in};
+ghost use Rattle.hv_world.specs.Names.{names, number_in};
+ghost use Rattle.hv_world.specs.Eithers.{either_place};
 ghost use Rattle.hv_world.specs.Views.{type_number, term_view, atom_view};
-ghost use Rattle.hv_world.specs.Worlds.{type_of, types_of, term_in, terms_in, atom_in, number_of};
+ghost use Rattle.hv_world.specs.Worlds.{type_of, either_number, number_of_type, variable_type, types_of, term_in, terms_in, atom_in, number_of};
 
 use crate::formula::{Atom, Term};
 use crate::id::{ObjectId, PredicateId, TypeId};
 use crate::scope::Scope;
 use crate::tables::Tables;
-use hv_syntax::{AtomText, Placed, TermText, TypeText, TypedText};
+use crate::tables::gather::names_of;
+use hv_syntax::{AtomText, Placed, TermText, TypeText, TypedText, VariableText};
 use hv_text::{Memory, Name};
 use std::alloc::Global;
 
@@ -25,7 +27,7 @@ fn object_type(tables: &Tables<'_>) -> usize
     }
 }
 
-/// The number of the type of a name or a variable.
+/// The number of the type of a name.
 pub(crate) fn type_of<'s>(tables: &Tables<'s>, typed: TypedText<'s>) -> TypeId
     ensures { type_number result ≡ type_of (known_by tables.now) (typed_view typed.entry) }
 {
@@ -35,17 +37,49 @@ pub(crate) fn type_of<'s>(tables: &Tables<'s>, typed: TypedText<'s>) -> TypeId
     }
 }
 
-/// The numbers of the types of names or variables.
+// The number of the type that several names make; of `object` where they make none.
+fn either_of<'s>(alloc: Global, tables: &Tables<'s>, words: &[Placed<'s>]) -> Result<TypeId, Memory>
+    ensures { IfOk result
+        (λ t. type_number t
+        ≡ either_number (known_by tables.now)
+        (either_place (known_by tables.now).eithers (names (map word_view words.now)))) }
+{
+    let list = names_of(alloc, words)?;
+    match tables.either_place(&list) {
+        Some(place) => Ok(TypeId(tables.number_past(place)?)),
+        None => Ok(TypeId(0)),
+    }
+}
+
+// The number of the type of a variable.
+fn variable_type<'s>(
+    alloc: Global,
+    tables: &Tables<'s>,
+    variable: &VariableText<'s>,
+) -> Result<TypeId, Memory>
+    ensures { IfOk result
+        (λ t. type_number t ≡ variable_type (known_by tables.now) (variable_view variable.now)) }
+{
+    match variable.types() {
+        [] => Ok(TypeId(0)),
+        [word] => Ok(TypeId(tables.type_number(word.name()))),
+        words => either_of(alloc, tables, words),
+    }
+}
+
+/// The numbers of the types of variables.
 pub(crate) fn types_of<'s>(
     alloc: Global,
     tables: &Tables<'s>,
-    list: &[TypedText<'s>],
+    list: &[VariableText<'s>],
 ) -> Result<Vec<TypeId>, Memory>
-    ensures { IfOk result (λ v. map type_number v.items ≡ types_of (known_by tables.now) (map typed_view list.now)) }
+    ensures { IfOk result
+        (λ v. map type_number v.items
+        ≡ types_of (known_by tables.now) (map variable_view list.now)) }
 {
     let mut types = Vec::new(alloc);
-    for typed in list {
-        types.push(type_of(tables, *typed))?;
+    for variable in list {
+        types.push(variable_type(alloc, tables, variable)?)?;
     }
     Ok(types)
 }
@@ -60,7 +94,9 @@ pub(crate) fn term_in<'s>(
     scope: &Scope<'_, 's>,
     term: TermText<'s>,
 ) -> Result<Term, Memory>
-    ensures { IfOk result (λ x. term_view x ≡ term_in (known_by tables.now) (scope_view scope.now) (said_term term.entry)) }
+    ensures { IfOk result
+        (λ x. term_view x
+        ≡ term_in (known_by tables.now) (scope_view scope.now) (said_term term.entry)) }
 {
     match term {
         TermText::Constant(word) => Ok(Term::Object(ObjectId(tables.object_number(word.name())))),
@@ -75,7 +111,9 @@ pub(crate) fn terms_in<'s>(
     scope: &Scope<'_, 's>,
     terms: &[TermText<'s>],
 ) -> Result<Vec<Term>, Memory>
-    ensures { IfOk result (λ v. map term_view v.items ≡ terms_in (known_by tables.now) (scope_view scope.now) (map said_term terms.now)) }
+    ensures { IfOk result
+        (λ v. map term_view v.items
+        ≡ terms_in (known_by tables.now) (scope_view scope.now) (map said_term terms.now)) }
 {
     let mut numbered = Vec::new(alloc);
     for term in terms {
@@ -101,7 +139,9 @@ pub(crate) fn atom_in<'s>(
     scope: &Scope<'_, 's>,
     atom: &AtomText<'s>,
 ) -> Result<Atom, Memory>
-    ensures { IfOk result (λ a. atom_view a ≡ atom_in (known_by tables.now) (scope_view scope.now) (said_atom atom.now)) }
+    ensures { IfOk result
+        (λ a. atom_view a
+        ≡ atom_in (known_by tables.now) (scope_view scope.now) (said_atom atom.now)) }
 {
     let predicate = predicate_of(tables, atom.symbol());
     let terms = terms_in(alloc, tables, scope, atom.terms())?;

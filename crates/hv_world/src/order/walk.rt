@@ -35,7 +35,8 @@ fn open(lists: &[Vec<usize>], walk: &mut Walk, subtask: usize) -> Result<(), All
     requires within { subtask < length lists.now }
     requires walk { IsWalkOf (lists_of lists.now) walk.old }
     requires unseen { mark_at walk.old.marks.items subtask ≡ marks.Unseen }
-    requires next { (a : ℕ) → a < length walk.old.trail.items → Leads (IsListed (lists_of lists.now)) subtask (slice_index walk.old.trail.items a) }
+    requires next { (a : ℕ) → a < length walk.old.trail.items
+        → Leads (IsListed (lists_of lists.now)) subtask (slice_index walk.old.trail.items a) }
     ensures walk { IfOk result (λ _. IsWalkOf (lists_of lists.now) walk.new) }
     ensures steps { IfOk result (λ _. steps_left walk.new < steps_left walk.old) }
     ensures seen { IfOk result (λ _. StaySeen walk.old walk.new) }
@@ -104,7 +105,8 @@ fn go(lists: &[Vec<usize>], walk: &mut Walk, root: usize) -> Result<bool, AllocE
     ensures walk { IfOk result (λ goes. goes ≡ true → IsWalkOf (lists_of lists.now) walk.new) }
     ensures trail { IfOk result (λ goes. goes ≡ true → walk.new.trail.items ≡ []) }
     ensures seen { IfOk result (λ goes. goes ≡ true → StaySeen walk.old walk.new) }
-    ensures root { IfOk result (λ goes. goes ≡ true → mark_at walk.new.marks.items root ≡ marks.Unseen → ⊥) }
+    ensures root { IfOk result
+        (λ goes. goes ≡ true → mark_at walk.new.marks.items root ≡ marks.Unseen → ⊥) }
     ensures cycle { IfOk result (λ goes. goes ≡ false → HasCycle (IsListed (lists_of lists.now))) }
 {
     if let Mark::Unseen = walk.marks[root] {
@@ -122,7 +124,8 @@ fn go(lists: &[Vec<usize>], walk: &mut Walk, root: usize) -> Result<bool, AllocE
 /// How many are listed for each.
 fn lengths(alloc: Global, lists: &[Vec<usize>]) -> Result<Vec<usize>, AllocError>
     ensures count { IfOk result (λ v. length v.items ≡ length lists.now) }
-    ensures each { IfOk result (λ v. (j : ℕ) → slice_index v.items j ≡ length (list_at (lists_of lists.now) j)) }
+    ensures each { IfOk result
+        (λ v. (j : ℕ) → slice_index v.items j ≡ length (list_at (lists_of lists.now) j)) }
 {
     let mut lengths = Vec::new(alloc);
     for list in lists {
@@ -147,7 +150,9 @@ fn start(alloc: Global, lists: &[Vec<usize>]) -> Result<Walk, AllocError>
 /// The subtasks in a row, each behind those before it; None where one is before itself.
 pub(super) fn row_of(alloc: Global, lists: &[Vec<usize>]) -> Result<Option<Vec<usize>>, AllocError>
     requires known { (i j : ℕ) → IsListed (lists_of lists.now) i j → i < length lists.now }
-    ensures { IfOk result (λ o. MatchOption o (HasCycle (IsListed (lists_of lists.now))) (λ v. IsRow (Leads (IsListed (lists_of lists.now))) (length lists.now) v.items)) }
+    ensures { IfOk result
+        (λ o. MatchOption o (HasCycle (IsListed (lists_of lists.now)))
+        (λ v. IsRow (Leads (IsListed (lists_of lists.now))) (length lists.now) v.items)) }
 {
     let mut walk = start(alloc, lists)?;
     for root in 0..lists.len() {

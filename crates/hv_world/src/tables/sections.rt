@@ -14,7 +14,8 @@ use std::alloc::Global;
 
 // The declarations of tasks.
 fn task_declarations<'s>(alloc: Global, tasks: &[TaskText<'s>]) -> Result<Vec<Declared<'s>>, Memory>
-    ensures { IfOk result (λ v. map declaration_view v.items ≡ task_declarations 0 (map task_view tasks.now)) }
+    ensures { IfOk result
+        (λ v. map declaration_view v.items ≡ task_declarations 0 (map task_view tasks.now)) }
 {
     let mut found = Vec::new(alloc);
     for number in 0..tasks.len() {
@@ -34,7 +35,8 @@ fn action_declarations<'s>(
     alloc: Global,
     actions: &[ActionText<'s>],
 ) -> Result<Vec<Declared<'s>>, Memory>
-    ensures { IfOk result (λ v. map declaration_view v.items ≡ action_declarations 0 (map action_view actions.now)) }
+    ensures { IfOk result
+        (λ v. map declaration_view v.items ≡ action_declarations 0 (map action_view actions.now)) }
 {
     let mut found = Vec::new(alloc);
     for number in 0..actions.len() {
@@ -52,7 +54,10 @@ fn action_declarations<'s>(
 // Where the first of these stands, from a place on, that does not start before a declaration.
 fn first_behind(declared: Declared<'_>, list: &[Declared<'_>], done: usize) -> usize
     requires { done ≤ length list.now }
-    ensures counted { result ≡ done + length (those_before (declaration_view declared.entry) (map declaration_view (drop done list.now))) }
+    ensures counted { result
+        ≡ done + length
+        (those_before (declaration_view declared.entry)
+        (map declaration_view (drop done list.now))) }
     ensures from { done ≤ result }
     ensures within { result ≤ length list.now }
 {
@@ -73,7 +78,8 @@ fn push_part<'s>(
     to: usize,
 ) -> Result<(), Memory>
     requires { to ≤ length list.now }
-    ensures { OnOk result (merged.new.items ≡ merged.old.items ++ take (to - from) (drop from list.now)) }
+    ensures { OnOk result
+        (merged.new.items ≡ merged.old.items ++ take (to - from) (drop from list.now)) }
 {
     for place in from..to {
         merged.push(list[place])?;
@@ -90,7 +96,9 @@ fn push_behind<'s>(
     to: usize,
 ) -> Result<(), Memory>
     requires { to ≤ length list.now }
-    ensures { OnOk result (merged.new.items ≡ merged.old.items ++ take (to - from) (drop from list.now) ++ declared.entry ∷ []) }
+    ensures { OnOk result
+        (merged.new.items ≡ merged.old.items ++ take (to - from) (drop from list.now)
+        ++ declared.entry ∷ []) }
 {
     push_part(merged, list, from, to)?;
     merged.push(declared)?;
@@ -103,7 +111,9 @@ fn by_place<'s>(
     tasks: &[Declared<'s>],
     actions: &[Declared<'s>],
 ) -> Result<Vec<Declared<'s>>, Memory>
-    ensures { IfOk result (λ v. map declaration_view v.items ≡ by_place (map declaration_view tasks.now) (map declaration_view actions.now)) }
+    ensures { IfOk result
+        (λ v. map declaration_view v.items
+        ≡ by_place (map declaration_view tasks.now) (map declaration_view actions.now)) }
 {
     let mut merged = Vec::new(alloc);
     let mut done = 0;
@@ -121,7 +131,8 @@ pub(crate) fn declarations<'s>(
     alloc: Global,
     domain: &DomainText<'s>,
 ) -> Result<Vec<Declared<'s>>, Memory>
-    ensures { IfOk result (λ v. map declaration_view v.items ≡ declarations (domain_view domain.now)) }
+    ensures { IfOk result
+        (λ v. map declaration_view v.items ≡ declarations (domain_view domain.now)) }
 {
     let tasks = task_declarations(alloc, domain.tasks())?;
     let actions = action_declarations(alloc, domain.actions())?;

@@ -42,7 +42,9 @@ fn add_types<'s>(
     list: &[TypedText<'s>],
 ) -> Result<(), Memory>
     ensures seed { hasher_of names.new ≡ hasher_of names.old }
-    ensures keys { OnOk result (map text_of names.new.keys ≡ with_names (map text_of names.old.keys) (flat_map both_types (map typed_view list.now))) }
+    ensures keys { OnOk result
+        (map text_of names.new.keys
+        ≡ with_names (map text_of names.old.keys) (flat_map both_types (map typed_view list.now))) }
 {
     for typed in list {
         let word = typed.name();
@@ -58,7 +60,9 @@ fn add_names<'s>(
     list: &[TypedText<'s>],
 ) -> Result<(), Memory>
     ensures seed { hasher_of names.new ≡ hasher_of names.old }
-    ensures keys { OnOk result (map text_of names.new.keys ≡ with_names (map text_of names.old.keys) (variables (map typed_view list.now))) }
+    ensures keys { OnOk result
+        (map text_of names.new.keys
+        ≡ with_names (map text_of names.old.keys) (variables (map typed_view list.now))) }
 {
     for typed in list {
         let word = typed.name();
@@ -72,8 +76,11 @@ pub(crate) fn type_names<'s>(
     alloc: Global,
     list: &[TypedText<'s>],
 ) -> Result<IndexSet<Name<'s>, Seeded>, Memory>
-    ensures seed { IfOk result (λ t. (hasher_of t).start ≡ start_of (flat_map written_names (map typed_view list.now))) }
-    ensures keys { IfOk result (λ t. map text_of t.keys ≡ by_sight (codes "object" ∷ flat_map both_types (map typed_view list.now))) }
+    ensures seed { IfOk result
+        (λ t. (hasher_of t).start ≡ start_of (flat_map written_names (map typed_view list.now))) }
+    ensures keys { IfOk result
+        (λ t. map text_of t.keys
+        ≡ by_sight (codes "object" ∷ flat_map both_types (map typed_view list.now))) }
 {
     let mut names = IndexSet::with_hasher(alloc, Seeded::new().with_typed(list));
     names.insert(object())?;
@@ -87,8 +94,13 @@ pub(crate) fn object_names<'s>(
     constants: &[TypedText<'s>],
     objects: &[TypedText<'s>],
 ) -> Result<IndexSet<Name<'s>, Seeded>, Memory>
-    ensures seed { IfOk result (λ t. (hasher_of t).start ≡ with_taken_in (start_of (flat_map written_names (map typed_view constants.now))) (flat_map written_names (map typed_view objects.now))) }
-    ensures keys { IfOk result (λ t. map text_of t.keys ≡ by_sight (variables (map typed_view constants.now ++ map typed_view objects.now))) }
+    ensures seed { IfOk result
+        (λ t. (hasher_of t).start
+        ≡ with_taken_in (start_of (flat_map written_names (map typed_view constants.now)))
+        (flat_map written_names (map typed_view objects.now))) }
+    ensures keys { IfOk result
+        (λ t. map text_of t.keys
+        ≡ by_sight (variables (map typed_view constants.now ++ map typed_view objects.now))) }
 {
     let seed = Seeded::new().with_typed(constants).with_typed(objects);
     let mut names = IndexSet::with_hasher(alloc, seed);

@@ -17,7 +17,8 @@ pub(crate) fn predicate_words<'s>(
     alloc: Global,
     predicates: &[PredicateText<'s>],
 ) -> Result<Vec<Placed<'s>>, Memory>
-    ensures { IfOk result (λ v. map word_view v.items ≡ predicate_words (map predicate_view predicates.now)) }
+    ensures { IfOk result
+        (λ v. map word_view v.items ≡ predicate_words (map predicate_view predicates.now)) }
 {
     let mut words = Vec::new(alloc);
     for predicate in predicates {
@@ -28,7 +29,8 @@ pub(crate) fn predicate_words<'s>(
 
 /// How many terms each predicate takes.
 pub(crate) fn arities(alloc: Global, predicates: &[PredicateText<'_>]) -> Result<Vec<usize>, Memory>
-    ensures { IfOk result (λ v. v.items ≡ map (λ p. length p.parameters) (map predicate_view predicates.now)) }
+    ensures { IfOk result
+        (λ v. v.items ≡ map (λ p. length p.parameters) (map predicate_view predicates.now)) }
 {
     let mut counts = Vec::new(alloc);
     for predicate in predicates {
@@ -42,7 +44,8 @@ pub(crate) fn method_words<'s>(
     alloc: Global,
     methods: &[MethodText<'s>],
 ) -> Result<Vec<Placed<'s>>, Memory>
-    ensures { IfOk result (λ v. map word_view v.items ≡ method_words (map method_view methods.now)) }
+    ensures { IfOk result
+        (λ v. map word_view v.items ≡ method_words (map method_view methods.now)) }
 {
     let mut words = Vec::new(alloc);
     for method in methods {
@@ -56,7 +59,8 @@ pub(crate) fn declared_words<'s>(
     alloc: Global,
     list: &[Declared<'s>],
 ) -> Result<Vec<Placed<'s>>, Memory>
-    ensures { IfOk result (λ v. map word_view v.items ≡ declared_words (map declaration_view list.now)) }
+    ensures { IfOk result
+        (λ v. map word_view v.items ≡ declared_words (map declaration_view list.now)) }
 {
     let mut words = Vec::new(alloc);
     for declared in list {

@@ -1,16 +1,16 @@
 use Rattle.std.proofs.Common.{◌<◌, ◌+◌, ◌++◌, ◌∷◌, [], map, get_or, sym, subst, ap, arith, rules, ◌∙◌}
-use Rattle.hv_world.specs.Bindings.{objects_in}
+use Rattle.hv_world.specs.Bindings.{GroundAtom, objects_in}
 use Rattle.hv_world.specs.WorldViews.{world_view}
 use Rattle.hv_world.specs.Values.{formulas_of}
 use Rattle.hv_world.specs.Views.{formula_view, type_number}
-use Rattle.hv_state.specs.Atoms.{GroundAtom}
 use Rattle.hv_state.specs.Truth.{ForSome}
 use Rattle.hv_state.specs.Changes.{Mentions, SomeMention}
 use Rattle.hv_state.specs.inside.Histories.{IsNext}
 use Rattle.hv_state.proofs.Levels.{levels, most_levels}
 use Rattle.hv_state.proofs.FormulaLemmas.{view-Forall, view-Exists, part_below}
 use Rattle.hv_state.proofs.Chosen.{front}
-use Rattle.hv_state.proofs.NextLemmas.{SomeOf, next_like, next_push, next_all, mentioned_parts, mentioned_objects}
+use Rattle.hv_state.proofs.SomeLemmas.{SomeOf, some_objects}
+use Rattle.hv_state.proofs.NextLemmas.{next_like, next_push, next_all, mentioned_parts}
 use Rattle.hv_state.proofs.next.+next_change.Goals as goal
 
 pub next_change-returns-in-Forall : goal.next_change-returns-in-Forall
@@ -66,4 +66,4 @@ next_of_some-returns-after-loop-object t c =
     let first = get_or c.args.of.now 0 (record { 0 = 0 }) in
     let all = next_all c.args.changes.now c.args.k c.args.end (λ o g. ForSome w (Mentions w g f) _ (env ++ o.0 ∷ [])) objects c.loop-object.object-index c.loop-object.until (omega arith) c.loop-object.invariant in
     subst (λ ts. IsNext c.args.changes.now c.args.k c.args.end (λ g. ForSome w (Mentions w g f) ts env) c.loop-object.until) (sym (front c.args.of.now (record { 0 = 0 }) (omega arith)))
-    (next_like c.args.changes.now c.args.k c.args.end _ _ c.loop-object.until (λ g. mentioned_objects w first.0 objects c.objects_of-object-items.ensures.exact (Mentions w g f) _ env) all)
+    (next_like c.args.changes.now c.args.k c.args.end _ _ c.loop-object.until (λ g. some_objects w first.0 objects c.objects_of-object-items.ensures.exact (Mentions w g f) _ env) all)

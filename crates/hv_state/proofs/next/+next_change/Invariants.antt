@@ -7,7 +7,7 @@ use Rattle.hv_state.specs.Truth.{ForSome}
 use Rattle.hv_state.specs.Changes.{Mentions}
 use Rattle.hv_state.specs.inside.Histories.{IsNext}
 use Rattle.hv_state.proofs.Levels.{levels, most_levels}
-use Rattle.hv_state.proofs.NextLemmas.{SomeOf}
+use Rattle.hv_state.proofs.SomeLemmas.{SomeOf}
 use Rattle.hv_state.proofs.next.+next_change.Given as goal
 
 abbrev pub decreases-next_change : goal.decreases-next_change

@@ -1,8 +1,11 @@
-use Rattle.std.proofs.Common.{rules, ◌≡◌, Some, slice_get, option_map, map, sym, subst, ap, ◌∙◌, IsTrue}
+use Rattle.std.proofs.Common.{rules, ◌≡◌, Bool, true, false, List, ℕ, Some, slice_get, option_map, map, sym, subst, ap, ◌∙◌, IsTrue}
+use Rattle.std.specs.List.{Contains}
 use Rattle.hv_world.specs.Bindings.{object_number, ground_action_view}
+use Rattle.hv_world.specs.Effects.{SomeMakes}
 use Rattle.hv_world.specs.SectionViews.{action_view}
+use Rattle.hv_world.specs.Values.{Effects}
 use Rattle.hv_world.specs.WorldViews.{world_view}
-use Rattle.hv_state.specs.Atoms.{atoms_under}
+use Rattle.hv_state.specs.Atoms.{Atoms, Same}
 use Rattle.hv_state.specs.inside.Notes.{AreNoted}
 use Rattle.hv_state.proofs.StateLemmas.{atoms_are}
 use Rattle.hv_state.proofs.NoteLemmas.{passed}
@@ -20,10 +23,12 @@ returns-clause-done g c = λ ran.
     let deletes = c.in_ok-deletes.deletes in
     let adds = c.in_ok-adds.adds in
     let there : slice_get w.actions step.action ≡ Some a = sym (c.action-2.ensures ∙ ap (slice_get w.actions) c.action.ensures) ∙ ap (option_map (λ x. action_view x.now)) c.in-Some.is in
-    let objects : map object_number c.objects.result.now ≡ step.objects = c.objects.ensures in
-    let gone : deletes ≡ atoms_under step.objects a.deletes = c.in_ok-deletes.ensures ∙ (λ i. atoms_under (objects i) (c.deletes.ensures i)) in
-    let come : adds ≡ atoms_under step.objects a.adds = c.in_ok-adds.ensures ∙ (λ i. atoms_under (objects i) (c.adds.ensures i)) in
+    let env = map object_number c.objects.result.now in
+    let objects : env ≡ step.objects = c.objects.ensures in
+    let makes = λ (b : Bool) (os : List ℕ) (es : Effects) (S : Atoms). Same S (SomeMakes w.typing b os es) in
+    let gone = subst (λ os. makes false os a.effect (Contains deletes)) objects (subst (λ es. makes false env es (Contains deletes)) c.effect.ensures c.in_ok-deletes.ensures) in
+    let come = subst (λ os. makes true os a.effect (Contains adds)) objects (subst (λ es. makes true env es (Contains adds)) c.effect-2.ensures c.in_ok-adds.ensures) in
     let is : IsTrue c.truth.result = search (rules, c.if-not-truth.false) in
-    let first = subst (λ xs. AreNoted start after from xs c.args.changes.now c.note_all.new.changes) (atoms_are _ deletes c.rows.ensures) c.in_ok-note_all.ensures in
-    let next = subst (λ xs. AreNoted start after from xs c.note_all.new.changes c.note_all-2.new.changes) (atoms_are _ adds c.rows-2.ensures) c.in_ok-note_all-2.ensures in
-    passed w step a there start before after from c.args.changes.now c.note_all.new.changes c.note_all-2.new.changes deletes adds _ (map object_number c.objects.result.now) objects c.precondition.ensures gone come (c.truth.ensures.0 is) c.in_ok-apply.ensures.ok first next
+    let first = subst (λ xs. AreNoted start after from (Contains xs) c.args.changes.now c.note_all.new.changes) (atoms_are _ deletes c.rows.ensures) c.in_ok-note_all.ensures in
+    let next = subst (λ xs. AreNoted start after from (Contains xs) c.note_all.new.changes c.note_all-2.new.changes) (atoms_are _ adds c.rows-2.ensures) c.in_ok-note_all-2.ensures in
+    passed w step a there start before after from c.args.changes.now c.note_all.new.changes c.note_all-2.new.changes deletes adds _ env objects c.precondition.ensures gone come (c.truth.ensures.0 is) c.in_ok-apply.ensures.ok first next

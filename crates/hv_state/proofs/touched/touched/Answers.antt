@@ -1,11 +1,10 @@
-use Rattle.std.proofs.Common.{◌≡◌, ◌↔◌, ◌⊎◌, ◌+◌, ℕ, List, [], drop, map, sym, subst, arith}
+use Rattle.std.proofs.Common.{◌≡◌, ◌↔◌, ◌⊎◌, inl, inr, ◌+◌, ℕ, List, [], drop, sym, subst, arith}
 use Rattle.std.specs.List.{Contains}
 use Rattle.std.proofs.lemmas.List.{at_drop_all}
 use Rattle.hv_world.specs.Bindings.{ground_action_view, ground_actions_view}
 use Rattle.hv_world.specs.WorldViews.{world_view}
-use Rattle.hv_state.specs.inside.Rows.{row_of, rows_in, HasSameRows}
-use Rattle.hv_state.specs.inside.Notes.{touched_in}
-use Rattle.hv_state.proofs.RowLemmas.{put_in}
+use Rattle.hv_state.specs.inside.Rows.{IsRowOf, rows_in, HasSameRows}
+use Rattle.hv_state.specs.inside.Notes.{TouchedIn}
 use Rattle.hv_state.proofs.NoteLemmas.{actions_left, touched_more}
 use Rattle.hv_state.proofs.touched.touched.Goals.{then-len-distinct+in_ok-merge_distinct, else-len-distinct}
 use Rattle.hv_state.proofs.touched.touched.Goals as goal
@@ -18,17 +17,17 @@ loop-number-preserved c =
     let old = rows_in c.loop-number.rows.items in
     let pushed = rows_in c.push_touched.new.rows.items in
     let now = rows_in c.if-len-distinct.rows.items in
-    let Q = λ (r : List ℕ). Contains (map row_of (touched_in w actions)) r in
+    let Q = IsRowOf (TouchedIn w actions) in
     let same : HasSameRows pushed now = elim c.if-len-distinct.branch [ then-len-distinct+in_ok-merge_distinct b ↦ subst (λ v. HasSameRows pushed (rows_in v.items)) (sym b.rows-is) b.in_ok-merge_distinct.ensures.exact | else-len-distinct b ↦ subst (λ v. HasSameRows pushed (rows_in v.items)) (sym b.rows-is) (λ r. (λ m. m, λ m. m)) ] in
-    let before = subst (λ xs. (r : List ℕ) → (Contains old r ⊎ Contains (map row_of (touched_in w xs)) r) ↔ Q r) (actions_left actions i (ground_action_view c.at.result) c.at.ensures) c.loop-number.invariant in
+    let before = subst (λ xs. (r : List ℕ) → (Contains old r ⊎ IsRowOf (TouchedIn w xs) r) ↔ Q r) (actions_left actions i (ground_action_view c.at.result) c.at.ensures) c.loop-number.invariant in
     touched_more w old pushed now (ground_action_view c.at.result) (drop (i + 1) actions) Q c.in_ok-push_touched.ensures same before
 
 pub returns-clause-exact : goal.returns-clause-exact
 returns-clause-exact c = λ r.
     let w = world_view c.args.world.now in
     let actions = ground_actions_view c.args.actions.now in
-    let Q = λ (x : List ℕ). Contains (map row_of (touched_in w actions)) x in
-    let none : map row_of (touched_in w (drop c.loop-number.number actions)) ≡ [] = at_drop_all (λ xs. map row_of (touched_in w xs)) actions c.loop-number.number (omega (arith, c.loop-number-test.false, c.len-number-end.ensures)) in
-    let whole = put_in (rows_in c.loop-number.rows.items) _ Q none c.loop-number.invariant r in
+    let rows = rows_in c.loop-number.rows.items in
+    let none : drop c.loop-number.number actions ≡ [] = at_drop_all (λ xs. xs) actions c.loop-number.number (omega (arith, c.loop-number-test.false, c.len-number-end.ensures)) in
+    let whole = subst (λ xs. (Contains rows r ⊎ IsRowOf (TouchedIn w xs) r) ↔ IsRowOf (TouchedIn w actions) r) none (c.loop-number.invariant r) in
     let same = c.in_ok-merge_distinct-2.ensures.exact r in
-    (λ m. whole.0 (same.0 m), λ m. same.1 (whole.1 m))
+    (λ m. whole.0 (inl (same.0 m)), λ m. same.1 (elim (whole.1 m) [ inl l ↦ l | inr x ↦ absurd x.1 ]))

@@ -1,4 +1,5 @@
-use Rattle.hv_syntax.proofs.PartSpellings.{literal_table, effect_table}
+use Rattle.hv_syntax.proofs.PartSpellings.{literal_table}
+use Rattle.hv_syntax.proofs.EffectSpellings.{effect_table}
 use Rattle.hv_syntax.proofs.laws.effects_are_spelled.Goals as goal
 
 pub returns-clause-literals : goal.returns-clause-literals

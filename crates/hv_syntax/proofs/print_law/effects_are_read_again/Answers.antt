@@ -1,6 +1,6 @@
 use Rattle.std.proofs.Common.{subst}
 use Rattle.std.specs.Prelude.{IfSome}
-use Rattle.hv_syntax.proofs.AgainFormulas.{IsEffectAgain, effect_again}
+use Rattle.hv_syntax.proofs.AgainEffects.{IsEffectAgain, effect_again}
 use Rattle.hv_syntax.proofs.print_law.effects_are_read_again.Goals as goal
 
 pub returns : goal.returns

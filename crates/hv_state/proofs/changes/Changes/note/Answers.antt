@@ -1,4 +1,4 @@
-use Rattle.std.proofs.Common.{◌≡◌, ◌<◌, ◌↔◌, ◌∷◌, [], map, length, get_or, sym, subst, ap, ◌∙◌, IsTrue}
+use Rattle.std.proofs.Common.{◌≡◌, ◌<◌, ◌↔◌, [], map, length, get_or, sym, subst, ap, ◌∙◌, IsTrue}
 use Rattle.hv_state.specs.Atoms.{atom_read}
 use Rattle.hv_state.specs.Changes.{Change, Tells}
 use Rattle.hv_state.specs.inside.Rows.{row_of, IsGap}
@@ -41,7 +41,7 @@ returns-in_ok-push_at g c =
     let list = changes_beside hs row c.in-Ok.place c.index.result.now c.self.invariant.0.rows found.0 found.1 c.index.ensures in
     let apart = subst (Contradicts (start atom) change) (sym list) (subst (λ xs. Contradicts (start atom) change (map change_view xs)) c.deref-in-Ok.ensures.value (c.turns.ensures.turned c.if-turns.true)) in
     let added = is_added hs row c.in-Ok.place c.index.result.now c.self.invariant.0 found.0 found.1 c.index.ensures change new c.in_ok-push_at.ensures.ok in
-    subst (λ t. AreNoted start now c.args.from (atom ∷ []) t new) c.self.view_is (noted_added start now c.args.from atom (map history_view hs) change.1 new c.holds-is_true.ensures apart added)
+    subst (λ t. AreNoted start now c.args.from (λ h. atom ≡ h) t new) c.self.view_is (noted_added start now c.args.from atom (map history_view hs) change.1 new c.holds-is_true.ensures apart added)
 
 pub returns-else-turns : goal.returns-else-turns
 returns-else-turns g c =
@@ -57,7 +57,7 @@ returns-else-turns g c =
     let same = noted_same start now from atom (map history_view hs) (λ m room.
     let told = subst (λ cs. Tells (start atom) from cs ↔ IsTrue c.holds-is_true.result) (sym list) (c.turns.ensures.same c.if-turns.false (subst (Before from) list room)) in
     (λ h. is.0 (told.0 h), λ h. told.1 (is.1 h))) in
-    subst (λ t. AreNoted start now from (atom ∷ []) t t) c.self.view_is same
+    subst (λ t. AreNoted start now from (λ h. atom ≡ h) t t) c.self.view_is same
 
 pub returns-in_default : goal.returns-in_default
 returns-in_default g c =
@@ -68,4 +68,4 @@ returns-in_default g c =
     let now = g.S.State.atoms c.args.state.now in
     let gap = subst (λ xs. IsGap (rows_of (map history_view xs)) row c.in_default.field-0) c.deref.ensures.value c.in_default.ensures in
     let same = noted_same start now c.args.from atom (map history_view hs) (λ m room. absurd (gap_lacks (rows_of (map history_view hs)) c.in_default.field-0 row gap m)) in
-    subst (λ t. AreNoted start now c.args.from (atom ∷ []) t t) c.self.view_is same
+    subst (λ t. AreNoted start now c.args.from (λ h. atom ≡ h) t t) c.self.view_is same

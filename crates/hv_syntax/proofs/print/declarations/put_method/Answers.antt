@@ -1,5 +1,5 @@
 use Rattle.std.proofs.Common.{◌++◌, codes}
-use Rattle.hv_syntax.specs.Canonical.{text, spaced, the_list, typed_members, atom_expression, formula_expression, network_fields}
+use Rattle.hv_syntax.specs.Canonical.{text, spaced, the_list, variable_members, atom_expression, formula_expression, network_fields}
 use Rattle.hv_syntax.proofs.PrintLemmas.{step, step_seen, end_seen, closed, grown}
 use Rattle.hv_syntax.proofs.print.declarations.put_method.Goals as goal
 
@@ -9,7 +9,7 @@ returns c =
     (closed _
     (step _ c.in_ok-extend_from_slice.ensures.items
     (step_seen (λ w. w.text) c.name.ensures c.in_ok-put_word.ensures
-    (step_seen (λ vs. codes " :parameters " ++ text (the_list (typed_members vs))) c.parameters.ensures c.in_ok-put_parameters.ensures
+    (step_seen (λ vs. codes " :parameters " ++ text (the_list (variable_members vs))) c.parameters.ensures c.in_ok-put_parameters.ensures
     (step _ c.in_ok-extend_from_slice-2.ensures.items
     (step_seen (λ a. text (atom_expression a)) c.task.ensures c.in_ok-put_atom.ensures
     (step_seen (λ f. codes " :precondition " ++ text (formula_expression f)) c.precondition.ensures c.in_ok-put_precondition.ensures

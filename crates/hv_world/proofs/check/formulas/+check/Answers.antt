@@ -1,5 +1,5 @@
 use Rattle.std.proofs.Common.{map, ◌∙◌, arith}
-use Rattle.hv_syntax.specs.Views.{typed_view, formula_view}
+use Rattle.hv_syntax.specs.Views.{variable_view, formula_view}
 use Rattle.hv_world.specs.Known.{variables}
 use Rattle.hv_world.specs.Scopes.{inside}
 use Rattle.hv_world.specs.StaticRules.{variable_faults, formula_faults}
@@ -25,7 +25,7 @@ formulas_fault-loop-formula-preserved t c =
 pub quantified_fault-returns : goal.quantified_fault-returns
 quantified_fault-returns t c =
     let a = c.args in
-    let list = map typed_view a.list.now in
+    let list = map variable_view a.list.now in
     let k = known_by a.tables.now in
     c.earlier.ensures
     ∙ least-both (variable_faults k a.side list) (formula_faults k a.side (inside (scope_view a.scope.now) (variables list)) (formula_view a.part.now)) _ _ c.variable_fault-variables.ensures

@@ -5,7 +5,7 @@ use Rattle.hv_syntax.specs.DomainViews.{domain_view}
 use Rattle.hv_syntax.specs.ProblemViews.{problem_view}
 use Rattle.hv_world.specs.Names.{names, place_in, by_sight}
 use Rattle.hv_world.specs.Known.{both_types, variables, predicate_words}
-use Rattle.hv_world.specs.inside.Tables.{places_by, declaration_view}
+use Rattle.hv_world.specs.inside.Tables.{names_in, places_by, declaration_view}
 use Rattle.hv_world.proofs.TableLemmas.{known_is}
 use Rattle.hv_world.proofs.tables.Tables.of.Goals as goal
 
@@ -15,9 +15,10 @@ returns c =
     let problem = problem_view c.args.problem.now in
     let predicates = c.in_ok-predicates.predicates in
     let tasks = c.in_ok-tasks.tasks in
-    known_is domain problem (map text_of c.in_ok-types.types.keys) (map text_of c.in_ok-objects.objects.keys) predicates.arities.items (map declaration_view tasks.list.items)
+    known_is domain problem (map text_of c.in_ok-types.types.names.keys) (map text_of c.in_ok-objects.objects.keys) (map names_in c.in_ok-types.types.eithers.keys) predicates.arities.items (map declaration_view tasks.list.items)
     (places_by predicates.places) (places_by tasks.places)
-    (c.in_ok-types.ensures.keys ∙ ap (λ ts. by_sight (codes "object" ∷ flat_map both_types ts)) c.types.ensures)
+    c.in_ok-types.ensures.names
+    c.in_ok-types.ensures.eithers
     (c.in_ok-objects.ensures.keys ∙ (λ i. by_sight (variables (c.constants.ensures i ++ c.objects.ensures i))))
     (c.in_ok-predicates.ensures.places ∙ ap (λ ps. place_in (names (predicate_words ps))) c.predicates.ensures)
     (c.in_ok-predicates.ensures.arities ∙ ap (λ ps. map (λ p. length p.parameters) ps) c.predicates.ensures)
