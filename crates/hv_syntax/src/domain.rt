@@ -6,9 +6,11 @@ ghost use Rattle.hv_text.specs.Trees.{tree, trees};
 ghost use Rattle.hv_syntax.specs.inside.Reading.{Gives};
 ghost use Rattle.hv_syntax.specs.inside.Faults.{Answers, IsMemory};
 ghost use Rattle.hv_syntax.specs.Domains.{domain_standing, add_section, no_domain};
-ghost use Rattle.hv_syntax.specs.inside.Domains.{domain_section_by, domain_section, domain_from, domain_of};
+ghost use Rattle.hv_syntax.specs.inside.Domains.{domain_section_by, domain_section, domain_from};
+ghost use Rattle.hv_syntax.specs.inside.Domains.{domain_of};
 ghost use Rattle.hv_syntax.specs.Views.{word_view, typed_view};
-ghost use Rattle.hv_syntax.specs.DeclarationViews.{predicate_view, task_view, method_view, action_view};
+ghost use Rattle.hv_syntax.specs.DeclarationViews.{predicate_view, task_view, method_view};
+ghost use Rattle.hv_syntax.specs.DeclarationViews.{action_view};
 ghost use Rattle.hv_syntax.specs.DomainViews.{domain_section_view, domain_view};
 
 use crate::action::{ActionText, read_action};
@@ -134,7 +136,8 @@ fn read_members<'s>(
     span: Span,
     es: &[Sexp<'s>],
 ) -> Result<DomainSection<'s>, Refusal>
-    ensures { Gives domain_section_view result (domain_section_by (text_of name.entry) span (trees es.now)) }
+    ensures { Gives domain_section_view result
+        (domain_section_by (text_of name.entry) span (trees es.now)) }
 {
     if name.is(b":requirements") {
         return read_keywords(alloc, es).map(DomainSection::Requirements);
@@ -166,7 +169,8 @@ fn read_section<'s>(
     before: &[Sexp<'s>],
     e: &Sexp<'s>,
 ) -> Result<DomainSection<'s>, SyntaxFault>
-    ensures { Answers domain_section_view result (domain_section (map tree before.now) (tree e.now)) }
+    ensures { Answers domain_section_view result
+        (domain_section (map tree before.now) (tree e.now)) }
 {
     let span = span_of(e);
     let Some((name, members)) = headed(e) else {
@@ -185,7 +189,8 @@ fn read_section<'s>(
 }
 
 fn add<'s>(domain: &mut DomainText<'s>, section: DomainSection<'s>) -> Result<(), SyntaxFault>
-    ensures ok { OnOk result (domain_view domain.new ≡ add_section (domain_view domain.old) (domain_section_view section.entry)) }
+    ensures ok { OnOk result (domain_view domain.new
+        ≡ add_section (domain_view domain.old) (domain_section_view section.entry)) }
     ensures err { IfErr result (λ f. IsMemory f) }
 {
     match section {
@@ -220,7 +225,8 @@ fn read_sections<'s>(
     name: Placed<'s>,
     es: &[Sexp<'s>],
 ) -> Result<DomainText<'s>, SyntaxFault>
-    ensures { Answers domain_view result (domain_from (no_domain (word_view name.entry)) [] (trees es.now)) }
+    ensures { Answers domain_view result
+        (domain_from (no_domain (word_view name.entry)) [] (trees es.now)) }
 {
     let mut domain = no_domain(alloc, name);
     for i in 0..es.len() {

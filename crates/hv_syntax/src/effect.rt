@@ -85,7 +85,8 @@ fn read_effect_items<'s>(alloc: Global, e: &Sexp<'s>) -> Result<Vec<ItemText<'s>
 // The members behind `forall`: its variables, and an effect.
 #[cycle(effect)]
 fn read_forall<'s>(alloc: Global, others: &[Sexp<'s>]) -> Result<ItemText<'s>, Refusal>
-    ensures { Gives item_view result (option_map item_for_all (quantified (trees others.now) (each_effect (trees others.now)))) }
+    ensures { Gives item_view result
+        (option_map item_for_all (quantified (trees others.now) (each_effect (trees others.now)))) }
 {
     if others.len() != 2 {
         return Err(Refusal::NoSpelling);

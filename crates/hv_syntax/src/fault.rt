@@ -63,7 +63,8 @@ impl<T: Drop> From<AllocFailed<T>> for SyntaxFault {
     ghost use Rattle.hv_syntax.specs.declared.fault.SyntaxKind.TheVariants as kinds;
     ghost use Rattle.hv_text.specs.declared.fault.TextKind.TheVariants as texts;
 
-    ghost from_gives = { λ _ e. (e.kind ≡ kinds.Text texts.Memory) × (e.span ≡ record { start = 0; past = 0 }) };
+    ghost from_gives = { λ _ e. (e.kind ≡ kinds.Text texts.Memory)
+        × (e.span ≡ record { start = 0; past = 0 }) };
 
     fn from(_refused: AllocFailed<T>) -> SyntaxFault {
         SyntaxFault::memory()

@@ -4,7 +4,9 @@ ghost use Rattle.std.specs.Prelude.{map};
 ghost use Rattle.hv_text.specs.Trees.{tree, trees};
 ghost use Rattle.hv_syntax.specs.inside.Reading.{Gives, every};
 ghost use Rattle.hv_syntax.specs.Words.{head_of};
-ghost use Rattle.hv_syntax.specs.inside.Formulas.{formula_of, formula_by, each_formula, variables_of, negation, implication, quantified, equality};
+ghost use Rattle.hv_syntax.specs.inside.Formulas.{formula_of, formula_by, each_formula};
+ghost use Rattle.hv_syntax.specs.inside.Formulas.{variables_of, negation, implication, quantified};
+ghost use Rattle.hv_syntax.specs.inside.Formulas.{equality};
 ghost use Rattle.hv_syntax.specs.Views.{formula_view, variable_view, word_view};
 
 use crate::list::two;
@@ -91,7 +93,9 @@ fn read_headed<'s>(
     head: Placed<'s>,
     others: &[Sexp<'s>],
 ) -> Result<FormulaText<'s>, Refusal>
-    ensures { Gives formula_view result (formula_by (head_of (word_view head.entry).text) (word_view head.entry) (trees others.now) (each_formula (trees others.now))) }
+    ensures { Gives formula_view result
+        (formula_by (head_of (word_view head.entry).text) (word_view head.entry) (trees others.now)
+        (each_formula (trees others.now))) }
 {
     match head_of(head.name) {
         Head::And => Ok(FormulaText::And(read_formulas(alloc, others)?)),
@@ -149,7 +153,8 @@ fn read_quantified<'s>(
     alloc: Global,
     others: &[Sexp<'s>],
 ) -> Result<(Vec<VariableText<'s>>, Box<FormulaText<'s>>), Refusal>
-    ensures { Gives (λ p. (map variable_view p.0.items, formula_view p.1.value)) result (quantified (trees others.now) (each_formula (trees others.now))) }
+    ensures { Gives (λ p. (map variable_view p.0.items, formula_view p.1.value)) result
+        (quantified (trees others.now) (each_formula (trees others.now))) }
 {
     if others.len() != 2 {
         return Err(Refusal::NoSpelling);

@@ -98,7 +98,8 @@ pub(crate) fn read_ground_literals<'s>(
     alloc: Global,
     es: &[Sexp<'s>],
 ) -> Result<Vec<LiteralText<'s>>, Refusal>
-    ensures { Gives (λ v. map literal_view v.items) result (every ground_literal_of (trees es.now)) }
+    ensures { Gives (λ v. map literal_view v.items) result
+        (every ground_literal_of (trees es.now)) }
 {
     let mut literals = Vec::new(alloc);
     for e in es {
@@ -107,7 +108,8 @@ pub(crate) fn read_ground_literals<'s>(
     Ok(literals)
 }
 
-/// Reads literals whose terms are names, one at a time up to the end of the list, and the place there.
+/// Reads literals whose terms are names, one at a time up to the end of the list, and the place
+/// there.
 ///
 /// # Errors
 ///
@@ -116,7 +118,8 @@ pub(crate) fn read_ground_literals_at<'s>(
     alloc: Global,
     from: Cursor<'s>,
 ) -> Result<(Vec<LiteralText<'s>>, Cursor<'s>), Refusal>
-    ensures every { Gives (λ p. map literal_view p.0.items) result (every ground_literal_of (here (rest_at from.entry))) }
+    ensures every { Gives (λ p. map literal_view p.0.items) result
+        (every ground_literal_of (here (rest_at from.entry))) }
     ensures end { IfOk result (λ p. rest_at p.1 ≡ ended (rest_at from.entry)) }
     ensures less { IfOk result (λ p. left_at p.1 ≤ left_at from.entry) }
 {

@@ -91,7 +91,8 @@ fn read_fields<'s>(
     fields: &[Sexp<'s>],
     name: Placed<'s>,
 ) -> Result<MethodText<'s>, Refusal>
-    ensures { Gives method_view result (method_named span (trees fields.now) (word_view name.entry)) }
+    ensures { Gives method_view result
+        (method_named span (trees fields.now) (word_view name.entry)) }
 {
     let slots = [
         Slot::Parameters,

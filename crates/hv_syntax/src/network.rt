@@ -4,9 +4,12 @@ ghost use Rattle.std.specs.Prelude.{◌≡◌, map, option_map};
 ghost use Rattle.hv_text.specs.Trees.{tree, trees};
 ghost use Rattle.hv_syntax.specs.inside.Reading.{Gives, every};
 ghost use Rattle.hv_syntax.specs.inside.Lists.{listed};
-ghost use Rattle.hv_syntax.specs.inside.Networks.{labelled, subtask_of, sides, pair_of, equation_of, constraint_of, listed_at, subtasks_by, network_of};
+ghost use Rattle.hv_syntax.specs.inside.Networks.{labelled, subtask_of, sides, pair_of};
+ghost use Rattle.hv_syntax.specs.inside.Networks.{equation_of, constraint_of, listed_at};
+ghost use Rattle.hv_syntax.specs.inside.Networks.{subtasks_by, network_of};
 ghost use Rattle.hv_syntax.specs.Views.{word_view, term_view, atom_view};
-ghost use Rattle.hv_syntax.specs.NetworkViews.{subtask_view, pair_view, constraint_view, network_view};
+ghost use Rattle.hv_syntax.specs.NetworkViews.{subtask_view, pair_view, constraint_view};
+ghost use Rattle.hv_syntax.specs.NetworkViews.{network_view};
 
 use crate::field::{Slot, field};
 use crate::list::{conjuncts, negated, two};
@@ -294,7 +297,8 @@ fn read_listed_subtasks<'s>(alloc: Global, e: &Sexp<'s>) -> Result<Vec<SubtaskTe
 
 // `()`, a pair, or pairs behind `and`; none where the field is absent.
 fn read_ordering<'s>(alloc: Global, e: Option<&Sexp<'s>>) -> Result<Vec<PairText<'s>>, Refusal>
-    ensures { Gives (λ v. map pair_view v.items) result (listed_at pair_of (option_map (λ e. tree e.now) e.entry)) }
+    ensures { Gives (λ v. map pair_view v.items) result
+        (listed_at pair_of (option_map (λ e. tree e.now) e.entry)) }
 {
     let Some(e) = e else {
         return Ok(Vec::new(alloc));
@@ -314,7 +318,8 @@ fn read_constraints_at<'s>(
     alloc: Global,
     e: Option<&Sexp<'s>>,
 ) -> Result<Vec<ConstraintText<'s>>, Refusal>
-    ensures { Gives (λ v. map constraint_view v.items) result (listed_at constraint_of (option_map (λ e. tree e.now) e.entry)) }
+    ensures { Gives (λ v. map constraint_view v.items) result
+        (listed_at constraint_of (option_map (λ e. tree e.now) e.entry)) }
 {
     let Some(e) = e else {
         return Ok(Vec::new(alloc));
@@ -335,7 +340,9 @@ fn read_form<'s>(
     unordered: Option<&Sexp<'s>>,
     ordered: Option<&Sexp<'s>>,
 ) -> Result<(bool, Vec<SubtaskText<'s>>), Refusal>
-    ensures { Gives (λ p. (p.0, map subtask_view p.1.items)) result (subtasks_by (option_map (λ e. tree e.now) unordered.entry) (option_map (λ e. tree e.now) ordered.entry)) }
+    ensures { Gives (λ p. (p.0, map subtask_view p.1.items)) result
+        (subtasks_by (option_map (λ e. tree e.now) unordered.entry)
+        (option_map (λ e. tree e.now) ordered.entry)) }
 {
     match unordered {
         None => match ordered {

@@ -24,7 +24,8 @@ use hv_text::Memory;
 ///
 /// `Memory` where a growth was refused; then nothing is appended.
 pub fn print_domain(domain: &DomainText<'_>, out: &mut Vec<u8>) -> Result<(), Memory>
-    ensures ok { OnOk result (out.new.items ≡ out.old.items ++ canonical_domain (domain_view domain.now)) }
+    ensures ok { OnOk result (out.new.items ≡ out.old.items
+        ++ canonical_domain (domain_view domain.now)) }
     ensures err { OnErr result (out.new.items ≡ out.old.items) }
 {
     let mut text = Vec::new(*out.allocator());
@@ -39,7 +40,8 @@ pub fn print_domain(domain: &DomainText<'_>, out: &mut Vec<u8>) -> Result<(), Me
 ///
 /// `Memory` where a growth was refused; then nothing is appended.
 pub fn print_problem(problem: &ProblemText<'_>, out: &mut Vec<u8>) -> Result<(), Memory>
-    ensures ok { OnOk result (out.new.items ≡ out.old.items ++ canonical_problem (problem_view problem.now)) }
+    ensures ok { OnOk result (out.new.items ≡ out.old.items
+        ++ canonical_problem (problem_view problem.now)) }
     ensures err { OnErr result (out.new.items ≡ out.old.items) }
 {
     let mut text = Vec::new(*out.allocator());

@@ -6,10 +6,14 @@ ghost use Rattle.hv_text.specs.Trees.{tree, trees};
 ghost use Rattle.hv_syntax.specs.inside.Reading.{Gives};
 ghost use Rattle.hv_syntax.specs.inside.Faults.{Answers};
 ghost use Rattle.hv_syntax.specs.Problems.{problem_standing, add_part, no_parts};
-ghost use Rattle.hv_syntax.specs.inside.Problems.{htn_of, goal_of, problem_section_by, problem_section, parts_from, assembled, whole, problem_of};
-ghost use Rattle.hv_syntax.specs.Views.{word_view, typed_view, variable_view, formula_view, literal_view};
+ghost use Rattle.hv_syntax.specs.inside.Problems.{htn_of, goal_of, problem_section_by};
+ghost use Rattle.hv_syntax.specs.inside.Problems.{problem_section, parts_from, assembled, whole};
+ghost use Rattle.hv_syntax.specs.inside.Problems.{problem_of};
+ghost use Rattle.hv_syntax.specs.Views.{word_view, typed_view, variable_view, formula_view};
+ghost use Rattle.hv_syntax.specs.Views.{literal_view};
 ghost use Rattle.hv_syntax.specs.NetworkViews.{network_view};
-ghost use Rattle.hv_syntax.specs.ProblemViews.{htn_view, problem_section_view, parts_view, problem_view};
+ghost use Rattle.hv_syntax.specs.ProblemViews.{htn_view, problem_section_view, parts_view};
+ghost use Rattle.hv_syntax.specs.ProblemViews.{problem_view};
 
 mod stream;
 
@@ -207,7 +211,8 @@ fn read_members<'s>(
     span: Span,
     es: &[Sexp<'s>],
 ) -> Result<ProblemSection<'s>, Refusal>
-    ensures { Gives problem_section_view result (problem_section_by (text_of name.entry) span (trees es.now)) }
+    ensures { Gives problem_section_view result
+        (problem_section_by (text_of name.entry) span (trees es.now)) }
 {
     if name.is(b":domain") {
         return match one_name(es) {
@@ -239,7 +244,8 @@ fn read_section<'s>(
     before: &[Sexp<'s>],
     e: &Sexp<'s>,
 ) -> Result<ProblemSection<'s>, SyntaxFault>
-    ensures { Answers problem_section_view result (problem_section (map tree before.now) (tree e.now)) }
+    ensures { Answers problem_section_view result
+        (problem_section (map tree before.now) (tree e.now)) }
 {
     let span = span_of(e);
     let Some((name, members)) = headed(e) else {
@@ -258,7 +264,8 @@ fn read_section<'s>(
 }
 
 fn add<'s>(parts: &mut ProblemParts<'s>, section: ProblemSection<'s>)
-    ensures { parts_view parts.new ≡ add_part (parts_view parts.old) (problem_section_view section.entry) }
+    ensures { parts_view parts.new ≡ add_part (parts_view parts.old)
+        (problem_section_view section.entry) }
 {
     match section {
         ProblemSection::Domain(domain) => parts.domain = Some(domain),
@@ -307,7 +314,8 @@ fn missing(span: Span) -> SyntaxFault
 
 // The problem of this name and these parts, where those that it must have are among them.
 fn assembled<'s>(name: Placed<'s>, parts: ProblemParts<'s>) -> Option<ProblemText<'s>>
-    ensures { option_map problem_view result ≡ assembled (word_view name.entry) (parts_view parts.entry) }
+    ensures { option_map problem_view result
+        ≡ assembled (word_view name.entry) (parts_view parts.entry) }
 {
     Some(ProblemText {
         name,
@@ -326,7 +334,8 @@ fn whole<'s>(
     name: Placed<'s>,
     parts: ProblemParts<'s>,
 ) -> Result<ProblemText<'s>, SyntaxFault>
-    ensures { Answers problem_view result (whole span (word_view name.entry) (parts_view parts.entry)) }
+    ensures { Answers problem_view result
+        (whole span (word_view name.entry) (parts_view parts.entry)) }
 {
     match assembled(name, parts) {
         Some(problem) => Ok(problem),

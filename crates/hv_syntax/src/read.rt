@@ -16,8 +16,8 @@ use std::alloc::Global;
 ///
 /// # Errors
 ///
-/// The fault of the text: that it has no expressions, or the first one of these; and that memory ran
-/// out.
+/// The fault of the text: that it has no expressions, or the first one of these; and that memory
+/// ran out.
 pub fn read_domain<'s>(alloc: Global, text: &'s [u8]) -> Result<DomainText<'s>, SyntaxFault>
     ensures ok { IfOk result (λ d. IsDomainText text.now (domain_view d)) }
     ensures err { IfErr result (λ f. IsDomainFault text.now f.kind f.span) }
@@ -30,8 +30,8 @@ pub fn read_domain<'s>(alloc: Global, text: &'s [u8]) -> Result<DomainText<'s>, 
 ///
 /// # Errors
 ///
-/// The fault of the text: that it has no expressions, or the first one of these; and that memory ran
-/// out.
+/// The fault of the text: that it has no expressions, or the first one of these; and that memory
+/// ran out.
 pub fn read_problem<'s>(alloc: Global, text: &'s [u8]) -> Result<ProblemText<'s>, SyntaxFault>
     ensures ok { IfOk result (λ p. IsProblemText text.now (problem_view p)) }
     ensures err { IfErr result (λ f. IsProblemFault text.now f.kind f.span) }

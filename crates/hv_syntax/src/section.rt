@@ -7,7 +7,8 @@ ghost use Rattle.hv_text.specs.Trees.{tree, trees};
 ghost use Rattle.hv_syntax.specs.inside.Reading.{Gives, every};
 ghost use Rattle.hv_syntax.specs.inside.Faults.{IsUnread};
 ghost use Rattle.hv_syntax.specs.Sections.{headed, is_headed_by, occurs, is_unsupported};
-ghost use Rattle.hv_syntax.specs.inside.Sections.{title_of, define_form, sections_of, refused, one_name, keyword_of};
+ghost use Rattle.hv_syntax.specs.inside.Sections.{title_of, define_form, sections_of, refused};
+ghost use Rattle.hv_syntax.specs.inside.Sections.{one_name, keyword_of};
 ghost use Rattle.hv_syntax.specs.Unsupported.{has_unsupported};
 ghost use Rattle.hv_syntax.specs.Views.{word_view};
 
@@ -160,7 +161,8 @@ pub struct Definition<'a, 's> {
 
 // The list of `define`, the title of this word, and sections.
 fn define_form<'a, 's>(e: &'a Sexp<'s>, word: &[u8]) -> Option<Definition<'a, 's>>
-    ensures { option_map (λ d. (word_view d.name, trees d.sections.now, d.span)) result ≡ define_form (lower word.now) (tree e.now) }
+    ensures { option_map (λ d. (word_view d.name, trees d.sections.now, d.span)) result
+        ≡ define_form (lower word.now) (tree e.now) }
 {
     let Sexp::List(members, span) = e else {
         return None;
@@ -186,7 +188,8 @@ fn define_form<'a, 's>(e: &'a Sexp<'s>, word: &[u8]) -> Option<Definition<'a, 's
 
 /// What a text defines whose title has this word, where it is exactly one such list.
 pub(crate) fn definition_in<'a, 's>(es: &'a [Sexp<'s>], word: &[u8]) -> Option<Definition<'a, 's>>
-    ensures { option_map (λ d. (word_view d.name, trees d.sections.now, d.span)) result ≡ sections_of (lower word.now) (trees es.now) }
+    ensures { option_map (λ d. (word_view d.name, trees d.sections.now, d.span)) result
+        ≡ sections_of (lower word.now) (trees es.now) }
 {
     define_form(only(es)?, word)
 }

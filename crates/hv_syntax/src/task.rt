@@ -57,7 +57,8 @@ pub(crate) fn read_parameters<'s>(
     alloc: Global,
     e: Option<&Sexp<'s>>,
 ) -> Result<Vec<VariableText<'s>>, Refusal>
-    ensures { Gives (λ v. map variable_view v.items) result (parameters_at (option_map (λ e. tree e.now) e.entry)) }
+    ensures { Gives (λ v. map variable_view v.items) result
+        (parameters_at (option_map (λ e. tree e.now) e.entry)) }
 {
     match e {
         None => Ok(Vec::new(alloc)),

@@ -50,7 +50,8 @@ fn give_type<'s>(
     waiting: &[Placed<'s>],
     of: TypeText<'s>,
 ) -> Result<(), Refusal>
-    ensures ok { OnOk result (map typed_view found.new.items ≡ map typed_view found.old.items ++ with_type (type_view of.entry) (map word_view waiting.now)) }
+    ensures ok { OnOk result (map typed_view found.new.items ≡ map typed_view found.old.items
+        ++ with_type (type_view of.entry) (map word_view waiting.now)) }
     ensures err { IfErr result (λ e. e ≡ Refusal.Memory) }
 {
     for name in waiting {

@@ -1,9 +1,11 @@
-//! Forms of the language that are not supported: conditional effects, numbers, preferences and more.
+//! Forms of the language that are not supported: conditional effects, numbers, preferences and
+//! more.
 
 ghost use Rattle.std.specs.Prelude.{◌≡◌, option_map};
 ghost use Rattle.hv_text.specs.Names.{text_of};
 ghost use Rattle.hv_text.specs.Trees.{tree, trees};
-ghost use Rattle.hv_syntax.specs.Unsupported.{heads_form, is_headed_form, holds_form, is_form_list, first, after_effect, holds_at, has_unsupported};
+ghost use Rattle.hv_syntax.specs.Unsupported.{heads_form, is_headed_form, holds_form, is_form_list};
+ghost use Rattle.hv_syntax.specs.Unsupported.{first, after_effect, holds_at, has_unsupported};
 
 use crate::word::is_the_word;
 use hv_text::{Name, Sexp};

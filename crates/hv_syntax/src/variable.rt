@@ -6,7 +6,8 @@ ghost use Rattle.hv_syntax.specs.declared.word.Sort.TheVariants as sorts;
 ghost use Rattle.hv_syntax.specs.inside.Reading.{Gives, every};
 ghost use Rattle.hv_syntax.specs.inside.Words.{sorted_word_of};
 ghost use Rattle.hv_syntax.specs.TypedLists.{with_type};
-ghost use Rattle.hv_syntax.specs.inside.TypedLists.{some_names, either_among, type_of, typed_variables_of};
+ghost use Rattle.hv_syntax.specs.inside.TypedLists.{some_names, either_among, type_of};
+ghost use Rattle.hv_syntax.specs.inside.TypedLists.{typed_variables_of};
 ghost use Rattle.hv_syntax.specs.Views.{word_view, variable_view};
 
 use crate::refusal::Refusal;
@@ -41,7 +42,8 @@ impl<'s> VariableText<'s> {
 
 // Names, one after another.
 fn read_names<'s>(alloc: Global, es: &[Sexp<'s>]) -> Result<Vec<Placed<'s>>, Refusal>
-    ensures { Gives (λ v. map word_view v.items) result (every (sorted_word_of sorts.Name) (trees es.now)) }
+    ensures { Gives (λ v. map word_view v.items) result
+        (every (sorted_word_of sorts.Name) (trees es.now)) }
 {
     let mut names = Vec::new(alloc);
     for e in es {
@@ -95,7 +97,8 @@ fn give_type<'s>(
     waiting: &[Placed<'s>],
     types: Vec<Placed<'s>>,
 ) -> Result<(), Refusal>
-    ensures ok { OnOk result (map variable_view found.new.items ≡ map variable_view found.old.items ++ with_type (map word_view types.entry.items) (map word_view waiting.now)) }
+    ensures ok { OnOk result (map variable_view found.new.items ≡ map variable_view found.old.items
+        ++ with_type (map word_view types.entry.items) (map word_view waiting.now)) }
     ensures err { IfErr result (λ e. e ≡ Refusal.Memory) }
 {
     let types = Rc::new(*found.allocator(), types)?;

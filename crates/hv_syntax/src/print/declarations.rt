@@ -1,10 +1,14 @@
 //! Predicates, and the sections of tasks, methods, actions and initial networks.
 
 ghost use Rattle.std.specs.Prelude.{◌≡◌, ◌++◌, map, OnOk, codes};
-ghost use Rattle.hv_syntax.specs.Canonical.{text, spaced, each, the_list, variable_members, formula_expression};
-ghost use Rattle.hv_syntax.specs.CanonicalSections.{predicate_expression, section_of_each, task_section, method_section, action_section, htn_section, lines};
+ghost use Rattle.hv_syntax.specs.Canonical.{text, spaced, each, the_list, variable_members};
+ghost use Rattle.hv_syntax.specs.Canonical.{formula_expression};
+ghost use Rattle.hv_syntax.specs.CanonicalSections.{predicate_expression, section_of_each};
+ghost use Rattle.hv_syntax.specs.CanonicalSections.{task_section, method_section, action_section};
+ghost use Rattle.hv_syntax.specs.CanonicalSections.{htn_section, lines};
 ghost use Rattle.hv_syntax.specs.Views.{variable_view, formula_view};
-ghost use Rattle.hv_syntax.specs.DeclarationViews.{predicate_view, task_view, method_view, action_view};
+ghost use Rattle.hv_syntax.specs.DeclarationViews.{predicate_view, task_view, method_view};
+ghost use Rattle.hv_syntax.specs.DeclarationViews.{action_view};
 ghost use Rattle.hv_syntax.specs.ProblemViews.{htn_view};
 
 use crate::action::ActionText;
@@ -23,7 +27,9 @@ use hv_text::Memory;
 
 // Puts the field `:parameters`, a space before it.
 fn put_parameters(out: &mut Vec<u8>, parameters: &[VariableText<'_>]) -> Result<(), Memory>
-    ensures { OnOk result (out.new.items ≡ out.old.items ++ (codes " :parameters " ++ text (the_list (variable_members (map variable_view parameters.now))))) }
+    ensures { OnOk result (out.new.items ≡ out.old.items
+        ++ (codes " :parameters " ++ text
+        (the_list (variable_members (map variable_view parameters.now))))) }
 {
     out.extend_from_slice(b" :parameters (")?;
     put_variables(out, parameters)?;
@@ -33,7 +39,8 @@ fn put_parameters(out: &mut Vec<u8>, parameters: &[VariableText<'_>]) -> Result<
 
 // Puts the field `:precondition`, a space before it.
 fn put_precondition(out: &mut Vec<u8>, precondition: &FormulaText<'_>) -> Result<(), Memory>
-    ensures { OnOk result (out.new.items ≡ out.old.items ++ (codes " :precondition " ++ text (formula_expression (formula_view precondition.now)))) }
+    ensures { OnOk result (out.new.items ≡ out.old.items
+        ++ (codes " :precondition " ++ text (formula_expression (formula_view precondition.now)))) }
 {
     out.extend_from_slice(b" :precondition ")?;
     put_formula(out, precondition)
@@ -41,7 +48,8 @@ fn put_precondition(out: &mut Vec<u8>, precondition: &FormulaText<'_>) -> Result
 
 // Puts a predicate.
 fn put_predicate(out: &mut Vec<u8>, predicate: &PredicateText<'_>) -> Result<(), Memory>
-    ensures { OnOk result (out.new.items ≡ out.old.items ++ text (predicate_expression (predicate_view predicate.now))) }
+    ensures { OnOk result (out.new.items ≡ out.old.items
+        ++ text (predicate_expression (predicate_view predicate.now))) }
 {
     out.push(b'(')?;
     put_word(out, predicate.name())?;
@@ -59,7 +67,8 @@ pub(crate) fn put_predicates(
     out: &mut Vec<u8>,
     predicates: &[PredicateText<'_>],
 ) -> Result<(), Memory>
-    ensures { OnOk result (out.new.items ≡ out.old.items ++ spaced (each predicate_expression (map predicate_view predicates.now))) }
+    ensures { OnOk result (out.new.items ≡ out.old.items
+        ++ spaced (each predicate_expression (map predicate_view predicates.now))) }
 {
     for predicate in predicates {
         out.push(b' ')?;
@@ -70,7 +79,8 @@ pub(crate) fn put_predicates(
 
 // Puts the section of a task.
 fn put_task(out: &mut Vec<u8>, task: &TaskText<'_>) -> Result<(), Memory>
-    ensures { OnOk result (out.new.items ≡ out.old.items ++ text (task_section (task_view task.now))) }
+    ensures { OnOk result (out.new.items ≡ out.old.items
+        ++ text (task_section (task_view task.now))) }
 {
     out.extend_from_slice(b"(:task ")?;
     put_word(out, task.name())?;
@@ -81,7 +91,8 @@ fn put_task(out: &mut Vec<u8>, task: &TaskText<'_>) -> Result<(), Memory>
 
 // Puts the section of a method.
 fn put_method(out: &mut Vec<u8>, method: &MethodText<'_>) -> Result<(), Memory>
-    ensures { OnOk result (out.new.items ≡ out.old.items ++ text (method_section (method_view method.now))) }
+    ensures { OnOk result (out.new.items ≡ out.old.items
+        ++ text (method_section (method_view method.now))) }
 {
     out.extend_from_slice(b"(:method ")?;
     put_word(out, method.name())?;
@@ -96,7 +107,8 @@ fn put_method(out: &mut Vec<u8>, method: &MethodText<'_>) -> Result<(), Memory>
 
 // Puts the section of an action.
 fn put_action(out: &mut Vec<u8>, action: &ActionText<'_>) -> Result<(), Memory>
-    ensures { OnOk result (out.new.items ≡ out.old.items ++ text (action_section (action_view action.now))) }
+    ensures { OnOk result (out.new.items ≡ out.old.items
+        ++ text (action_section (action_view action.now))) }
 {
     out.extend_from_slice(b"(:action ")?;
     put_word(out, action.name())?;
@@ -129,7 +141,8 @@ pub(crate) fn put_htn(out: &mut Vec<u8>, htn: &HtnText<'_>) -> Result<(), Memory
 ///
 /// `Memory` where a growth was refused.
 pub(crate) fn put_tasks(out: &mut Vec<u8>, tasks: &[TaskText<'_>]) -> Result<(), Memory>
-    ensures { OnOk result (out.new.items ≡ out.old.items ++ lines (section_of_each task_section (map task_view tasks.now))) }
+    ensures { OnOk result (out.new.items ≡ out.old.items
+        ++ lines (section_of_each task_section (map task_view tasks.now))) }
 {
     for task in tasks {
         put_task(out, task)?;
@@ -144,7 +157,8 @@ pub(crate) fn put_tasks(out: &mut Vec<u8>, tasks: &[TaskText<'_>]) -> Result<(),
 ///
 /// `Memory` where a growth was refused.
 pub(crate) fn put_methods(out: &mut Vec<u8>, methods: &[MethodText<'_>]) -> Result<(), Memory>
-    ensures { OnOk result (out.new.items ≡ out.old.items ++ lines (section_of_each method_section (map method_view methods.now))) }
+    ensures { OnOk result (out.new.items ≡ out.old.items
+        ++ lines (section_of_each method_section (map method_view methods.now))) }
 {
     for method in methods {
         put_method(out, method)?;
@@ -159,7 +173,8 @@ pub(crate) fn put_methods(out: &mut Vec<u8>, methods: &[MethodText<'_>]) -> Resu
 ///
 /// `Memory` where a growth was refused.
 pub(crate) fn put_actions(out: &mut Vec<u8>, actions: &[ActionText<'_>]) -> Result<(), Memory>
-    ensures { OnOk result (out.new.items ≡ out.old.items ++ lines (section_of_each action_section (map action_view actions.now))) }
+    ensures { OnOk result (out.new.items ≡ out.old.items
+        ++ lines (section_of_each action_section (map action_view actions.now))) }
 {
     for action in actions {
         put_action(out, action)?;

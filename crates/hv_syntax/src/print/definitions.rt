@@ -2,8 +2,11 @@
 
 ghost use Rattle.std.specs.Prelude.{◌≡◌, ◌++◌, ◌∷◌, [], map, option_map, OnOk, codes};
 ghost use Rattle.hv_text.specs.Trees.{none, more};
-ghost use Rattle.hv_syntax.specs.Canonical.{form, each, word_expression, typed_members, literal_expression};
-ghost use Rattle.hv_syntax.specs.CanonicalSections.{predicate_expression, unless_empty, htn_section, goal_section, lines, canonical_domain, canonical_problem};
+ghost use Rattle.hv_syntax.specs.Canonical.{form, each, word_expression, typed_members};
+ghost use Rattle.hv_syntax.specs.Canonical.{literal_expression};
+ghost use Rattle.hv_syntax.specs.CanonicalSections.{predicate_expression, unless_empty};
+ghost use Rattle.hv_syntax.specs.CanonicalSections.{htn_section, goal_section, lines};
+ghost use Rattle.hv_syntax.specs.CanonicalSections.{canonical_domain, canonical_problem};
 ghost use Rattle.hv_syntax.specs.Views.{word_view, typed_view, formula_view, literal_view};
 ghost use Rattle.hv_syntax.specs.DeclarationViews.{predicate_view};
 ghost use Rattle.hv_syntax.specs.DomainViews.{domain_view};
@@ -23,7 +26,9 @@ use hv_text::Memory;
 
 // Puts the section of requirements on a line, where there are any.
 fn put_requirements(out: &mut Vec<u8>, requirements: &[Placed<'_>]) -> Result<(), Memory>
-    ensures { OnOk result (out.new.items ≡ out.old.items ++ lines (unless_empty (codes ":requirements") (each word_expression (map word_view requirements.now)))) }
+    ensures { OnOk result (out.new.items ≡ out.old.items
+        ++ lines (unless_empty (codes ":requirements")
+        (each word_expression (map word_view requirements.now)))) }
 {
     match requirements {
         [] => Ok(()),
@@ -42,7 +47,8 @@ fn put_typed_section(
     keyword: &[u8],
     list: &[TypedText<'_>],
 ) -> Result<(), Memory>
-    ensures { OnOk result (out.new.items ≡ out.old.items ++ lines (unless_empty keyword.now (typed_members (map typed_view list.now)))) }
+    ensures { OnOk result (out.new.items ≡ out.old.items
+        ++ lines (unless_empty keyword.now (typed_members (map typed_view list.now)))) }
 {
     match list {
         [] => Ok(()),
@@ -60,7 +66,9 @@ fn put_typed_section(
 
 // Puts the section of predicates on a line, where there are any.
 fn put_predicate_section(out: &mut Vec<u8>, predicates: &[PredicateText<'_>]) -> Result<(), Memory>
-    ensures { OnOk result (out.new.items ≡ out.old.items ++ lines (unless_empty (codes ":predicates") (each predicate_expression (map predicate_view predicates.now)))) }
+    ensures { OnOk result (out.new.items ≡ out.old.items
+        ++ lines (unless_empty (codes ":predicates")
+        (each predicate_expression (map predicate_view predicates.now)))) }
 {
     match predicates {
         [] => Ok(()),
@@ -75,7 +83,9 @@ fn put_predicate_section(out: &mut Vec<u8>, predicates: &[PredicateText<'_>]) ->
 
 // Puts the section of the domain's name on a line.
 fn put_domain_name(out: &mut Vec<u8>, name: Placed<'_>) -> Result<(), Memory>
-    ensures { OnOk result (out.new.items ≡ out.old.items ++ lines (form (codes ":domain") (more (word_expression (word_view name.entry)) none) ∷ [])) }
+    ensures { OnOk result (out.new.items ≡ out.old.items
+        ++ lines (form (codes ":domain") (more (word_expression (word_view name.entry)) none)
+        ∷ [])) }
 {
     out.extend_from_slice(b"(:domain ")?;
     put_word(out, name)?;
@@ -85,7 +95,8 @@ fn put_domain_name(out: &mut Vec<u8>, name: Placed<'_>) -> Result<(), Memory>
 
 // Puts the section of the initial network on a line.
 fn put_htn_section(out: &mut Vec<u8>, htn: &HtnText<'_>) -> Result<(), Memory>
-    ensures { OnOk result (out.new.items ≡ out.old.items ++ lines (htn_section (htn_view htn.now) ∷ [])) }
+    ensures { OnOk result (out.new.items ≡ out.old.items
+        ++ lines (htn_section (htn_view htn.now) ∷ [])) }
 {
     put_htn(out, htn)?;
     out.push(b'\n')?;
@@ -94,7 +105,9 @@ fn put_htn_section(out: &mut Vec<u8>, htn: &HtnText<'_>) -> Result<(), Memory>
 
 // Puts the section of the initial state on a line.
 fn put_init(out: &mut Vec<u8>, init: &[LiteralText<'_>]) -> Result<(), Memory>
-    ensures { OnOk result (out.new.items ≡ out.old.items ++ lines (form (codes ":init") (each literal_expression (map literal_view init.now)) ∷ [])) }
+    ensures { OnOk result (out.new.items ≡ out.old.items
+        ++ lines (form (codes ":init") (each literal_expression (map literal_view init.now))
+        ∷ [])) }
 {
     out.extend_from_slice(b"(:init")?;
     put_literals(out, init)?;
@@ -104,7 +117,8 @@ fn put_init(out: &mut Vec<u8>, init: &[LiteralText<'_>]) -> Result<(), Memory>
 
 // Puts the section of the goal on a line, where there is one.
 fn put_goal(out: &mut Vec<u8>, goal: Option<&FormulaText<'_>>) -> Result<(), Memory>
-    ensures { OnOk result (out.new.items ≡ out.old.items ++ lines (goal_section (option_map (λ g. formula_view g.now) goal.entry))) }
+    ensures { OnOk result (out.new.items ≡ out.old.items
+        ++ lines (goal_section (option_map (λ g. formula_view g.now) goal.entry))) }
 {
     match goal {
         None => Ok(()),
@@ -123,7 +137,8 @@ fn put_goal(out: &mut Vec<u8>, goal: Option<&FormulaText<'_>>) -> Result<(), Mem
 ///
 /// `Memory` where a growth was refused.
 pub(crate) fn put_domain(out: &mut Vec<u8>, domain: &DomainText<'_>) -> Result<(), Memory>
-    ensures { OnOk result (out.new.items ≡ out.old.items ++ canonical_domain (domain_view domain.now)) }
+    ensures { OnOk result (out.new.items ≡ out.old.items
+        ++ canonical_domain (domain_view domain.now)) }
 {
     out.extend_from_slice(b"(define (domain ")?;
     put_word(out, domain.name())?;
@@ -145,7 +160,8 @@ pub(crate) fn put_domain(out: &mut Vec<u8>, domain: &DomainText<'_>) -> Result<(
 ///
 /// `Memory` where a growth was refused.
 pub(crate) fn put_problem(out: &mut Vec<u8>, problem: &ProblemText<'_>) -> Result<(), Memory>
-    ensures { OnOk result (out.new.items ≡ out.old.items ++ canonical_problem (problem_view problem.now)) }
+    ensures { OnOk result (out.new.items ≡ out.old.items
+        ++ canonical_problem (problem_view problem.now)) }
 {
     out.extend_from_slice(b"(define (problem ")?;
     put_word(out, problem.name())?;

@@ -2,7 +2,8 @@
 
 ghost use Rattle.std.specs.Prelude.{◌≡◌, ◌++◌, map, OnOk};
 ghost use Rattle.hv_syntax.specs.Values.{effect, for_each};
-ghost use Rattle.hv_syntax.specs.Canonical.{text, spaced, conjunction, conjunction_or_one, item_expression, item_expressions, effect_expression};
+ghost use Rattle.hv_syntax.specs.Canonical.{text, spaced, conjunction, conjunction_or_one};
+ghost use Rattle.hv_syntax.specs.Canonical.{item_expression, item_expressions, effect_expression};
 ghost use Rattle.hv_syntax.specs.Views.{variable_view, item_view, effect_view};
 
 use crate::effect::{EffectText, ItemText};
@@ -14,7 +15,8 @@ use hv_text::Memory;
 // Puts an item.
 #[cycle(items)]
 fn put_item(out: &mut Vec<u8>, item: &ItemText<'_>) -> Result<(), Memory>
-    ensures { OnOk result (out.new.items ≡ out.old.items ++ text (item_expression (item_view item.now))) }
+    ensures { OnOk result (out.new.items ≡ out.old.items
+        ++ text (item_expression (item_view item.now))) }
 {
     match item {
         ItemText::Literal(literal) => put_literal(out, literal),
@@ -28,7 +30,9 @@ fn put_forall(
     variables: &[VariableText<'_>],
     items: &[ItemText<'_>],
 ) -> Result<(), Memory>
-    ensures { OnOk result (out.new.items ≡ out.old.items ++ text (item_expression (for_each (map variable_view variables.now) (effect (map item_view items.now))))) }
+    ensures { OnOk result (out.new.items ≡ out.old.items
+        ++ text (item_expression (for_each (map variable_view variables.now)
+        (effect (map item_view items.now))))) }
 {
     out.extend_from_slice(b"(forall (")?;
     put_variables(out, variables)?;
@@ -41,7 +45,8 @@ fn put_forall(
 // Puts items as `()` where there are none, one of them alone, and else behind `and`.
 #[cycle(items)]
 fn put_conjunction_or_one(out: &mut Vec<u8>, items: &[ItemText<'_>]) -> Result<(), Memory>
-    ensures { OnOk result (out.new.items ≡ out.old.items ++ text (conjunction_or_one (item_expressions (effect (map item_view items.now))))) }
+    ensures { OnOk result (out.new.items ≡ out.old.items
+        ++ text (conjunction_or_one (item_expressions (effect (map item_view items.now))))) }
 {
     match items {
         [] => {
@@ -61,7 +66,8 @@ fn put_conjunction_or_one(out: &mut Vec<u8>, items: &[ItemText<'_>]) -> Result<(
 // Puts items, a space before each.
 #[cycle(items)]
 fn put_items(out: &mut Vec<u8>, items: &[ItemText<'_>]) -> Result<(), Memory>
-    ensures { OnOk result (out.new.items ≡ out.old.items ++ spaced (item_expressions (effect (map item_view items.now)))) }
+    ensures { OnOk result (out.new.items ≡ out.old.items
+        ++ spaced (item_expressions (effect (map item_view items.now)))) }
 {
     for item in items {
         out.push(b' ')?;
@@ -72,7 +78,8 @@ fn put_items(out: &mut Vec<u8>, items: &[ItemText<'_>]) -> Result<(), Memory>
 
 // Puts items as `()` where there are none, and else behind `and`.
 fn put_conjunction(out: &mut Vec<u8>, items: &[ItemText<'_>]) -> Result<(), Memory>
-    ensures { OnOk result (out.new.items ≡ out.old.items ++ text (conjunction (item_expressions (effect (map item_view items.now))))) }
+    ensures { OnOk result (out.new.items ≡ out.old.items
+        ++ text (conjunction (item_expressions (effect (map item_view items.now))))) }
 {
     match items {
         [] => {
@@ -94,7 +101,8 @@ fn put_conjunction(out: &mut Vec<u8>, items: &[ItemText<'_>]) -> Result<(), Memo
 ///
 /// `Memory` where a growth was refused.
 pub(crate) fn put_effect(out: &mut Vec<u8>, effect: &EffectText<'_>) -> Result<(), Memory>
-    ensures { OnOk result (out.new.items ≡ out.old.items ++ text (effect_expression (effect_view effect.now))) }
+    ensures { OnOk result (out.new.items ≡ out.old.items
+        ++ text (effect_expression (effect_view effect.now))) }
 {
     match effect.items() {
         [ItemText::Forall(..), ..] => put_conjunction_or_one(out, effect.items()),

@@ -2,7 +2,8 @@
 
 ghost use Rattle.std.specs.Prelude.{◌≡◌, ◌++◌, map, OnOk};
 ghost use Rattle.hv_syntax.specs.Values.{formulas_of, not, forall, exists, equal};
-ghost use Rattle.hv_syntax.specs.Canonical.{text, spaced, each, formula_expression, formula_expressions, literal_expression};
+ghost use Rattle.hv_syntax.specs.Canonical.{text, spaced, each, formula_expression};
+ghost use Rattle.hv_syntax.specs.Canonical.{formula_expressions, literal_expression};
 ghost use Rattle.hv_syntax.specs.inside.Formulas.{and_all, or_all};
 ghost use Rattle.hv_syntax.specs.Views.{variable_view, term_view, formula_view, literal_view};
 
@@ -16,7 +17,8 @@ use hv_text::Memory;
 
 // Puts that two terms are one.
 fn put_equal(out: &mut Vec<u8>, left: TermText<'_>, right: TermText<'_>) -> Result<(), Memory>
-    ensures { OnOk result (out.new.items ≡ out.old.items ++ text (formula_expression (equal (term_view left.entry) (term_view right.entry)))) }
+    ensures { OnOk result (out.new.items ≡ out.old.items
+        ++ text (formula_expression (equal (term_view left.entry) (term_view right.entry)))) }
 {
     out.extend_from_slice(b"(= ")?;
     put_term(out, left)?;
@@ -33,7 +35,8 @@ fn put_equal(out: &mut Vec<u8>, left: TermText<'_>, right: TermText<'_>) -> Resu
 /// `Memory` where a growth was refused.
 #[cycle(put)]
 pub(crate) fn put_formula(out: &mut Vec<u8>, formula: &FormulaText<'_>) -> Result<(), Memory>
-    ensures { OnOk result (out.new.items ≡ out.old.items ++ text (formula_expression (formula_view formula.now))) }
+    ensures { OnOk result (out.new.items ≡ out.old.items
+        ++ text (formula_expression (formula_view formula.now))) }
 {
     match formula {
         FormulaText::Holds(atom) => put_atom(out, atom),
@@ -56,7 +59,8 @@ pub(crate) fn put_formula(out: &mut Vec<u8>, formula: &FormulaText<'_>) -> Resul
 
 #[cycle(put)]
 fn put_conjunction(out: &mut Vec<u8>, parts: &[FormulaText<'_>]) -> Result<(), Memory>
-    ensures { OnOk result (out.new.items ≡ out.old.items ++ text (formula_expression (and_all (map formula_view parts.now)))) }
+    ensures { OnOk result (out.new.items ≡ out.old.items
+        ++ text (formula_expression (and_all (map formula_view parts.now)))) }
 {
     match parts {
         [] => {
@@ -74,7 +78,8 @@ fn put_conjunction(out: &mut Vec<u8>, parts: &[FormulaText<'_>]) -> Result<(), M
 
 #[cycle(put)]
 fn put_disjunction(out: &mut Vec<u8>, parts: &[FormulaText<'_>]) -> Result<(), Memory>
-    ensures { OnOk result (out.new.items ≡ out.old.items ++ text (formula_expression (or_all (map formula_view parts.now)))) }
+    ensures { OnOk result (out.new.items ≡ out.old.items
+        ++ text (formula_expression (or_all (map formula_view parts.now)))) }
 {
     out.extend_from_slice(b"(or")?;
     put_formulas(out, parts)?;
@@ -84,7 +89,8 @@ fn put_disjunction(out: &mut Vec<u8>, parts: &[FormulaText<'_>]) -> Result<(), M
 
 #[cycle(put)]
 fn put_negation(out: &mut Vec<u8>, part: &FormulaText<'_>) -> Result<(), Memory>
-    ensures { OnOk result (out.new.items ≡ out.old.items ++ text (formula_expression (not (formula_view part.now)))) }
+    ensures { OnOk result (out.new.items ≡ out.old.items
+        ++ text (formula_expression (not (formula_view part.now)))) }
 {
     out.extend_from_slice(b"(not ")?;
     put_formula(out, part)?;
@@ -98,7 +104,9 @@ fn put_forall(
     variables: &[VariableText<'_>],
     part: &FormulaText<'_>,
 ) -> Result<(), Memory>
-    ensures { OnOk result (out.new.items ≡ out.old.items ++ text (formula_expression (forall (map variable_view variables.now) (formula_view part.now)))) }
+    ensures { OnOk result (out.new.items ≡ out.old.items
+        ++ text (formula_expression (forall (map variable_view variables.now)
+        (formula_view part.now)))) }
 {
     out.extend_from_slice(b"(forall (")?;
     put_variables(out, variables)?;
@@ -114,7 +122,9 @@ fn put_exists(
     variables: &[VariableText<'_>],
     part: &FormulaText<'_>,
 ) -> Result<(), Memory>
-    ensures { OnOk result (out.new.items ≡ out.old.items ++ text (formula_expression (exists (map variable_view variables.now) (formula_view part.now)))) }
+    ensures { OnOk result (out.new.items ≡ out.old.items
+        ++ text (formula_expression (exists (map variable_view variables.now)
+        (formula_view part.now)))) }
 {
     out.extend_from_slice(b"(exists (")?;
     put_variables(out, variables)?;
@@ -127,7 +137,8 @@ fn put_exists(
 // Puts formulas, a space before each.
 #[cycle(put)]
 fn put_formulas(out: &mut Vec<u8>, formulas: &[FormulaText<'_>]) -> Result<(), Memory>
-    ensures { OnOk result (out.new.items ≡ out.old.items ++ spaced (formula_expressions (formulas_of (map formula_view formulas.now)))) }
+    ensures { OnOk result (out.new.items ≡ out.old.items
+        ++ spaced (formula_expressions (formulas_of (map formula_view formulas.now)))) }
 {
     for formula in formulas {
         out.push(b' ')?;
@@ -142,7 +153,8 @@ fn put_formulas(out: &mut Vec<u8>, formulas: &[FormulaText<'_>]) -> Result<(), M
 ///
 /// `Memory` where a growth was refused.
 pub(crate) fn put_literal(out: &mut Vec<u8>, literal: &LiteralText<'_>) -> Result<(), Memory>
-    ensures { OnOk result (out.new.items ≡ out.old.items ++ text (literal_expression (literal_view literal.now))) }
+    ensures { OnOk result (out.new.items ≡ out.old.items
+        ++ text (literal_expression (literal_view literal.now))) }
 {
     if literal.is_positive() {
         return put_atom(out, literal.atom());
@@ -159,7 +171,8 @@ pub(crate) fn put_literal(out: &mut Vec<u8>, literal: &LiteralText<'_>) -> Resul
 ///
 /// `Memory` where a growth was refused.
 pub(crate) fn put_literals(out: &mut Vec<u8>, literals: &[LiteralText<'_>]) -> Result<(), Memory>
-    ensures { OnOk result (out.new.items ≡ out.old.items ++ spaced (each literal_expression (map literal_view literals.now))) }
+    ensures { OnOk result (out.new.items ≡ out.old.items
+        ++ spaced (each literal_expression (map literal_view literals.now))) }
 {
     for literal in literals {
         out.push(b' ')?;

@@ -2,9 +2,13 @@
 
 ghost use Rattle.std.specs.Prelude.{◌≡◌, ◌++◌, map, OnOk, codes};
 ghost use Rattle.hv_text.specs.Trees.{none};
-ghost use Rattle.hv_syntax.specs.Canonical.{text, spaced, each, conjunction, equation, subtask_expression, pair_expression, constraint_expression, subtasks_keyword, with_members, network_fields};
+ghost use Rattle.hv_syntax.specs.Canonical.{text, spaced, each, conjunction, equation};
+ghost use Rattle.hv_syntax.specs.Canonical.{subtask_expression, pair_expression};
+ghost use Rattle.hv_syntax.specs.Canonical.{constraint_expression, subtasks_keyword, with_members};
+ghost use Rattle.hv_syntax.specs.Canonical.{network_fields};
 ghost use Rattle.hv_syntax.specs.Views.{term_view};
-ghost use Rattle.hv_syntax.specs.NetworkViews.{subtask_view, pair_view, constraint_view, network_view};
+ghost use Rattle.hv_syntax.specs.NetworkViews.{subtask_view, pair_view, constraint_view};
+ghost use Rattle.hv_syntax.specs.NetworkViews.{network_view};
 
 use crate::network::{ConstraintText, NetworkText, PairText, SubtaskText};
 use crate::print::terms::{put_atom, put_term, put_word};
@@ -13,7 +17,8 @@ use hv_text::Memory;
 
 // Puts a subtask: its task, behind its label where it has one.
 fn put_subtask(out: &mut Vec<u8>, subtask: &SubtaskText<'_>) -> Result<(), Memory>
-    ensures { OnOk result (out.new.items ≡ out.old.items ++ text (subtask_expression (subtask_view subtask.now))) }
+    ensures { OnOk result (out.new.items ≡ out.old.items
+        ++ text (subtask_expression (subtask_view subtask.now))) }
 {
     match subtask.label() {
         None => put_atom(out, subtask.task()),
@@ -30,7 +35,8 @@ fn put_subtask(out: &mut Vec<u8>, subtask: &SubtaskText<'_>) -> Result<(), Memor
 
 // Puts subtasks, a space before each.
 fn put_subtasks(out: &mut Vec<u8>, subtasks: &[SubtaskText<'_>]) -> Result<(), Memory>
-    ensures { OnOk result (out.new.items ≡ out.old.items ++ spaced (each subtask_expression (map subtask_view subtasks.now))) }
+    ensures { OnOk result (out.new.items ≡ out.old.items
+        ++ spaced (each subtask_expression (map subtask_view subtasks.now))) }
 {
     for subtask in subtasks {
         out.push(b' ')?;
@@ -41,7 +47,8 @@ fn put_subtasks(out: &mut Vec<u8>, subtasks: &[SubtaskText<'_>]) -> Result<(), M
 
 // Puts subtasks as `()` where there are none, and else behind `and`.
 fn put_listed_subtasks(out: &mut Vec<u8>, subtasks: &[SubtaskText<'_>]) -> Result<(), Memory>
-    ensures { OnOk result (out.new.items ≡ out.old.items ++ text (conjunction (each subtask_expression (map subtask_view subtasks.now)))) }
+    ensures { OnOk result (out.new.items ≡ out.old.items
+        ++ text (conjunction (each subtask_expression (map subtask_view subtasks.now)))) }
 {
     match subtasks {
         [] => {
@@ -60,7 +67,8 @@ fn put_listed_subtasks(out: &mut Vec<u8>, subtasks: &[SubtaskText<'_>]) -> Resul
 
 // Puts a pair of labels.
 fn put_pair(out: &mut Vec<u8>, pair: PairText<'_>) -> Result<(), Memory>
-    ensures { OnOk result (out.new.items ≡ out.old.items ++ text (pair_expression (pair_view pair.entry))) }
+    ensures { OnOk result (out.new.items ≡ out.old.items
+        ++ text (pair_expression (pair_view pair.entry))) }
 {
     out.extend_from_slice(b"(< ")?;
     put_word(out, pair.earlier())?;
@@ -72,7 +80,8 @@ fn put_pair(out: &mut Vec<u8>, pair: PairText<'_>) -> Result<(), Memory>
 
 // Puts pairs, a space before each.
 fn put_pairs(out: &mut Vec<u8>, pairs: &[PairText<'_>]) -> Result<(), Memory>
-    ensures { OnOk result (out.new.items ≡ out.old.items ++ spaced (each pair_expression (map pair_view pairs.now))) }
+    ensures { OnOk result (out.new.items ≡ out.old.items
+        ++ spaced (each pair_expression (map pair_view pairs.now))) }
 {
     for pair in pairs {
         out.push(b' ')?;
@@ -83,7 +92,8 @@ fn put_pairs(out: &mut Vec<u8>, pairs: &[PairText<'_>]) -> Result<(), Memory>
 
 // Puts pairs as `()` where there are none, and else behind `and`.
 fn put_listed_pairs(out: &mut Vec<u8>, pairs: &[PairText<'_>]) -> Result<(), Memory>
-    ensures { OnOk result (out.new.items ≡ out.old.items ++ text (conjunction (each pair_expression (map pair_view pairs.now)))) }
+    ensures { OnOk result (out.new.items ≡ out.old.items
+        ++ text (conjunction (each pair_expression (map pair_view pairs.now)))) }
 {
     match pairs {
         [] => {
@@ -102,7 +112,9 @@ fn put_listed_pairs(out: &mut Vec<u8>, pairs: &[PairText<'_>]) -> Result<(), Mem
 
 // Puts the field `:ordering` where there are pairs.
 fn put_ordering(out: &mut Vec<u8>, pairs: &[PairText<'_>]) -> Result<(), Memory>
-    ensures { OnOk result (out.new.items ≡ out.old.items ++ spaced (with_members (codes ":ordering") (each pair_expression (map pair_view pairs.now)) none)) }
+    ensures { OnOk result (out.new.items ≡ out.old.items
+        ++ spaced (with_members (codes ":ordering") (each pair_expression (map pair_view pairs.now))
+        none)) }
 {
     match pairs {
         [] => Ok(()),
@@ -116,7 +128,8 @@ fn put_ordering(out: &mut Vec<u8>, pairs: &[PairText<'_>]) -> Result<(), Memory>
 
 // Puts that two terms are one.
 fn put_equation(out: &mut Vec<u8>, left: TermText<'_>, right: TermText<'_>) -> Result<(), Memory>
-    ensures { OnOk result (out.new.items ≡ out.old.items ++ text (equation (term_view left.entry) (term_view right.entry))) }
+    ensures { OnOk result (out.new.items ≡ out.old.items
+        ++ text (equation (term_view left.entry) (term_view right.entry))) }
 {
     out.extend_from_slice(b"(= ")?;
     put_term(out, left)?;
@@ -128,7 +141,8 @@ fn put_equation(out: &mut Vec<u8>, left: TermText<'_>, right: TermText<'_>) -> R
 
 // Puts a constraint.
 fn put_constraint(out: &mut Vec<u8>, constraint: ConstraintText<'_>) -> Result<(), Memory>
-    ensures { OnOk result (out.new.items ≡ out.old.items ++ text (constraint_expression (constraint_view constraint.entry))) }
+    ensures { OnOk result (out.new.items ≡ out.old.items
+        ++ text (constraint_expression (constraint_view constraint.entry))) }
 {
     if constraint.is_equal() {
         return put_equation(out, constraint.left(), constraint.right());
@@ -141,7 +155,8 @@ fn put_constraint(out: &mut Vec<u8>, constraint: ConstraintText<'_>) -> Result<(
 
 // Puts constraints, a space before each.
 fn put_constraints(out: &mut Vec<u8>, constraints: &[ConstraintText<'_>]) -> Result<(), Memory>
-    ensures { OnOk result (out.new.items ≡ out.old.items ++ spaced (each constraint_expression (map constraint_view constraints.now))) }
+    ensures { OnOk result (out.new.items ≡ out.old.items
+        ++ spaced (each constraint_expression (map constraint_view constraints.now))) }
 {
     for constraint in constraints {
         out.push(b' ')?;
@@ -155,7 +170,8 @@ fn put_listed_constraints(
     out: &mut Vec<u8>,
     constraints: &[ConstraintText<'_>],
 ) -> Result<(), Memory>
-    ensures { OnOk result (out.new.items ≡ out.old.items ++ text (conjunction (each constraint_expression (map constraint_view constraints.now)))) }
+    ensures { OnOk result (out.new.items ≡ out.old.items
+        ++ text (conjunction (each constraint_expression (map constraint_view constraints.now)))) }
 {
     match constraints {
         [] => {
@@ -174,7 +190,9 @@ fn put_listed_constraints(
 
 // Puts the field `:constraints` where there are any.
 fn put_constraint_field(out: &mut Vec<u8>, constraints: &[ConstraintText<'_>]) -> Result<(), Memory>
-    ensures { OnOk result (out.new.items ≡ out.old.items ++ spaced (with_members (codes ":constraints") (each constraint_expression (map constraint_view constraints.now)) none)) }
+    ensures { OnOk result (out.new.items ≡ out.old.items
+        ++ spaced (with_members (codes ":constraints")
+        (each constraint_expression (map constraint_view constraints.now)) none)) }
 {
     match constraints {
         [] => Ok(()),
@@ -204,7 +222,8 @@ fn put_subtasks_keyword(out: &mut Vec<u8>, is_ordered: bool) -> Result<(), Memor
 ///
 /// `Memory` where a growth was refused.
 pub(crate) fn put_network(out: &mut Vec<u8>, network: &NetworkText<'_>) -> Result<(), Memory>
-    ensures { OnOk result (out.new.items ≡ out.old.items ++ spaced (network_fields (network_view network.now))) }
+    ensures { OnOk result (out.new.items ≡ out.old.items
+        ++ spaced (network_fields (network_view network.now))) }
 {
     out.push(b' ')?;
     put_subtasks_keyword(out, network.is_ordered())?;

@@ -3,7 +3,8 @@
 ghost use Rattle.std.specs.Prelude.{◌≡◌, ◌++◌, ◌∷◌, [], map, OnOk};
 ghost use Rattle.hv_text.specs.Names.{text_of};
 ghost use Rattle.hv_syntax.specs.Values.{type_name};
-ghost use Rattle.hv_syntax.specs.Canonical.{text, spaced, each, word_expression, term_expression, atom_expression, typed_members};
+ghost use Rattle.hv_syntax.specs.Canonical.{text, spaced, each, word_expression, term_expression};
+ghost use Rattle.hv_syntax.specs.Canonical.{atom_expression, typed_members};
 ghost use Rattle.hv_syntax.specs.Views.{word_view, term_view, atom_view, type_view, typed_view};
 
 use crate::term::{AtomText, TermText};
@@ -38,7 +39,8 @@ pub(crate) fn put_word(out: &mut Vec<u8>, word: Placed<'_>) -> Result<(), Memory
 ///
 /// `Memory` where a growth was refused.
 pub(crate) fn put_words(out: &mut Vec<u8>, words: &[Placed<'_>]) -> Result<(), Memory>
-    ensures { OnOk result (out.new.items ≡ out.old.items ++ spaced (each word_expression (map word_view words.now))) }
+    ensures { OnOk result (out.new.items ≡ out.old.items
+        ++ spaced (each word_expression (map word_view words.now))) }
 {
     for word in words {
         out.push(b' ')?;
@@ -53,7 +55,8 @@ pub(crate) fn put_words(out: &mut Vec<u8>, words: &[Placed<'_>]) -> Result<(), M
 ///
 /// `Memory` where a growth was refused.
 pub(crate) fn put_term(out: &mut Vec<u8>, term: TermText<'_>) -> Result<(), Memory>
-    ensures { OnOk result (out.new.items ≡ out.old.items ++ text (term_expression (term_view term.entry))) }
+    ensures { OnOk result (out.new.items ≡ out.old.items
+        ++ text (term_expression (term_view term.entry))) }
 {
     match term {
         TermText::Constant(word) => put_word(out, word),
@@ -63,7 +66,8 @@ pub(crate) fn put_term(out: &mut Vec<u8>, term: TermText<'_>) -> Result<(), Memo
 
 // Puts terms, a space before each.
 fn put_terms(out: &mut Vec<u8>, terms: &[TermText<'_>]) -> Result<(), Memory>
-    ensures { OnOk result (out.new.items ≡ out.old.items ++ spaced (each term_expression (map term_view terms.now))) }
+    ensures { OnOk result (out.new.items ≡ out.old.items
+        ++ spaced (each term_expression (map term_view terms.now))) }
 {
     for term in terms {
         out.push(b' ')?;
@@ -78,7 +82,8 @@ fn put_terms(out: &mut Vec<u8>, terms: &[TermText<'_>]) -> Result<(), Memory>
 ///
 /// `Memory` where a growth was refused.
 pub(crate) fn put_atom(out: &mut Vec<u8>, atom: &AtomText<'_>) -> Result<(), Memory>
-    ensures { OnOk result (out.new.items ≡ out.old.items ++ text (atom_expression (atom_view atom.now))) }
+    ensures { OnOk result (out.new.items ≡ out.old.items
+        ++ text (atom_expression (atom_view atom.now))) }
 {
     out.push(b'(')?;
     put_word(out, atom.symbol())?;
@@ -106,7 +111,9 @@ fn put_type(out: &mut Vec<u8>, of: TypeText<'_>) -> Result<(), Memory>
 ///
 /// `Memory` where a growth was refused.
 pub(crate) fn put_one_typed(out: &mut Vec<u8>, one: TypedText<'_>) -> Result<(), Memory>
-    ensures { OnOk result (out.new.items ≡ out.old.items ++ ((typed_view one.entry).name.text ++ (32 ∷ 45 ∷ 32 ∷ []) ++ type_name (typed_view one.entry).of)) }
+    ensures { OnOk result (out.new.items ≡ out.old.items
+        ++ ((typed_view one.entry).name.text ++ (32 ∷ 45 ∷ 32 ∷ [])
+        ++ type_name (typed_view one.entry).of)) }
 {
     put_word(out, one.name())?;
     out.extend_from_slice(b" - ")?;
@@ -119,7 +126,8 @@ pub(crate) fn put_one_typed(out: &mut Vec<u8>, one: TypedText<'_>) -> Result<(),
 ///
 /// `Memory` where a growth was refused.
 pub(crate) fn put_spaced_typed(out: &mut Vec<u8>, list: &[TypedText<'_>]) -> Result<(), Memory>
-    ensures { OnOk result (out.new.items ≡ out.old.items ++ spaced (typed_members (map typed_view list.now))) }
+    ensures { OnOk result (out.new.items ≡ out.old.items
+        ++ spaced (typed_members (map typed_view list.now))) }
 {
     for one in list {
         out.push(b' ')?;

@@ -1,7 +1,8 @@
 //! Typed lists of variables.
 
 ghost use Rattle.std.specs.Prelude.{◌≡◌, ◌++◌, ◌∷◌, [], map, OnOk};
-ghost use Rattle.hv_syntax.specs.Canonical.{text, joined, spaced, type_expression, variable_members};
+ghost use Rattle.hv_syntax.specs.Canonical.{text, joined, spaced, type_expression};
+ghost use Rattle.hv_syntax.specs.Canonical.{variable_members};
 ghost use Rattle.hv_syntax.specs.Views.{word_view, variable_view};
 
 use crate::print::terms::{put_word, put_words};
@@ -11,7 +12,8 @@ use hv_text::Memory;
 
 // Puts the type of these names.
 fn put_type(out: &mut Vec<u8>, types: &[Placed<'_>]) -> Result<(), Memory>
-    ensures { OnOk result (out.new.items ≡ out.old.items ++ text (type_expression (map word_view types.now))) }
+    ensures { OnOk result (out.new.items ≡ out.old.items
+        ++ text (type_expression (map word_view types.now))) }
 {
     match types {
         [] => {
@@ -30,7 +32,9 @@ fn put_type(out: &mut Vec<u8>, types: &[Placed<'_>]) -> Result<(), Memory>
 
 // Puts a variable, a dash and its type.
 fn put_variable(out: &mut Vec<u8>, variable: &VariableText<'_>) -> Result<(), Memory>
-    ensures { OnOk result (out.new.items ≡ out.old.items ++ ((variable_view variable.now).name.text ++ (32 ∷ 45 ∷ 32 ∷ []) ++ text (type_expression (variable_view variable.now).of))) }
+    ensures { OnOk result (out.new.items ≡ out.old.items
+        ++ ((variable_view variable.now).name.text ++ (32 ∷ 45 ∷ 32 ∷ [])
+        ++ text (type_expression (variable_view variable.now).of))) }
 {
     put_word(out, variable.name())?;
     out.extend_from_slice(b" - ")?;
@@ -46,7 +50,8 @@ pub(crate) fn put_spaced_variables(
     out: &mut Vec<u8>,
     variables: &[VariableText<'_>],
 ) -> Result<(), Memory>
-    ensures { OnOk result (out.new.items ≡ out.old.items ++ spaced (variable_members (map variable_view variables.now))) }
+    ensures { OnOk result (out.new.items ≡ out.old.items
+        ++ spaced (variable_members (map variable_view variables.now))) }
 {
     for variable in variables {
         out.push(b' ')?;
@@ -61,7 +66,8 @@ pub(crate) fn put_spaced_variables(
 ///
 /// `Memory` where a growth was refused.
 pub(crate) fn put_variables(out: &mut Vec<u8>, variables: &[VariableText<'_>]) -> Result<(), Memory>
-    ensures { OnOk result (out.new.items ≡ out.old.items ++ joined (variable_members (map variable_view variables.now))) }
+    ensures { OnOk result (out.new.items ≡ out.old.items
+        ++ joined (variable_members (map variable_view variables.now))) }
 {
     match variables {
         [] => Ok(()),

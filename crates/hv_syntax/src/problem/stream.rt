@@ -46,7 +46,8 @@ pub(crate) struct BegunInit<'s> {
 
 // The list that comes next, where `:init` heads it.
 fn begun_init<'s>(from: Cursor<'s>) -> Option<BegunInit<'s>>
-    ensures begun { IfSome result (λ b. rest_at from.entry ≡ enclose b.start (add (word (text_of b.name) b.place) (rest_at b.members))) }
+    ensures begun { IfSome result (λ b. rest_at from.entry
+        ≡ enclose b.start (add (word (text_of b.name) b.place) (rest_at b.members))) }
     ensures head { IfSome result (λ b. is (text_of b.name) (codes ":init") ≡ true) }
     ensures less { IfSome result (λ b. left_at b.members < left_at from.entry) }
 {
@@ -84,9 +85,11 @@ fn read_init_at<'s>(
     begun: BegunInit<'s>,
     heads: &[Name<'s>],
 ) -> Result<SectionRead<'s>, Refusal>
-    requires begun { rest_at from ≡ enclose begun.start (add (word (text_of begun.name) begun.place) (rest_at begun.members)) }
+    requires begun { rest_at from ≡ enclose begun.start
+        (add (word (text_of begun.name) begun.place) (rest_at begun.members)) }
     requires head { is (text_of begun.name) (codes ":init") ≡ true }
-    ensures read { IfOk result (λ r. IsSectionRead (map text_of heads.now) (rest_at from.entry) (problem_section_view r.section) (text_of r.head) (rest_at r.after)) }
+    ensures read { IfOk result (λ r. IsSectionRead (map text_of heads.now) (rest_at from.entry)
+        (problem_section_view r.section) (text_of r.head) (rest_at r.after)) }
     ensures less { IfOk result (λ r. left_at r.after < left_at begun.entry.members) }
 {
     if is_among(begun.name, heads) {
@@ -110,7 +113,9 @@ fn read_listed_at<'s>(
     heads: &[Name<'s>],
 ) -> Result<Option<SectionRead<'s>>, Refusal>
     ensures none { IfOk result (λ o. IfNone o (here (rest_at from.entry) ≡ none)) }
-    ensures read { IfOk result (λ o. IfSome o (λ r. IsSectionRead (map text_of heads.now) (rest_at from.entry) (problem_section_view r.section) (text_of r.head) (rest_at r.after))) }
+    ensures read { IfOk result (λ o. IfSome o
+        (λ r. IsSectionRead (map text_of heads.now) (rest_at from.entry)
+        (problem_section_view r.section) (text_of r.head) (rest_at r.after))) }
     ensures less { IfOk result (λ o. IfSome o (λ r. left_at r.after < left_at from.entry)) }
 {
     let Some((e, after)) = from.read_one(alloc)? else {
@@ -141,7 +146,9 @@ fn read_section_at<'s>(
     heads: &[Name<'s>],
 ) -> Result<Option<SectionRead<'s>>, Refusal>
     ensures none { IfOk result (λ o. IfNone o (here (rest_at from.entry) ≡ none)) }
-    ensures read { IfOk result (λ o. IfSome o (λ r. IsSectionRead (map text_of heads.now) (rest_at from.entry) (problem_section_view r.section) (text_of r.head) (rest_at r.after))) }
+    ensures read { IfOk result (λ o. IfSome o
+        (λ r. IsSectionRead (map text_of heads.now) (rest_at from.entry)
+        (problem_section_view r.section) (text_of r.head) (rest_at r.after))) }
     ensures less { IfOk result (λ o. IfSome o (λ r. left_at r.after < left_at from.entry)) }
 {
     match begun_init(from) {
@@ -155,7 +162,8 @@ fn read_sections_at<'s>(
     alloc: Global,
     from: Cursor<'s>,
 ) -> Result<(ProblemParts<'s>, Cursor<'s>), Refusal>
-    ensures parts { IfOk result (λ p. parts_from no_parts [] (here (rest_at from.entry)) ≡ Ok (parts_view p.0)) }
+    ensures parts { IfOk result (λ p. parts_from no_parts [] (here (rest_at from.entry))
+        ≡ Ok (parts_view p.0)) }
     ensures end { IfOk result (λ p. rest_at p.1 ≡ ended (rest_at from.entry)) }
 {
     let mut parts = no_parts(alloc);
