@@ -1,6 +1,5 @@
 -- Truth is decided: a formula is true in a state, or it is not.
 use Rattle.std.proofs.Common.{◌≡◌, ◌<◌, ◌≤◌, ◌++◌, ◌⊎◌, inl, inr, ℕ, zero, suc, Bool, true, false, true≢false, bytes_eq, List, [], ◌∷◌, Option, None, Some, slice_get, take, refl, sym, ap, subst, arith}
-use Rattle.std.specs.List.{Contains}
 use Rattle.std.specs.Cmp.Lexicographic.{bytes_decides}
 use Rattle.std.proofs.lemmas.Bool.{cases_eq, cases_lt}
 use Rattle.hv_world.specs.Types.{Typing, Of}

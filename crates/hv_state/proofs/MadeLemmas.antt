@@ -7,7 +7,7 @@ use Rattle.std.proofs.lemmas.List.Elements.{Contains-append_left, Contains-push,
 use Rattle.hv_world.specs.Bindings.{GroundAtom, atom_under}
 use Rattle.hv_world.specs.Effects.{Makes, itself, for_objects, SomeMakes, first, later}
 use Rattle.hv_world.specs.Groundings.{AreOf}
-use Rattle.hv_world.specs.Types.{Typing, Of}
+use Rattle.hv_world.specs.Types.{Typing}
 use Rattle.hv_world.specs.Values.{Atom, Effect, Effects, becomes, for_each, no_effects, more_effects, effects_of}
 use Rattle.hv_world.specs.Views.{effect_view}
 use Rattle.hv_world.specs.declared.effect.Effect as code

@@ -1,5 +1,5 @@
 -- The next change of atoms.
-use Rattle.std.proofs.Common.{◌≡◌, ◌<◌, ◌≤◌, ◌+◌, ◌-◌, ◌++◌, ◌↔◌, ◌⊎◌, inl, inr, ℕ, zero, suc, true, false, nat_le, List, [], ◌∷◌, length, map, take, get_or, refl, sym, ap, ◌∙◌, subst, arith}
+use Rattle.std.proofs.Common.{◌≡◌, ◌<◌, ◌≤◌, ◌+◌, ◌-◌, ◌↔◌, ◌⊎◌, inl, inr, ℕ, suc, true, false, nat_le, List, [], ◌∷◌, length, map, take, get_or, refl, sym, ap, ◌∙◌, subst, arith}
 use Rattle.std.specs.List.{Contains}
 use Rattle.std.specs.List.Sorted.{IsPartitionPoint}
 use Rattle.std.proofs.lemmas.Bool.{cases_lt, leb-true, leb-false}
@@ -18,7 +18,7 @@ use Rattle.hv_state.specs.Changes.{Change, Stays, AreChanges, none_yet, stays, t
 use Rattle.hv_state.specs.inside.Histories.{Rise, change_view, Table, kept, IsNext, IsNextIn, IsLeast}
 use Rattle.hv_state.specs.inside.Notes.{IsRecorded}
 use Rattle.hv_state.proofs.RowLemmas.{some_of}
-use Rattle.hv_state.proofs.SomeLemmas.{SomeOf, some_more, taken}
+use Rattle.hv_state.proofs.SomeLemmas.{SomeOf, some_more, some_taken, taken}
 use Rattle.hv_state.proofs.ChangeLemmas.{unchanged}
 
 module _ (t : Table) (k end : ℕ) where
@@ -50,6 +50,16 @@ module _ (t : Table) (k end : ℕ) where
     pub next_push : (x : X) (u e c : ℕ) → i < length xs → x ≡ get_or xs i x → IsNext t k end (λ g. SomeOf (λ y. P y g) (take i xs)) u → IsNext t k end (P x) e → IsLeast u e c → IsNext t k end (λ g. SomeOf (λ y. P y g) (take (i + 1) xs)) c
     next_push x u e c lt is so_far next least =
         next_like (λ g. SomeOf (λ y. P y g) (take i xs) ⊎ P x g) (λ g. SomeOf (λ y. P y g) (take (i + 1) xs)) c (λ g. some_more (λ y. P y g) xs i x lt is) (next_both (λ g. SomeOf (λ y. P y g) (take i xs)) (P x) u e c so_far next least)
+
+    -- nothing is nearer than the next index
+    pub next_soon : (u : ℕ) → u ≡ k + 1 → IsNext t k end (λ g. SomeOf (λ y. P y g) (take i xs)) u → IsNext t k end (λ g. SomeOf (λ y. P y g) xs) u
+    next_soon u soon next =
+        record {
+          after = next.after;
+          within = next.within;
+          quiet = λ g m c at later. omega (arith, soon, later);
+          change = λ before. (let (g, m, rest) = next.change before in (g, some_taken (λ y. P y g) xs i m, rest));
+        }
 
     pub next_all : (u : ℕ) → length xs ≤ i → IsNext t k end (λ g. SomeOf (λ y. P y g) (take i xs)) u → IsNext t k end (λ g. SomeOf (λ y. P y g) xs) u
     next_all u le = subst (λ ys. IsNext t k end (λ g. SomeOf (λ y. P y g) ys) u) (taken xs i le)

@@ -1,5 +1,6 @@
 -- Changes that are noted on the way of a plan.
-use Rattle.std.proofs.Common.{◌≡◌, ◌<◌, ◌≤◌, ◌+◌, ◌++◌, ◌↔◌, ◌⊎◌, inl, inr, ℕ, zero, suc, Bool, true, false, true≢false, IsTrue, bytes_eq, nat_le, List, [], ◌∷◌, length, map, drop, slice_get, Option, None, Some, if◌then◌else◌, refl, sym, ap, ◌∙◌, subst, arith}
+use Rattle.std.proofs.Common.{◌≡◌, ◌<◌, ◌≤◌, ◌+◌, ◌++◌, ◌↔◌, ◌⊎◌, inl, inr, ℕ, zero, suc, Bool, true, false, true≢false, IsTrue, bytes_eq, nat_le, List, [], ◌∷◌, length, map, drop, get_or, slice_get, Option, None, Some, if◌then◌else◌, refl, sym, ap, ◌∙◌, subst, arith}
+use mathlib.Core.Bool.{beq, not}
 use Rattle.std.specs.List.{Contains}
 use Rattle.std.specs.Cmp.Lexicographic.{bytes_decides}
 use Rattle.std.proofs.lemmas.Bool.{cases_lt}
@@ -14,10 +15,10 @@ use Rattle.hv_state.specs.inside.Rows.{row_of, IsRowOf, HasSameRows}
 use Rattle.hv_state.specs.Plans.{Plan, AfterAction, StateAt, IsApplicableIn, IsApplicable, StopsAt}
 use Rattle.hv_state.specs.Changes.{Change, Stays, AreChanges, none_yet, stays, turns, told, Tells, TrueAfter}
 use Rattle.hv_state.specs.inside.Histories.{Table, beside, rows_of, kept}
-use Rattle.hv_state.specs.inside.Notes.{TouchedBy, TouchedIn, Before, IsAdded, Turns, Contradicts, AreNoted, IsPassed, IsRecorded}
+use Rattle.hv_state.specs.inside.Notes.{TouchedBy, TouchedIn, AreDone, Before, IsTurned, Turns, IsOn, IsSet, IsReady, IsPassed, IsRecorded}
 use Rattle.hv_state.proofs.RowLemmas.{contains_first, contains_later, contains_cases, contains_none}
 use Rattle.hv_state.proofs.StateLemmas.{same_atom, atom_listed, row_listed}
-use Rattle.hv_state.proofs.PlanLemmas.{read_there, applies, acted, applicable_same, applicable_if, only_if, same_back, same_through, after_same, next_state, push_at}
+use Rattle.hv_state.proofs.PlanLemmas.{read_there, applies, acted, applicable_same, applicable_if, only_if, same_back, same_through, after_same, next_state, push_at, deleted_is_not, other_stays}
 use Rattle.hv_state.proofs.GrowLemmas.{empty_rows}
 use Rattle.hv_state.proofs.ChangeLemmas.{told_push, if_true, is_from, late, Says, tells}
 
@@ -50,66 +51,191 @@ answers_differ false false is out same = out refl
 abbrev pub Said : Type 0 → Option Bool → Type 0
 Said s o = elim o [ None ↦ s | Some b ↦ IsTrue b ]
 
-module _ (start now : Atoms) (from : ℕ) where
-  abbrev Was : GroundAtom → List Change → Type 0
-  Was g cs = Tells (start g) from cs
+-- what is told behind one change more
+told_last : (cs : List Change) (from : ℕ) (b : Bool) → told from (cs ++ (from, b) ∷ []) ≡ Some b
+told_last cs from b = told_push None from cs (from, b) ∙ if_true (nat_le from from) (Some b) (told from cs) (is_from from from (omega arith))
 
-  -- the change that was noted last is told
-  agrees : (g : GroundAtom) (old new : List Change) → Turns (Was g old) (now g) from old new → Was g new ↔ now g
-  agrees g old new (b, is, so, out) =
-      let last : told from (old ++ (from, b) ∷ []) ≡ Some b = told_push None from old (from, b) ∙ if_true (nat_le from from) (Some b) (told from old) (is_from from from (omega arith)) in
-      subst (λ cs. Was g cs ↔ now g) (sym is) (subst (λ o. Said (start g) o ↔ now g) (sym last) so)
+pub tells_last : (s : Type 0) (cs : List Change) (from : ℕ) (b : Bool) → Tells s from (cs ++ (from, b) ∷ []) ↔ IsTrue b
+tells_last s cs from b = subst (λ o. Said s o ↔ IsTrue b) (sym (told_last cs from b)) (λ m. m, λ m. m)
 
-  pub noted_nothing : (M : Atoms) → ((g : GroundAtom) → M g → ⊥) → (t : Table) → AreNoted start now from M t t
-  noted_nothing M out t = record { rows = refl; steps = λ g. inl refl; all = λ g m. absurd (out g m) }
+pub differ_if : (a b : Bool) → not (beq a b) ≡ true → a ≡ b → ⊥
+differ_if true true h e = true≢false (sym h)
+differ_if true false h e = true≢false e
+differ_if false true h e = true≢false (sym e)
+differ_if false false h e = true≢false (sym h)
 
-  -- where atoms are noted, some of them are
-  pub noted_some : (M N : Atoms) → ((g : GroundAtom) → N g → M g) → (t u : Table) → AreNoted start now from M t u → AreNoted start now from N t u
-  noted_some M N among t u noted = record { rows = noted.rows; steps = noted.steps; all = λ g m. noted.all g (among g m) }
+pub agree_if : (a b : Bool) → not (beq a b) ≡ false → a ≡ b
+agree_if true true h = refl
+agree_if true false h = absurd (true≢false h)
+agree_if false true h = absurd (true≢false h)
+agree_if false false h = refl
 
-  -- atoms noted after others
-  pub noted_both : (M N : Atoms) (t u v : Table) → AreNoted start now from M t u → AreNoted start now from N u v → AreNoted start now from (λ g. M g ⊎ N g) t v
-  noted_both M N t u v first next = record { rows = next.rows ∙ first.rows; steps = λ g. step g (first.steps g) (next.steps g); all = all }
+-- what is said is so, or it is not
+pub says_other : {W : Type 0} (b c : Bool) → IsTrue b ↔ W → (b ≡ c → ⊥) → W ↔ (IsTrue c → ⊥)
+says_other true true is out = absurd (out refl)
+says_other true false is out = (λ w e. true≢false (sym e), λ h. is.0 refl)
+says_other false true is out = (λ w e. true≢false (sym (is.1 w)), λ h. absurd (h refl))
+says_other false false is out = absurd (out refl)
+
+other_so : {W : Type 0} (b c : Bool) → W ↔ (IsTrue b → ⊥) → (b ≡ c → ⊥) → W ↔ IsTrue c
+other_so true true is out = absurd (out refl)
+other_so true false is out = (λ w. absurd (is.0 w refl), λ e. absurd (true≢false (sym e)))
+other_so false true is out = (λ w. refl, λ e. is.1 (λ f. true≢false (sym f)))
+other_so false false is out = absurd (out refl)
+
+same_answer : {W : Type 0} (b c : Bool) → IsTrue b ↔ W → W ↔ IsTrue c → b ≡ c
+same_answer true true is so = refl
+same_answer true false is so = sym (so.0 (is.0 refl))
+same_answer false true is so = is.1 (so.1 refl)
+same_answer false false is so = refl
+
+up_to_next : (cs : List Change) (from : ℕ) → Before from cs → Before (from + 1) cs
+up_to_next cs from room = λ i d lt. let h = room i d lt in omega (arith, h)
+
+up_to_last : (cs : List Change) (from : ℕ) (b : Bool) → Before from cs → Before (from + 1) (cs ++ (from, b) ∷ [])
+up_to_last cs from b room = push_at (λ j c. c.0 < from + 1) cs (from, b) (λ j d lt. let h = room j d lt in omega (arith, h)) (omega arith)
+
+-- one atom's changes, which are as they should be, or have turned
+module _ (s : Type 0) (from : ℕ) (said b : Bool) (old new : List Change) (says : (k : ℕ) → Before (k + 1) old → IsTrue said ↔ Tells s k old) (cs : List Change) (room : Before from cs) where
+  on_same : said ≡ b → new ≡ old → IsOn s from cs old → IsOn s from cs new × (Tells s from new ↔ IsTrue b)
+  on_same e is on = (subst (IsOn s from cs) (sym is) on, subst (λ xs. Tells s from xs ↔ IsTrue b) (sym is) (so on))
     where
-      step : (g : GroundAtom) → (kept u g ≡ kept t g) ⊎ Turns (Was g (kept t g)) (now g) from (kept t g) (kept u g) → (kept v g ≡ kept u g) ⊎ Turns (Was g (kept u g)) (now g) from (kept u g) (kept v g)
-          → (kept v g ≡ kept t g) ⊎ Turns (Was g (kept t g)) (now g) from (kept t g) (kept v g)
-      step g (inl e) (inl f) = inl (f ∙ e)
-      step g (inl e) (inr f) = inr (subst (λ cs. Turns (Was g cs) (now g) from cs (kept v g)) e f)
-      step g (inr (b, is, so, out)) (inl f) = inr (b, f ∙ is, so, out)
-      step g (inr e) (inr (b, is, so, out)) = absurd (out (agrees g (kept t g) (kept u g) e))
+      so : IsOn s from cs old → Tells s from old ↔ IsTrue b
+      so (inl f) = let h = says from (subst (Before (from + 1)) (sym f) (up_to_next cs from room)) in subst (λ x. Tells s from old ↔ IsTrue x) e (h.1, h.0)
+      so (inr (c, f, other)) = let h = says from (subst (Before (from + 1)) (sym f) (up_to_last cs from c room)) in subst (λ x. Tells s from old ↔ IsTrue x) e (h.1, h.0)
 
-      all : (g : GroundAtom) → M g ⊎ N g → Contains (rows_of t) (row_of g) → Before from (kept t g) → kept v g ≡ kept t g → Was g (kept t g) ↔ now g
-      all g m row room e = by (first.steps g) (next.steps g) m
-        where
-          by : (kept u g ≡ kept t g) ⊎ Turns (Was g (kept t g)) (now g) from (kept t g) (kept u g) → (kept v g ≡ kept u g) ⊎ Turns (Was g (kept u g)) (now g) from (kept u g) (kept v g) → M g ⊎ N g
-              → Was g (kept t g) ↔ now g
-          by (inl f) n (inl l) = first.all g l row room f
-          by (inl f) n (inr l) = subst (λ cs. Was g cs ↔ now g) f (next.all g l (subst (λ rs. Contains rs (row_of g)) (sym first.rows) row) (subst (Before from) (sym f) room) (e ∙ sym f))
-          by (inr (b, is, so, out)) (inl h) l = absurd (longer (kept t g) (from, b) (sym is ∙ sym h ∙ e))
-          by (inr f) (inr (b, is, so, out)) l = absurd (out (agrees g (kept t g) (kept u g) f))
+  on_turned : (said ≡ b → ⊥) → IsTurned (from, b) old new → IsOn s from cs old → IsOn s from cs new × (Tells s from new ↔ IsTrue b)
+  on_turned out turned (inl f) =
+      let is : new ≡ cs ++ (from, b) ∷ [] = turned.behind (subst (Before from) (sym f) room) ∙ ap (λ xs. xs ++ (from, b) ∷ []) f in
+      let h = says from (subst (Before (from + 1)) (sym f) (up_to_next cs from room)) in
+      (inr (b, is, subst (λ xs. Tells s from xs ↔ (IsTrue b → ⊥)) f (says_other said b h out)), subst (λ xs. Tells s from xs ↔ IsTrue b) (sym is) (tells_last s cs from b))
+  on_turned out turned (inr (c, f, other)) =
+      let is : new ≡ cs = turned.undone cs c f in
+      let h = says from (subst (Before (from + 1)) (sym f) (up_to_last cs from c room)) in
+      let same : said ≡ c = same_answer said c h (subst (λ xs. Tells s from xs ↔ IsTrue c) (sym f) (tells_last s cs from c)) in
+      (inl is, subst (λ xs. Tells s from xs ↔ IsTrue b) (sym is) (other_so c b other (λ e. out (same ∙ e))))
 
-  module _ (g : GroundAtom) (t : Table) where
-    -- an atom of which nothing is to be noted
-    pub noted_same : (Contains (rows_of t) (row_of g) → Before from (kept t g) → Was g (kept t g) ↔ now g) → AreNoted start now from (λ h. g ≡ h) t t
-    noted_same so = record { rows = refl; steps = λ h. inl refl; all = λ h m. all h (sym m) }
-      where
-        all : (h : GroundAtom) → h ≡ g → Contains (rows_of t) (row_of h) → Before from (kept t h) → kept t h ≡ kept t h → Was h (kept t h) ↔ now h
-        all h e = subst (λ x. Contains (rows_of t) (row_of x) → Before from (kept t x) → kept t x ≡ kept t x → Was x (kept t x) ↔ now x) (sym e) (λ row room f. so row room)
+-- no atom is set
+pub set_nothing : (start M : Atoms) (from : ℕ) (b : Bool) → ((g : GroundAtom) → M g → ⊥) → (t : Table) → IsSet start M from b t t
+set_nothing start M from b out t = record { rows = refl; steps = λ g. inl refl; on = λ g m. absurd (out g m); so = λ g m. absurd (out g m) }
 
-    -- an atom that is not as its changes say
-    pub noted_added : (b : Bool) (u : Table) → IsTrue b ↔ now g → Contradicts (start g) (from, b) (kept t g) → IsAdded t (row_of g) (from, b) u → AreNoted start now from (λ h. g ≡ h) t u
-    noted_added b u is apart added = record { rows = added.rows; steps = λ h. elim (added.others (row_of h)) [ inl e ↦ inl e | inr m ↦ inr (turn h m.0 m.1) ]; all = λ h m. all h (sym m) }
-      where
-        out : (Was g (kept t g) ↔ now g) → ⊥
-        out same = apart (λ m. is.1 (same.0 m), λ m. same.1 (is.0 m))
+-- the same atoms by other words
+pub set_like : (start M N : Atoms) (from : ℕ) (b : Bool) → Same M N → (t u : Table) → IsSet start M from b t u → IsSet start N from b t u
+set_like start M N from b same t u set = record { rows = set.rows; steps = λ g. elim (set.steps g) [ inl e ↦ inl e | inr m ↦ inr ((same g).0 m) ]; on = λ g m. set.on g ((same g).1 m); so = λ g m. set.so g ((same g).1 m) }
 
-        turn : (h : GroundAtom) → row_of h ≡ row_of g → kept u h ≡ kept t h ++ (from, b) ∷ [] → Turns (Was h (kept t h)) (now h) from (kept t h) (kept u h)
-        turn h e f =
-            let here = sym (same_atom h g e) in
-            (b, f, subst (λ x. IsTrue b ↔ now x) here is, subst (λ x. (Was x (kept t x) ↔ now x) → ⊥) here out)
+-- atoms set after others
+module _ (start M N : Atoms) (from : ℕ) (b : Bool) (t u v : Table) (first : IsSet start M from b t u) (next : IsSet start N from b u v) where
+  row_next : (g : GroundAtom) → Contains (rows_of t) (row_of g) → Contains (rows_of u) (row_of g)
+  row_next g = subst (λ rs. Contains rs (row_of g)) (sym first.rows)
 
-        all : (h : GroundAtom) → h ≡ g → Contains (rows_of t) (row_of h) → Before from (kept t h) → kept u h ≡ kept t h → Was h (kept t h) ↔ now h
-        all h e = subst (λ x. Contains (rows_of t) (row_of x) → Before from (kept t x) → kept u x ≡ kept t x → Was x (kept t x) ↔ now x) (sym e) (λ row room f. absurd (longer (kept t g) (from, b) (sym (added.here row room) ∙ f)))
+  -- where it was on, it is so after the first
+  on_first : (g : GroundAtom) → Contains (rows_of t) (row_of g) → (cs : List Change) → Before from cs → IsOn (start g) from cs (kept t g) → IsOn (start g) from cs (kept u g)
+  on_first g row cs room on = elim (first.steps g) [ inl e ↦ subst (IsOn (start g) from cs) (sym e) on | inr m ↦ first.on g m row cs room on ]
+
+  both_on : (g : GroundAtom) → M g ⊎ N g → Contains (rows_of t) (row_of g) → (cs : List Change) → Before from cs → IsOn (start g) from cs (kept t g) → IsOn (start g) from cs (kept v g)
+  both_on g m row cs room on = elim (next.steps g) [ inl e ↦ subst (IsOn (start g) from cs) (sym e) (on_first g row cs room on) | inr n ↦ next.on g n (row_next g row) cs room (on_first g row cs room on) ]
+
+  both_so : (g : GroundAtom) → M g ⊎ N g → Contains (rows_of t) (row_of g) → (cs : List Change) → Before from cs → IsOn (start g) from cs (kept t g) → Tells (start g) from (kept v g) ↔ IsTrue b
+  both_so g m row cs room on = by m (next.steps g)
+    where
+      later : N g → Tells (start g) from (kept v g) ↔ IsTrue b
+      later n = next.so g n (row_next g row) cs room (on_first g row cs room on)
+
+      by : M g ⊎ N g → (kept v g ≡ kept u g) ⊎ N g → Tells (start g) from (kept v g) ↔ IsTrue b
+      by (inl l) (inl e) = subst (λ xs. Tells (start g) from xs ↔ IsTrue b) (sym e) (first.so g l row cs room on)
+      by (inl l) (inr n) = later n
+      by (inr n) s = later n
+
+  pub set_both : IsSet start (λ g. M g ⊎ N g) from b t v
+  set_both =
+      record {
+        rows = next.rows ∙ first.rows;
+        steps = λ g. elim (next.steps g) [ inl e ↦ (elim (first.steps g) [ inl f ↦ inl (e ∙ f) | inr m ↦ inr (inl m) ]) | inr n ↦ inr (inr n) ];
+        on = both_on;
+        so = both_so;
+      }
+
+-- one atom set, whose changes were looked at
+module _ (start : Atoms) (from : ℕ) (said b : Bool) (a : GroundAtom) (t u : Table) (says : (k : ℕ) → Before (k + 1) (kept t a) → IsTrue said ↔ Tells (start a) k (kept t a)) where
+  set_by : rows_of u ≡ rows_of t → ((r : List ℕ) → (beside u r ≡ beside t r) ⊎ (r ≡ row_of a)) → ((cs : List Change) → Before from cs → IsOn (start a) from cs (kept t a) → IsOn (start a) from cs (kept u a) × (Tells (start a) from (kept u a) ↔ IsTrue b)) → IsSet start (λ g. a ≡ g) from b t u
+  set_by rows others here =
+      record {
+        rows = rows;
+        steps = λ g. elim (others (row_of g)) [ inl e ↦ inl e | inr e ↦ inr (sym (same_atom g a e)) ];
+        on = λ g e row cs room. subst (λ x. IsOn (start x) from cs (kept t x) → IsOn (start x) from cs (kept u x)) e (λ on. (here cs room on).0);
+        so = λ g e row cs room. subst (λ x. IsOn (start x) from cs (kept t x) → Tells (start x) from (kept u x) ↔ IsTrue b) e (λ on. (here cs room on).1);
+      }
+
+  pub set_same_atom : said ≡ b → IsSet start (λ g. a ≡ g) from b t t
+  set_same_atom e =
+      record {
+        rows = refl;
+        steps = λ g. inl refl;
+        on = λ g m row cs room on. on;
+        so = λ g m row cs room. subst (λ x. IsOn (start x) from cs (kept t x) → Tells (start x) from (kept t x) ↔ IsTrue b) m (λ on. (on_same (start a) from said b (kept t a) (kept t a) says cs room e refl on).1);
+      }
+
+  pub set_turned : (said ≡ b → ⊥) → rows_of u ≡ rows_of t → ((r : List ℕ) → (beside u r ≡ beside t r) ⊎ (r ≡ row_of a)) → IsTurned (from, b) (kept t a) (kept u a) → IsSet start (λ g. a ≡ g) from b t u
+  set_turned out rows others turned = set_by rows others (λ cs room on. on_turned (start a) from said b (kept t a) (kept u a) says cs room out turned on)
+
+-- an atom that no action touches has no row
+pub set_unknown : (start : Atoms) (from : ℕ) (b : Bool) (a : GroundAtom) (t : Table) → (Contains (rows_of t) (row_of a) → ⊥) → IsSet start (λ g. a ≡ g) from b t t
+set_unknown start from b a t out =
+    record {
+      rows = refl;
+      steps = λ g. inl refl;
+      on = λ g m row cs room on. on;
+      so = λ g m row. absurd (out (subst (λ x. Contains (rows_of t) (row_of x)) (sym m) row));
+    }
+
+-- deletes set, and then adds
+module _ (start gone come : Atoms) (from : ℕ) (t u v : Table) (first : IsSet start gone from false t u) (next : IsSet start come from true u v) (ready : (g : GroundAtom) → gone g ⊎ come g → Contains (rows_of t) (row_of g) × Before from (kept t g)) where
+  abbrev Before' : GroundAtom → Type 0
+  Before' g = Tells (start g) from (kept t g)
+
+  on_mid : (g : GroundAtom) → gone g ⊎ come g → IsOn (start g) from (kept t g) (kept u g)
+  on_mid g m = elim (first.steps g) [ inl e ↦ inl e | inr l ↦ first.on g l (ready g m).0 (kept t g) (ready g m).1 (inl refl) ]
+
+  come_row : (g : GroundAtom) → gone g ⊎ come g → Contains (rows_of u) (row_of g)
+  come_row g m = subst (λ rs. Contains rs (row_of g)) (sym first.rows) (ready g m).0
+
+  -- what was added is so, and else what was deleted is not
+  came : (g : GroundAtom) → come g → Tells (start g) from (kept v g) ↔ IsTrue true
+  came g m = next.so g m (come_row g (inr m)) (kept t g) (ready g (inr m)).1 (on_mid g (inr m))
+
+  went : (g : GroundAtom) → gone g → kept v g ≡ kept u g → Tells (start g) from (kept v g) ↔ IsTrue false
+  went g m e = subst (λ xs. Tells (start g) from xs ↔ IsTrue false) (sym e) (first.so g m (ready g (inl m)).0 (kept t g) (ready g (inl m)).1 (inl refl))
+
+  pub after_both : (g : GroundAtom) → IsDecided (gone g) → IsDecided (come g) → Tells (start g) from (kept v g) ↔ After (λ h. Tells (start h) from (kept t h)) gone come g
+  after_both g d (inl m) = let so = came g m in (λ h. inr m, λ h. so.1 refl)
+  after_both g d (inr off) = by d (next.steps g)
+    where
+      by : IsDecided (gone g) → (kept v g ≡ kept u g) ⊎ come g → Tells (start g) from (kept v g) ↔ After (λ h. Tells (start h) from (kept t h)) gone come g
+      by e (inr m) = absurd (off m)
+      by (inl m) (inl e) = let so = went g m e in (λ h. absurd (true≢false (sym (so.0 h))), λ h. absurd (deleted_is_not (λ x. Tells (start x) from (kept t x)) gone come g m off h))
+      by (inr out) (inl e) =
+          let stay = other_stays (λ x. Tells (start x) from (kept t x)) gone come g out off in
+          let same : kept v g ≡ kept t g = e ∙ elim (first.steps g) [ inl f ↦ f | inr m ↦ absurd (out m) ] in
+          (λ h. stay.1 (subst (Tells (start g) from) same h), λ h. subst (Tells (start g) from) (sym same) (stay.0 h))
+
+  -- and it is noted where that is otherwise than before
+  noted_on : (g : GroundAtom) → IsOn (start g) from (kept t g) (kept v g) → (kept v g ≡ kept t g) ⊎ Turns (Before' g) (Tells (start g) from (kept v g)) from (kept t g) (kept v g)
+  noted_on g (inl e) = inl e
+  noted_on g (inr (b, is, other)) =
+      let so : Tells (start g) from (kept v g) ↔ IsTrue b = subst (λ xs. Tells (start g) from xs ↔ IsTrue b) (sym is) (tells_last (start g) (kept t g) from b) in
+      inr (b, is, (so.1, so.0), λ same. apart b other (λ h. so.0 (same.0 h), λ h. same.1 (so.1 h)))
+    where
+      apart : (b : Bool) → Before' g ↔ (IsTrue b → ⊥) → (Before' g ↔ IsTrue b) → ⊥
+      apart true other same = other.0 (same.1 refl) refl
+      apart false other same = true≢false (sym (same.0 (other.1 (λ e. true≢false (sym e)))))
+
+  pub noted_both : (g : GroundAtom) → (kept v g ≡ kept t g) ⊎ Turns (Before' g) (Tells (start g) from (kept v g)) from (kept t g) (kept v g)
+  noted_both g = by (first.steps g) (next.steps g)
+    where
+      by : (kept u g ≡ kept t g) ⊎ gone g → (kept v g ≡ kept u g) ⊎ come g → (kept v g ≡ kept t g) ⊎ Turns (Before' g) (Tells (start g) from (kept v g)) from (kept t g) (kept v g)
+      by (inl e) (inl f) = inl (f ∙ e)
+      by (inr m) (inl f) = noted_on g (subst (IsOn (start g) from (kept t g)) (sym f) (on_mid g (inl m)))
+      by s (inr n) = noted_on g (next.on g n (come_row g (inr n)) (kept t g) (ready g (inr n)).1 (on_mid g (inr n)))
 
 -- the changes of the first n actions are before the next index
 pub before_next : (p : Plan) (g : GroundAtom) (n : ℕ) (cs : List Change) → AreChanges p g n cs → Before (suc n) cs
@@ -125,53 +251,35 @@ tells_from p g s begun n cs are k le = by (told k cs) (tells p g n cs are k le)
     by None h = (λ m. h.0 (begun.0 m), λ m. begun.1 (h.1 m))
     by (Some b) h = h
 
--- an action leaves alone what it does not touch
-untouched : (w : World) (S : Atoms) (a : GroundAction) (g : GroundAtom) → (TouchedBy w a g → ⊥) → AfterAction w S a g ↔ S g
-untouched w S a g = by (slice_get w.actions a.action)
-  where
-    Touched : Option Action → Type 0
-    Touched found = elim found [ None ↦ ⊥ | Some x ↦ Deletes w.typing a.objects x.effect g ⊎ Adds w.typing a.objects x.effect g ]
-
-    Done : Option Action → Atoms
-    Done found = elim found [ None ↦ S | Some x ↦ After S (Deletes w.typing a.objects x.effect) (Adds w.typing a.objects x.effect) ]
-
-    by : (found : Option Action) → (Touched found → ⊥) → Done found g ↔ S g
-    by None out = (λ m. m, λ m. m)
-    by (Some x) out = (λ m. elim m [ inl l ↦ l.0 | inr r ↦ absurd (out (inr r)) ], λ m. inl (m, λ l. out (inl l)))
+-- what the changes of the first n actions tell at the next index is so after these
+pub told_here : (p : Plan) (start : Atoms) (t : Table) (n : ℕ) → Same start (StateAt p 0) → ((g : GroundAtom) → AreChanges p g n (kept t g)) → Same (TrueAfter start (kept t) (suc n)) (StateAt p n)
+told_here p start t n begun so_far g = subst (λ o. Said (start g) o ↔ StateAt p n g) (sym (late p g n (kept t g) (so_far g) (suc n) (omega arith))) (tells_from p g (start g) (begun g) n (kept t g) (so_far g) n (omega arith))
 
 -- one action more
-module _ (p : Plan) (n : ℕ) (a : GroundAction) (there : slice_get p.actions n ≡ Some a) (start before after : Atoms) (t u : Table) (begun : Same start (StateAt p 0)) (here : Same before (StateAt p n)) (passed : IsPassed p.world a start before after (suc n) t u) where
-  pub reached : Same after (StateAt p (suc n))
+module _ (p : Plan) (n : ℕ) (a : GroundAction) (there : slice_get p.actions n ≡ Some a) (start : Atoms) (t u : Table) (begun : Same start (StateAt p 0)) (so_far : (g : GroundAtom) → AreChanges p g n (kept t g)) (passed : IsPassed p.world a start (suc n) t u) where
+  abbrev Now : Table → Atoms
+  Now = λ x. TrueAfter start (kept x) (suc n)
+
+  reached : Same (Now u) (StateAt p (suc n))
   reached =
       let next : n + 1 ≡ suc n = omega arith in
       let done : Same (StateAt p (suc n)) (AfterAction p.world (StateAt p n) a) = subst (λ k. Same (StateAt p k) (AfterAction p.world (StateAt p n) a)) next (next_state p n a there) in
-      same_through after (AfterAction p.world before a) (StateAt p (suc n)) passed.state
-      (same_through (AfterAction p.world before a) (AfterAction p.world (StateAt p n) a) (StateAt p (suc n)) (after_same p.world before (StateAt p n) a here) (same_back (StateAt p (suc n)) (AfterAction p.world (StateAt p n) a) done))
+      same_through (Now u) (AfterAction p.world (Now t) a) (StateAt p (suc n)) passed.state
+      (same_through (AfterAction p.world (Now t) a) (AfterAction p.world (StateAt p n) a) (StateAt p (suc n)) (after_same p.world (Now t) (StateAt p n) a (told_here p start t n begun so_far)) (same_back (StateAt p (suc n)) (AfterAction p.world (StateAt p n) a) done))
 
-  module _ (so_far : (g : GroundAtom) → AreChanges p g n (kept t g)) (rows : (g : GroundAtom) → TouchedBy p.world a g → Contains (rows_of t) (row_of g)) where
-    pub changes_go_on : (g : GroundAtom) → AreChanges p g (suc n) (kept u g)
-    changes_go_on g = by (passed.noted.steps g)
-      where
-        Told : Type 0
-        Told = Tells (start g) (suc n) (kept t g)
+  pub changes_go_on : (g : GroundAtom) → AreChanges p g (suc n) (kept u g)
+  changes_go_on g = by (passed.steps g)
+    where
+      were : Now t g ↔ StateAt p n g
+      were = told_here p start t n begun so_far g
 
-        were : Told ↔ StateAt p n g
-        were = subst (λ o. Said (start g) o ↔ StateAt p n g) (sym (late p g n (kept t g) (so_far g) (suc n) (omega arith))) (tells_from p g (start g) (begun g) n (kept t g) (so_far g) n (omega arith))
-
-        stay : IsDecided (TouchedBy p.world a g) → kept u g ≡ kept t g → Stays p g n
-        stay (inl m) e =
-            let same = passed.noted.all g m (rows g m) (before_next p g n (kept t g) (so_far g)) e in
-            (λ s. (reached g).0 (same.0 (were.1 s)), λ s. were.0 (same.1 ((reached g).1 s)))
-        stay (inr out) e =
-            let same = untouched p.world before a g out in
-            let after_is = passed.state g in
-            (λ s. (reached g).0 (after_is.1 (same.1 ((here g).1 s))), λ s. (here g).0 (same.0 (after_is.0 ((reached g).1 s))))
-
-        by : (kept u g ≡ kept t g) ⊎ Turns Told (after g) (suc n) (kept t g) (kept u g) → AreChanges p g (suc n) (kept u g)
-        by (inl e) = subst (AreChanges p g (suc n)) (sym e) (stays (so_far g) (stay (passed.decided g) e))
-        by (inr (b, e, is, out)) =
-            let turned : Stays p g n → ⊥ = λ s. out (λ m. (reached g).1 (s.0 (were.0 m)), λ m. were.1 (s.1 ((reached g).0 m))) in
-            subst (AreChanges p g (suc n)) (sym e) (turns (so_far g) turned (λ m. (reached g).0 (is.0 m), λ m. is.1 ((reached g).1 m)))
+      by : (kept u g ≡ kept t g) ⊎ Turns (Now t g) (Now u g) (suc n) (kept t g) (kept u g) → AreChanges p g (suc n) (kept u g)
+      by (inl e) =
+          let is : Now u g ↔ StateAt p n g = subst (λ xs. Tells (start g) (suc n) xs ↔ StateAt p n g) (sym e) were in
+          subst (AreChanges p g (suc n)) (sym e) (stays (so_far g) (λ m. (reached g).0 (is.1 m), λ m. is.0 ((reached g).1 m)))
+      by (inr (b, e, is, out)) =
+          let turned : Stays p g n → ⊥ = λ s. out (λ m. (reached g).1 (s.0 (were.0 m)), λ m. were.1 (s.1 ((reached g).0 m))) in
+          subst (AreChanges p g (suc n)) (sym e) (turns (so_far g) turned (λ m. (reached g).0 (is.0 m), λ m. is.1 ((reached g).1 m)))
 
 -- what one of the actions touches
 pub touched_there : (w : World) (xs : List GroundAction) (n : ℕ) (a : GroundAction) → slice_get xs n ≡ Some a → (g : GroundAtom) → TouchedBy w a g → TouchedIn w xs g
@@ -183,9 +291,8 @@ pub rows_there : (w : World) (xs : List GroundAction) (rows : List (List ℕ)) �
 rows_there w xs rows are n a there g m = (are (row_of g)).1 (g, touched_there w xs n a there g m, refl)
 
 -- the plan as it was recorded up to one of its actions
-pub record IsSoFar (p : Plan) (n : ℕ) (start now : Atoms) (t : Table) : Type 0 where
+pub record IsSoFar (p : Plan) (n : ℕ) (start : Atoms) (t : Table) : Type 0 where
   pub begun : Same start (StateAt p 0)
-  pub here : Same now (StateAt p n)
   pub ran : (k : ℕ) → k < n → IsApplicable p k
   pub changes : (g : GroundAtom) → AreChanges p g n (kept t g)
   pub rows : (k : ℕ) (a : GroundAction) → slice_get p.actions k ≡ Some a → (g : GroundAtom) → TouchedBy p.world a g → Contains (rows_of t) (row_of g)
@@ -199,48 +306,57 @@ empty_beside [] row = refl
 empty_beside (r ∷ rows) row = none_either (bytes_eq row r) (beside (map (λ x. (x, [])) rows) row) (empty_beside rows row) ∙ empty_beside rows row
 
 -- nothing done yet
-pub so_far_begun : (p : Plan) (start now : Atoms) (t : Table) (rows : List (List ℕ)) → Same start (StateAt p 0) → Same now start → t ≡ map (λ r. (r, [])) rows → ((r : List ℕ) → Contains rows r ↔ IsRowOf (TouchedIn p.world p.actions) r) → IsSoFar p 0 start now t
-so_far_begun p start now t rows begun same is exact =
+pub so_far_begun : (p : Plan) (start : Atoms) (t : Table) (rows : List (List ℕ)) → Same start (StateAt p 0) → t ≡ map (λ r. (r, [])) rows → ((r : List ℕ) → Contains rows r ↔ IsRowOf (TouchedIn p.world p.actions) r) → IsSoFar p 0 start t
+so_far_begun p start t rows begun is exact =
     record {
       begun = begun;
-      here = same_through now start (StateAt p 0) same begun;
       ran = λ k lt. absurd (omega (arith, lt));
       changes = λ g. subst (AreChanges p g 0) (sym (ap (λ u. kept u g) is ∙ empty_beside rows (row_of g))) none_yet;
       rows = λ k a there g m. subst (λ u. Contains u (row_of g)) (sym (ap rows_of is ∙ empty_rows rows)) (rows_there p.world p.actions rows exact k a there g m);
     }
 
 -- one action more
-module _ (p : Plan) (n : ℕ) (a : GroundAction) (there : slice_get p.actions n ≡ Some a) (start before : Atoms) (t : Table) (so_far : IsSoFar p n start before t) where
-  pub so_far_more : (after : Atoms) (u : Table) → IsPassed p.world a start before after (n + 1) t u → IsSoFar p (n + 1) start after u
-  so_far_more after u passed = subst (λ m. IsSoFar p m start after u) (sym next) (more (subst (λ m. IsPassed p.world a start before after m t u) next passed))
-    where
-      next : n + 1 ≡ suc n
-      next = omega arith
+module _ (p : Plan) (n : ℕ) (a : GroundAction) (there : slice_get p.actions n ≡ Some a) (start : Atoms) (t : Table) (so_far : IsSoFar p n start t) where
+  abbrev Here : Atoms
+  Here = TrueAfter start (kept t) (suc n)
 
-      more : IsPassed p.world a start before after (suc n) t u → IsSoFar p (suc n) start after u
+  here : Same Here (StateAt p n)
+  here = told_here p start t n so_far.begun so_far.changes
+
+  next : n + 1 ≡ suc n
+  next = omega arith
+
+  ready : IsReady p.world a (suc n) t
+  ready g m = (so_far.rows n a there g m, before_next p g n (kept t g) (so_far.changes g))
+
+  pub so_far_more : (u : Table) → (IsReady p.world a (n + 1) t → IsPassed p.world a start (n + 1) t u) → IsSoFar p (n + 1) start u
+  so_far_more u passed = subst (λ m. IsSoFar p m start u) (sym next) (more (subst (λ m. IsReady p.world a m t → IsPassed p.world a start m t u) next passed ready))
+    where
+      more : IsPassed p.world a start (suc n) t u → IsSoFar p (suc n) start u
       more done =
           record {
             begun = so_far.begun;
-            here = reached p n a there start before after t u so_far.begun so_far.here done;
             ran = λ k lt. by k (cases_lt k n) (omega (arith, lt));
-            changes = changes_go_on p n a there start before after t u so_far.begun so_far.here done so_far.changes (so_far.rows n a there);
-            rows = λ k b is g m. subst (λ rs. Contains rs (row_of g)) (sym done.noted.rows) (so_far.rows k b is g m);
+            changes = changes_go_on p n a there start t u so_far.begun so_far.changes done;
+            rows = λ k b is g m. subst (λ rs. Contains rs (row_of g)) (sym done.rows) (so_far.rows k b is g m);
           }
         where
           now : IsApplicable p n
-          now = applicable_if p n a there (applicable_same p.world before (StateAt p n) a so_far.here done.applicable)
+          now = applicable_if p n a there (applicable_same p.world Here (StateAt p n) a here done.applicable)
 
           by : (k : ℕ) → (k < n) ⊎ (n ≤ k) → k < n + 1 → IsApplicable p k
           by k (inl before_it) lt = so_far.ran k before_it
           by k (inr behind) lt = let is : n ≡ k = omega (arith, behind, lt) in subst (IsApplicable p) is now
 
   -- or the action that is not applicable
-  pub so_far_stops : n < length p.actions → (IsApplicableIn p.world before a → ⊥) → StopsAt p n
-  so_far_stops lt out = (lt, λ m. out (applicable_same p.world (StateAt p n) before a (same_back before (StateAt p n) so_far.here) (only_if p n a there m)), λ j j_in. so_far.ran j j_in)
+  pub so_far_stops : n < length p.actions → (IsApplicableIn p.world (TrueAfter start (kept t) (n + 1)) a → ⊥) → StopsAt p n
+  so_far_stops lt out =
+      let not_here : IsApplicableIn p.world Here a → ⊥ = subst (λ m. IsApplicableIn p.world (TrueAfter start (kept t) m) a → ⊥) next out in
+      (lt, λ m. not_here (applicable_same p.world (StateAt p n) Here a (same_back Here (StateAt p n) here) (only_if p n a there m)), λ j j_in. so_far.ran j j_in)
 
 -- all actions done
-pub so_far_whole : (p : Plan) (n : ℕ) (start now : Atoms) (t : Table) → IsSoFar p n start now t → n ≡ length p.actions → IsRecorded p start t
-so_far_whole p n start now t so_far whole = record { begun = so_far.begun; ran = λ k lt. so_far.ran k (omega (arith, lt, whole)); changes = λ g. subst (λ m. AreChanges p g m (kept t g)) whole (so_far.changes g) }
+pub so_far_whole : (p : Plan) (n : ℕ) (start : Atoms) (t : Table) → IsSoFar p n start t → n ≡ length p.actions → IsRecorded p start t
+so_far_whole p n start t so_far whole = record { begun = so_far.begun; ran = λ k lt. so_far.ran k (omega (arith, lt, whole)); changes = λ g. subst (λ m. AreChanges p g m (kept t g)) whole (so_far.changes g) }
 
 -- a moment of a plan that was recorded
 pub moment_is : (p : Plan) (start : Atoms) (t : Table) → IsRecorded p start t → (k : ℕ) → k ≤ length p.actions → Same (TrueAfter start (kept t) k) (StateAt p k)
@@ -272,6 +388,27 @@ touched_more w old pushed now a rest Q joined same before r = (λ m. (before r).
     to (inl m) = inl ((same r).1 ((joined r).1 (inl m)))
     to (inr x) = put x.0 x.2 x.1
 
+pub get_there : (xs : List GroundAction) (i : ℕ) (d : GroundAction) → i < length xs → slice_get xs i ≡ Some (get_or xs i d)
+get_there [] i d lt = absurd (omega (arith, lt))
+get_there (x ∷ xs) zero d lt = refl
+get_there (x ∷ xs) (suc i) d lt = get_there xs i d (omega (arith, lt))
+
+-- an action that stands before its place too has nothing more to put in
+pub joined_again : (w : World) (xs : List GroundAction) (i : ℕ) (rows : List (List ℕ)) (a : GroundAction) → slice_get xs i ≡ Some a → AreDone w xs i rows → (j : ℕ) × (j < i) × (slice_get xs j ≡ slice_get xs i) → (r : List ℕ) → Contains rows r ↔ (Contains rows r ⊎ IsRowOf (TouchedBy w a) r)
+joined_again w xs i rows a there done (j, lt, is) r = (λ m. inl m, λ m. elim m [ inl l ↦ l | inr x ↦ subst (Contains rows) x.2 (done j a lt (is ∙ there) x.0 x.1) ])
+
+-- the first actions, and one more
+pub done_more : (w : World) (xs : List GroundAction) (i : ℕ) (old pushed now : List (List ℕ)) (a : GroundAction) → slice_get xs i ≡ Some a → ((r : List ℕ) → Contains pushed r ↔ (Contains old r ⊎ IsRowOf (TouchedBy w a) r)) → HasSameRows pushed now → AreDone w xs i old → AreDone w xs (i + 1) now
+done_more w xs i old pushed now a there joined same done j b lt is g m = by (cases_lt j i)
+  where
+    by : (j < i) ⊎ (i ≤ j) → Contains now (row_of g)
+    by (inl before) = (same (row_of g)).1 ((joined (row_of g)).1 (inl (done j b before is g m)))
+    by (inr behind) =
+        let here : i ≡ j = omega (arith, behind, lt) in
+        let one : Some b ≡ Some a = sym is ∙ ap (slice_get xs) (sym here) ∙ there in
+        let own : b ≡ a = cc in
+        (same (row_of g)).1 ((joined (row_of g)).1 (inr (g, subst (λ x. TouchedBy w x g) own m, refl)))
+
 -- what an action touches that the world has, or does not have
 abbrev Touches : World → GroundAction → GroundAtom → Option Action → Type 0
 Touches w step g found = elim found [ None ↦ ⊥ | Some x ↦ Deletes w.typing step.objects x.effect g ⊎ Adds w.typing step.objects x.effect g ]
@@ -283,33 +420,25 @@ pub touched_not : (w : World) (step : GroundAction) → slice_get w.actions step
 touched_not w step lacks g = subst (λ o. Touches w step g o → ⊥) (sym lacks) (λ m. m)
 
 -- an action that the world has, done and noted
-module _ (w : World) (step : GroundAction) (a : Action) (there : slice_get w.actions step.action ≡ Some a) (start before after : Atoms) (from : ℕ) (t u v : Table) (deletes adds : List GroundAtom) where
+module _ (w : World) (step : GroundAction) (a : Action) (there : slice_get w.actions step.action ≡ Some a) (start : Atoms) (from : ℕ) (t u v : Table) (deletes adds : List GroundAtom) where
   abbrev Gone : Atoms
   Gone = Deletes w.typing step.objects a.effect
 
   abbrev Come : Atoms
   Come = Adds w.typing step.objects a.effect
 
-  module _ (gone : Same (Contains deletes) Gone) (come : Same (Contains adds) Come) where
-    among : (g : GroundAtom) → Gone g ⊎ Come g → Contains deletes g ⊎ Contains adds g
-    among g (inl m) = inl ((gone g).1 m)
-    among g (inr m) = inr ((come g).1 m)
+  module _ (gone : Same (Contains deletes) Gone) (come : Same (Contains adds) Come) (ready : IsReady w step from t) where
+    known : (g : GroundAtom) → Contains deletes g ⊎ Contains adds g → Contains (rows_of t) (row_of g) × Before from (kept t g)
+    known g (inl m) = ready g ((touched_is w step a there g).0 (inl ((gone g).0 m)))
+    known g (inr m) = ready g ((touched_is w step a there g).0 (inr ((come g).0 m)))
 
-    both_decided : (g : GroundAtom) → IsDecided (Contains deletes g) → IsDecided (Contains adds g) → IsDecided (Gone g ⊎ Come g)
-    both_decided g (inl m) rest = inl (inl ((gone g).0 m))
-    both_decided g (inr out) (inl m) = inl (inr ((come g).0 m))
-    both_decided g (inr out) (inr off) = inr (λ m. elim (among g m) [ inl l ↦ out l | inr l ↦ off l ])
-
-    touch_decided : (g : GroundAtom) → IsDecided (Gone g ⊎ Come g) → IsDecided (TouchedBy w step g)
-    touch_decided g (inl m) = inl ((touched_is w step a there g).0 m)
-    touch_decided g (inr out) = inr (λ m. out ((touched_is w step a there g).1 m))
-
-  pub passed : (f : Formula) (env : List ℕ) → env ≡ step.objects → f ≡ a.precondition → Same (Contains deletes) Gone → Same (Contains adds) Come → True w.typing before f env → Same after (After before (Contains deletes) (Contains adds)) → AreNoted start after from (Contains deletes) t u
-      → AreNoted start after from (Contains adds) u v → IsPassed w step start before after from t v
-  passed f env os fs gone come h same first next =
-      record {
-        applicable = applies w before step a there f env fs os h;
-        state = acted w before step a there after (Contains deletes) (Contains adds) gone come same;
-        decided = λ g. touch_decided gone come g (both_decided gone come g (decided deletes g) (decided adds g));
-        noted = noted_some start after from (λ g. Contains deletes g ⊎ Contains adds g) (TouchedBy w step) (λ g m. among gone come g ((touched_is w step a there g).1 m)) t v (noted_both start after from (Contains deletes) (Contains adds) t u v first next);
-      }
+    pub passed : (f : Formula) (env : List ℕ) → env ≡ step.objects → f ≡ a.precondition → True w.typing (TrueAfter start (kept t) from) f env → IsSet start (Contains deletes) from false t u → IsSet start (Contains adds) from true u v → IsPassed w step start from t v
+    passed f env os fs h first next =
+        record {
+          applicable = applies w (TrueAfter start (kept t) from) step a there f env fs os h;
+          state =
+              acted w (TrueAfter start (kept t) from) step a there (TrueAfter start (kept v) from) (Contains deletes) (Contains adds) gone come
+              (λ g. after_both start (Contains deletes) (Contains adds) from t u v first next known g (decided deletes g) (decided adds g));
+          rows = next.rows ∙ first.rows;
+          steps = noted_both start (Contains deletes) (Contains adds) from t u v first next known;
+        }

@@ -1,6 +1,5 @@
 -- The states that a plan passes, as the code finds them.
 use Rattle.std.proofs.Common.{◌≡◌, ◌<◌, ◌+◌, ◌++◌, ◌↔◌, inl, inr, ℕ, zero, suc, List, [], ◌∷◌, length, take, get_or, slice_get, Option, None, Some, IsSomeAnd, sym, ap, ◌∙◌, subst, arith}
-use Rattle.std.specs.List.{Contains}
 use Rattle.std.proofs.lemmas.List.{take_more}
 use Rattle.hv_world.specs.Values.{Formula, Formulas, holds, and, or, not, imply, forall, exists, equal, no_formulas, more_formulas}
 use Rattle.hv_world.specs.Types.{Typing}

@@ -23,6 +23,14 @@ some_more P xs i x lt is =
     let more : take (i + 1) xs ≡ take i xs ++ x ∷ [] = take_more xs i x lt ∙ ap (λ y. take i xs ++ y ∷ []) (sym is) in
     subst (λ ys. (SomeOf P (take i xs) ⊎ P x) ↔ SomeOf P ys) (sym more) (some_push P (take i xs) x)
 
+-- some of the first of a list are some of it
+pub some_taken : {X : Type 0} (P : X → Type 0) (xs : List X) (i : ℕ) → SomeOf P (take i xs) → SomeOf P xs
+some_taken P [] zero m = m
+some_taken P [] (suc i) m = m
+some_taken P (x ∷ xs) zero m = absurd m
+some_taken P (x ∷ xs) (suc i) (inl p) = inl p
+some_taken P (x ∷ xs) (suc i) (inr m) = inr (some_taken P xs i m)
+
 -- the first of a list, where they are all
 pub taken : {X : Type 0} (xs : List X) (n : ℕ) → length xs ≤ n → take n xs ≡ xs
 taken [] zero h = refl

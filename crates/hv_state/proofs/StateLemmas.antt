@@ -3,7 +3,7 @@ use Rattle.std.proofs.Common.{◌≡◌, ◌<◌, ◌⊎◌, inl, inr, ℕ, List
 use Rattle.std.specs.List.{Contains}
 use Rattle.std.proofs.lemmas.List.{get_or-map, length-map}
 use Rattle.hv_world.specs.Bindings.{GroundAtom}
-use Rattle.hv_state.specs.Atoms.{Atoms, Same, After}
+use Rattle.hv_state.specs.Atoms.{Same, After}
 use Rattle.hv_state.specs.inside.Rows.{row_of, atom_of, Listed, IsWithoutAll, IsWithAll, HasSameRows}
 
 -- a row is of one atom
@@ -20,6 +20,10 @@ row_listed gs g (k, lt, e) = (k, omega (arith, lt, length-map gs row_of), get_or
 
 pub same_if : (xs ys : List (List ℕ)) → xs ≡ ys → Same (Listed xs) (Listed ys)
 same_if xs ys e g = (λ m. subst (λ rows. Listed rows g) e m, λ m. subst (λ rows. Listed rows g) (sym e) m)
+
+pub on_err_weaker : {T E P Q : Type 0} (r : Result T E) → (P → Q) → OnErr r P → OnErr r Q
+on_err_weaker (Ok x) h p = tt
+on_err_weaker (Err e) h p = h p
 
 pub on_err : {T E : Type 0} (r : Result T E) (P : Type 0) → P → OnErr r P
 on_err (Ok x) P p = tt

@@ -1,9 +1,9 @@
 //! Atoms as they are read, with the objects of their variables.
 
-ghost use Rattle.std.specs.Prelude.{◌≡◌};
+ghost use Rattle.std.specs.Prelude.{◌≡◌, map};
 ghost use Rattle.hv_world.specs.Views.{term_view, atom_view};
 ghost use Rattle.hv_world.specs.Bindings.{atom_under, objects_in, object_of};
-ghost use Rattle.hv_state.specs.Atoms.{atom_read};
+ghost use Rattle.hv_state.specs.Atoms.{atom_read, objects_read};
 
 use hv_world::{Atom, Binding, ObjectId, PredicateId, Term};
 
@@ -32,6 +32,50 @@ impl<'a> AtomView<'a> {
             predicate: atom.predicate,
             objects: Objects::OfTerms(&atom.terms, binding),
         }
+    }
+
+    /// The same, with the objects of up to three terms looked up once and put down in `numbers`.
+    pub(crate) fn resolved(
+        atom: &'a Atom,
+        binding: &'a Binding<'a>,
+        numbers: &'a mut [usize; 3],
+    ) -> AtomView<'a>
+        ensures { atom_read result ≡ atom_under (objects_in binding.now) (atom_view atom.now) }
+    {
+        AtomView {
+            predicate: atom.predicate,
+            objects: resolve(&atom.terms, binding, numbers),
+        }
+    }
+}
+
+// The objects of terms: those of up to three in `numbers`.
+fn resolve<'a>(
+    terms: &'a [Term],
+    binding: &'a Binding<'a>,
+    numbers: &'a mut [usize; 3],
+) -> Objects<'a>
+    ensures { objects_read result
+        ≡ map (object_of (objects_in binding.now)) (map term_view terms.now) }
+{
+    match terms {
+        [] => Objects::Given(&[]),
+        [first] => {
+            numbers[0] = object_of(binding, *first).0;
+            Objects::Given(&numbers[..1])
+        }
+        [first, second] => {
+            numbers[0] = object_of(binding, *first).0;
+            numbers[1] = object_of(binding, *second).0;
+            Objects::Given(&numbers[..2])
+        }
+        [first, second, third] => {
+            numbers[0] = object_of(binding, *first).0;
+            numbers[1] = object_of(binding, *second).0;
+            numbers[2] = object_of(binding, *third).0;
+            Objects::Given(&*numbers)
+        }
+        _ => Objects::OfTerms(terms, binding),
     }
 }
 

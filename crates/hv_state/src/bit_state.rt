@@ -8,8 +8,11 @@ ghost use Rattle.hv_state.specs.inside.Bits.{Lit, Shown, Knows, AreBits, IsChang
 use crate::atom::AtomView;
 use crate::bits::has_bit;
 use crate::ground::GroundAtoms;
+use crate::guesses::Guesses;
 use crate::lit::{bright, clear_all, knows_all, lacking, lit_rows, set_all};
-use crate::rows::{Row, copy_of, find, push_copies, rows_of, sort_distinct};
+use crate::rows::{
+    Row, copy_of, guesses_of, look_up, merge_distinct, push_copies, rows_of, sort_distinct,
+};
 use crate::state::State;
 use crate::touched::touched;
 use hv_text::Memory;
@@ -18,11 +21,12 @@ use std::alloc::Global;
 use std::marker::Model;
 use std::rc::Rc;
 
-/// A state as a row of bits: one for each atom of a table, which copies share. An atom is found by
-/// halving, and one that the table lacks is false.
+/// A state as a row of bits: one for each atom of a table, which copies share. An atom is found at a
+/// guess or by halving, and one that the table lacks is false.
 #[derive(Drop)]
 pub struct BitState {
     table: Rc<Vec<Row>>,
+    guesses: Rc<Guesses>,
     words: Vec<u64>,
 }
 
@@ -60,11 +64,16 @@ impl BitState {
         sort_distinct(&mut rows);
         let dark = lacking(alloc, &rows, more)?;
         push_copies(&mut rows, &dark)?;
-        sort_distinct(&mut rows);
+        merge_distinct(&mut rows)?;
         let mut words = bright(alloc, rows.len())?;
         clear_all(&rows, &mut words, &dark);
+        let guesses = Rc::new(alloc, guesses_of(alloc, &rows)?)?;
         let table = Rc::new(alloc, rows)?;
-        Ok(BitState { table, words })
+        Ok(BitState {
+            table,
+            guesses,
+            words,
+        })
     }
 
     // The same state once more, over a copy of the table that has these rows too.
@@ -110,12 +119,17 @@ impl State for BitState {
 
     fn copy(&self, alloc: Global) -> Result<BitState, Memory> {
         let table = self.table.clone()?;
+        let guesses = self.guesses.clone()?;
         let words = Vec::from_slice(alloc, &self.words)?;
-        Ok(BitState { table, words })
+        Ok(BitState {
+            table,
+            guesses,
+            words,
+        })
     }
 
     fn holds(&self, atom: &AtomView<'_>) -> bool {
-        match find(&self.table, atom) {
+        match look_up(&self.table, &self.guesses, atom) {
             Ok(number) => has_bit(&self.words, number),
             Err(_) => false,
         }

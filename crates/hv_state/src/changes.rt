@@ -1,22 +1,24 @@
 //! When the truth of atoms changes on the way of a plan.
 
-ghost use Rattle.std.specs.Prelude.{◌≡◌, ◌↔◌, ◌<◌, ℕ, Bool, false, List, [], ◌∷◌, length, map};
-ghost use Rattle.std.specs.Prelude.{IsTrue, IfOk, OnOk, OnErr};
+ghost use Rattle.std.specs.Prelude.{◌≡◌, ◌↔◌, ◌<◌, ◌+◌, ℕ, Bool, List, [], ◌∷◌, length, map};
+ghost use Rattle.std.specs.Prelude.{Ok, IsTrue, IfOk, OnOk, OnErr, All};
 ghost use Rattle.hv_world.specs.Bindings.{GroundAtom};
 ghost use Rattle.hv_state.specs.Atoms.{atom_read};
 ghost use Rattle.hv_state.specs.inside.Rows.{row_of, rows_in, Ascend, IsPlace};
 ghost use Rattle.hv_state.specs.inside.Histories.{Rise, kept, IsNext, IsNextIn, IsLeast};
 ghost use Rattle.hv_state.specs.inside.Histories.{AreFlagged, change_view, history_view, rows_of};
-ghost use Rattle.hv_state.specs.inside.Notes.{Before, grown, Contradicts, AreNoted};
+ghost use Rattle.hv_state.specs.inside.Notes.{Before, EndsAt, IsTurned, IsTurnedAt, IsSet};
 ghost use Rattle.hv_state.specs.Changes.{told, Tells, TrueAfter};
 
 use crate::atom::AtomView;
 use crate::bits::{has_bit, raise};
 use crate::facts::Facts;
-use crate::rows::{Row, compare};
+use crate::guesses::{Guesses, hash_of};
+use crate::rows::{Row, compare, guesses_of};
 use crate::state::State;
 use hv_text::Memory;
 use std::alloc::Global;
+use std::cmp::Ordering;
 use std::marker::Model;
 
 /// From an index on an atom is true, or false.
@@ -33,11 +35,12 @@ pub(crate) struct History {
     pub(crate) changes: Vec<Change>,
 }
 
-/// The atoms that a plan's actions touch, in order, each with its changes; and for each predicate a
-/// bit, which is set where an atom of it stands there.
+/// The atoms that a plan's actions touch, in order, each with its changes; guesses of where an atom
+/// stands; and for each predicate a bit, which is set where an atom of it stands there.
 #[derive(Drop)]
 pub(crate) struct Changes {
     list: Vec<History>,
+    guesses: Guesses,
     flags: Vec<u64>,
 }
 
@@ -59,6 +62,31 @@ fn find_history(list: &[History], atom: &AtomView<'_>) -> Result<usize, usize>
     ensures { IsPlace (rows_of (map history_view list.now)) (row_of (atom_read atom.now)) result }
 {
     list.binary_search_by(|history| compare(history.row.as_slice(), atom))
+}
+
+// Whether the history of an atom stands at a place.
+fn is_history_at(list: &[History], place: usize, atom: &AtomView<'_>) -> bool
+    ensures { IsTrue result →
+        IsPlace (rows_of (map history_view list.now)) (row_of (atom_read atom.now)) (Ok place) }
+{
+    match list.get(place) {
+        Some(history) => matches!(compare(history.row.as_slice(), atom), Ordering::Equal),
+        None => false,
+    }
+}
+
+// Where the history of an atom stands, or where it would: at one of the guesses, or found by halving.
+fn look_up_history(list: &[History], guesses: &Guesses, atom: &AtomView<'_>) -> Result<usize, usize>
+    requires { Ascend (rows_of (map history_view list.now)) }
+    ensures { IsPlace (rows_of (map history_view list.now)) (row_of (atom_read atom.now)) result }
+{
+    for guess in guesses.of(hash_of(atom)) {
+        let place = *guess as usize;
+        if is_history_at(list, place, atom) {
+            return Ok(place);
+        }
+    }
+    find_history(list, atom)
 }
 
 // What the last change up to an index says: by halving.
@@ -87,7 +115,7 @@ fn are_before(list: &[Change], index: usize) -> bool
 
 // What the changes of an atom say at last, or else the first state.
 fn says<S: State>(list: &[Change], first: &S, atom: &AtomView<'_>) -> bool
-    ensures { (k : ℕ) → Before k (map change_view list.now) → IsTrue result
+    ensures { (k : ℕ) → Before (k + 1) (map change_view list.now) → IsTrue result
         ↔ Tells (S.atoms first.now (atom_read atom.now)) k (map change_view list.now) }
 {
     match list.last() {
@@ -96,21 +124,29 @@ fn says<S: State>(list: &[Change], first: &S, atom: &AtomView<'_>) -> bool
     }
 }
 
-// Whether a change is behind those of an atom, and says otherwise than they do, or else the first
-// state.
-fn turns<S: State>(list: &[Change], change: Change, first: &S, atom: &AtomView<'_>) -> bool
-    requires { Rise (map change_view list.now) }
-    ensures behind { IsTrue result → Before change.from (map change_view list.now) }
-    ensures turned { IsTrue result → Contradicts
-        (S.atoms first.now (atom_read atom.now)) (change_view change) (map change_view list.now) }
-    ensures same { result ≡ false → Before change.from (map change_view list.now) →
-        Tells (S.atoms first.now (atom_read atom.now)) change.from (map change_view list.now)
-        ↔ IsTrue change.is_true }
+// Whether the last change is at an index.
+fn ends_at(list: &[Change], index: usize) -> bool
+    ensures { IsTrue result ↔ EndsAt index (map change_view list.now) }
 {
-    if !are_before(list, change.from) {
-        return false;
+    match list.last() {
+        Some(last) => last.from == index,
+        None => false,
     }
-    says(list, first, atom) != change.is_true
+}
+
+// Puts a change behind others. Where the last of them is at the same index, that one is undone.
+fn turn(list: &mut Vec<Change>, change: Change) -> Result<(), Memory>
+    requires { Rise (map change_view list.old.items) }
+    ensures ok { OnOk result (IsTurned (change_view change)
+        (map change_view list.old.items) (map change_view list.new.items)) }
+    ensures err { OnErr result (map change_view list.new.items ≡ map change_view list.old.items) }
+{
+    if are_before(list, change.from) {
+        list.push(change)?;
+    } else if ends_at(list, change.from) {
+        let _undone = list.pop();
+    }
+    Ok(())
 }
 
 // For each predicate a bit, which is set where a row is of it.
@@ -124,15 +160,15 @@ fn flags_of(alloc: Global, rows: &[Row]) -> Result<Vec<u64>, Memory>
     Ok(flags)
 }
 
-// Puts a change behind those of a history.
-fn push_at(list: &mut Vec<History>, place: usize, change: Change) -> Result<(), Memory>
-    requires { place < length list.old.items }
-    ensures ok { OnOk result (map history_view list.new.items ≡
-        grown (map history_view list.old.items) place (change_view change)) }
+// Has the changes of the history at a place turn.
+fn turn_at(list: &mut Vec<History>, place: usize, change: Change) -> Result<(), Memory>
+    requires place { place < length list.old.items }
+    requires rise { All (λ e. Rise e.1) (map history_view list.old.items) }
+    ensures ok { OnOk result (IsTurnedAt (map history_view list.old.items) place
+        (change_view change) (map history_view list.new.items)) }
     ensures err { OnErr result (map history_view list.new.items ≡ map history_view list.old.items) }
 {
-    list[place].changes.push(change)?;
-    Ok(())
+    turn(&mut list[place].changes, change)
 }
 
 /// The one of two numbers that is not above the other.
@@ -163,7 +199,7 @@ impl Changes {
         if !has_bit(&self.flags, atom.predicate.0) {
             return &[];
         }
-        match find_history(&self.list, atom) {
+        match look_up_history(&self.list, &self.guesses, atom) {
             Ok(place) => &self.list[place].changes,
             Err(_) => &[],
         }
@@ -183,6 +219,7 @@ impl Changes {
         ensures { IfOk result (λ c. c ≡ map (λ row. (row, [])) (rows_in rows.items)) }
     {
         let flags = flags_of(alloc, &rows)?;
+        let guesses = guesses_of(alloc, &rows)?;
         let mut list = Vec::with_capacity(alloc, rows.len())?;
         for row in rows {
             list.push(History {
@@ -190,26 +227,28 @@ impl Changes {
                 changes: Vec::new(alloc),
             })?;
         }
-        Ok(Changes { list, flags })
+        Ok(Changes {
+            list,
+            guesses,
+            flags,
+        })
     }
 
-    /// Notes how an atom is in a state from an index on, where its changes, or else the first
-    /// state, say otherwise. The atom is looked up once among the changes.
-    pub(crate) fn note<S: State>(
+    /// From an index on an atom is true, or false. It is noted where its changes, or else the first
+    /// state, say otherwise; a change at the same index is undone then.
+    pub(crate) fn set<S: State>(
         &mut self,
         first: &S,
-        state: &S,
         from: usize,
         atom: &AtomView<'_>,
+        is_true: bool,
     ) -> Result<(), Memory>
-        ensures { IfOk result (λ _. AreNoted (S.atoms first.now) (S.atoms state.now) from
-            (λ g. atom_read atom.now ≡ g) self.old self.new) }
+        ensures { IfOk result (λ _. IsSet (S.atoms first.now)
+            (λ g. atom_read atom.now ≡ g) from is_true self.old self.new) }
     {
-        if let Ok(place) = find_history(&self.list, atom) {
-            let is_true = state.holds(atom);
-            let change = Change { from, is_true };
-            if turns(&self.list[place].changes, change, first, atom) {
-                push_at(&mut self.list, place, change)?;
+        if let Ok(place) = look_up_history(&self.list, &self.guesses, atom) {
+            if says(&self.list[place].changes, first, atom) != is_true {
+                turn_at(&mut self.list, place, Change { from, is_true })?;
             }
         }
         Ok(())

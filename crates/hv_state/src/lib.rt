@@ -9,6 +9,7 @@ mod changes;
 mod evaluate;
 mod facts;
 mod ground;
+mod guesses;
 mod lanes;
 mod laws;
 mod lit;

@@ -8,7 +8,8 @@ use crate::atom::AtomView;
 use crate::changes::{Changes, least};
 use hv_world::{Binding, Formula, TypeId, World};
 
-/// The first index after `k` at which an atom changes that a formula speaks of, or else the end.
+/// The first index after `k` at which an atom changes that a formula speaks of, or else the end. No
+/// more is asked once that is the next index.
 #[cycle(next_change)]
 pub(crate) fn next_change(
     world: &World<'_>,
@@ -22,7 +23,11 @@ pub(crate) fn next_change(
     ensures { IsNext changes.now k end (SpokenOf world.now formula.now binding.now) result }
 {
     match formula {
-        Formula::Holds(atom) => changes.next(&AtomView::new(atom, &*binding), k, end),
+        Formula::Holds(atom) => changes.next(
+            &AtomView::resolved(atom, &*binding, &mut [0; 3]),
+            k,
+            end,
+        ),
         Formula::And(parts) => next_of_parts(world, changes, k, end, parts, binding),
         Formula::Or(parts) => next_of_parts(world, changes, k, end, parts, binding),
         Formula::Not(part) => next_change(world, changes, k, end, part, binding),
@@ -51,6 +56,9 @@ fn next_of_parts(
 {
     let mut until = end;
     for part in parts {
+        if until == k + 1 {
+            return until;
+        }
         until = least(until, next_change(world, changes, k, end, part, binding));
     }
     until
@@ -76,6 +84,9 @@ fn next_of_some(
         [first, others @ ..] => {
             let mut until = end;
             for object in world.objects_of(*first) {
+                if until == k + 1 {
+                    return until;
+                }
                 let inner = Binding::With(&*binding, *object);
                 until = least(
                     until,

@@ -1,6 +1,6 @@
 //! Sorted lists of atoms, each as a row of numbers: its predicate's, and then its objects'.
 
-ghost use Rattle.std.specs.Prelude.{◌≡◌, ◌++◌, ◌∷◌, IfOk};
+ghost use Rattle.std.specs.Prelude.{◌≡◌, ◌++◌, ◌∷◌, Ok, IsTrue, IfOk};
 ghost use Rattle.std.specs.Ordering.{nat_cmp};
 ghost use Rattle.std.specs.Cmp.Lexicographic.{slice_cmp};
 ghost use Rattle.hv_state.specs.Atoms.{objects_read, atom_read};
@@ -9,6 +9,7 @@ ghost use Rattle.hv_state.specs.inside.Rows.{objects_with, HaveCome};
 ghost use Rattle.hv_state.specs.inside.Rows.{Ascend, IsPlace, HasSameRows};
 
 use crate::atom::{AtomView, Objects, object_of};
+use crate::guesses::{Guesses, hash_of};
 use hv_text::Memory;
 use hv_world::{Atom, Binding, PredicateId, Term};
 use smallvec::SmallVec;
@@ -105,12 +106,48 @@ pub(crate) fn compare(row: &[usize], atom: &AtomView<'_>) -> Ordering
     }
 }
 
-/// Where the row of an atom stands, or where it would: by halving.
-pub(crate) fn find(rows: &[Row], atom: &AtomView<'_>) -> Result<usize, usize>
+// Where the row of an atom stands, or where it would: by halving.
+fn find(rows: &[Row], atom: &AtomView<'_>) -> Result<usize, usize>
     requires { Ascend (rows_in rows.now) }
     ensures { IsPlace (rows_in rows.now) (row_of (atom_read atom.now)) result }
 {
     rows.binary_search_by(|row| compare(row.as_slice(), atom))
+}
+
+// Whether the row of an atom stands at a place.
+fn stands_at(rows: &[Row], place: usize, atom: &AtomView<'_>) -> bool
+    ensures { IsTrue result →
+        IsPlace (rows_in rows.now) (row_of (atom_read atom.now)) (Ok place) }
+{
+    match rows.get(place) {
+        Some(row) => matches!(compare(row.as_slice(), atom), Ordering::Equal),
+        None => false,
+    }
+}
+
+/// Where the row of an atom stands, or where it would: at one of the guesses, or found by halving.
+pub(crate) fn look_up(rows: &[Row], guesses: &Guesses, atom: &AtomView<'_>) -> Result<usize, usize>
+    requires { Ascend (rows_in rows.now) }
+    ensures { IsPlace (rows_in rows.now) (row_of (atom_read atom.now)) result }
+{
+    for guess in guesses.of(hash_of(atom)) {
+        let place = *guess as usize;
+        if stands_at(rows, place, atom) {
+            return Ok(place);
+        }
+    }
+    find(rows, atom)
+}
+
+/// Guesses of where the rows of a list stand.
+pub(crate) fn guesses_of(alloc: Global, rows: &[Row]) -> Result<Guesses, Memory> {
+    let mut guesses = Guesses::with_room(alloc, rows.len())?;
+    for (place, row) in rows.iter().enumerate() {
+        if let Ok(place) = u32::try_from(place) {
+            guesses.note(hash_of(&row.atom()), place);
+        }
+    }
+    Ok(guesses)
 }
 
 /// Where a row stands, or where it would.
@@ -194,6 +231,22 @@ pub(crate) fn sort_distinct(rows: &mut Vec<Row>)
 {
     rows.sort_unstable();
     rows.dedup();
+}
+
+/// The same. Where parts of them are in order already, the others are sorted and merged with them,
+/// which takes room for all of them once more.
+///
+/// # Errors
+///
+/// `Memory` where that room was refused.
+pub(crate) fn merge_distinct(rows: &mut Vec<Row>) -> Result<(), Memory>
+    ensures ascend { IfOk result (λ _. Ascend (rows_in rows.new.items)) }
+    ensures exact { IfOk result (λ _. HasSameRows (rows_in rows.old.items)
+        (rows_in rows.new.items)) }
+{
+    rows.sort()?;
+    rows.dedup();
+    Ok(())
 }
 
 /// Puts copies of rows behind others. They get room for these and no more.

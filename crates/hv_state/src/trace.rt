@@ -79,7 +79,6 @@ impl<'a, 's, S: State> Trace<'a, 's, S> {
         ensures stop { IfErr result (IsStop (plan_of world.now actions.now)) }
     {
         let first = S::initial_for(alloc, world, actions)?;
-        let mut state = first.copy(alloc)?;
         let mut changes = Changes::none(alloc, touched(alloc, world, actions)?)?;
         for number in 0..actions.len() {
             if !pass(
@@ -87,7 +86,6 @@ impl<'a, 's, S: State> Trace<'a, 's, S> {
                 world,
                 &actions.at(number),
                 &first,
-                &mut state,
                 &mut changes,
                 number + 1,
             )? {

@@ -10,7 +10,7 @@ use Rattle.hv_state.proofs.Levels.{levels, most_levels}
 use Rattle.hv_state.proofs.FormulaLemmas.{view-Forall, view-Exists, part_below}
 use Rattle.hv_state.proofs.Chosen.{front}
 use Rattle.hv_state.proofs.SomeLemmas.{SomeOf, some_objects}
-use Rattle.hv_state.proofs.NextLemmas.{next_like, next_push, next_all, mentioned_parts}
+use Rattle.hv_state.proofs.NextLemmas.{next_like, next_push, next_all, next_soon, mentioned_parts}
 use Rattle.hv_state.proofs.next.+next_change.Goals as goal
 
 pub next_change-returns-in-Forall : goal.next_change-returns-in-Forall
@@ -42,6 +42,14 @@ next_of_parts-loop-part-preserved t c =
     let env = objects_in c.args.binding.now in
     next_push c.args.changes.now c.args.k c.args.end (λ f g. Mentions w g (formula_view f) env) c.args.parts.now c.loop-part.part-index c.part-item.result c.loop-part.until c.next_change.result c.least-until.result c.loop-part-test.true c.part-item.is c.loop-part.invariant c.next_change.ensures c.least-until.ensures
 
+pub next_of_parts-returns-then-until-k : goal.next_of_parts-returns-then-until-k
+next_of_parts-returns-then-until-k t c =
+    let w = (world_view c.args.world.now).typing in
+    let env = objects_in c.args.binding.now in
+    let parts = c.args.parts.now in
+    let soon = next_soon c.args.changes.now c.args.k c.args.end (λ f g. Mentions w g (formula_view f) env) parts c.loop-part.part-index c.loop-part.until c.if-until-k.true c.loop-part.invariant in
+    next_like c.args.changes.now c.args.k c.args.end (λ g. SomeOf (λ f. Mentions w g (formula_view f) env) parts) (λ g. SomeMention w g (formulas_of (map formula_view parts)) env) c.loop-part.until (λ g. mentioned_parts w g env parts) soon
+
 pub next_of_parts-returns : goal.next_of_parts-returns
 next_of_parts-returns t c =
     let w = (world_view c.args.world.now).typing in
@@ -56,6 +64,17 @@ next_of_some-loop-object-preserved t c =
     let env = objects_in c.args.binding.now in
     let objects = c.objects_of-object-items.result.now in
     next_push c.args.changes.now c.args.k c.args.end (λ o g. ForSome w (Mentions w g (formula_view c.args.formula.now)) _ (env ++ o.0 ∷ [])) objects c.loop-object.object-index (get_or objects c.loop-object.object-index (record { 0 = 0 })) c.loop-object.until c.next_of_some.result c.least-until.result c.loop-object-test.true (search rules) c.loop-object.invariant c.next_of_some.ensures c.least-until.ensures
+
+pub next_of_some-returns-then-until-k : goal.next_of_some-returns-then-until-k
+next_of_some-returns-then-until-k t c =
+    let w = (world_view c.args.world.now).typing in
+    let env = objects_in c.args.binding.now in
+    let f = formula_view c.args.formula.now in
+    let objects = c.objects_of-object-items.result.now in
+    let first = get_or c.args.of.now 0 (record { 0 = 0 }) in
+    let soon = next_soon c.args.changes.now c.args.k c.args.end (λ o g. ForSome w (Mentions w g f) _ (env ++ o.0 ∷ [])) objects c.loop-object.object-index c.loop-object.until c.if-until-k.true c.loop-object.invariant in
+    subst (λ ts. IsNext c.args.changes.now c.args.k c.args.end (λ g. ForSome w (Mentions w g f) ts env) c.loop-object.until) (sym (front c.args.of.now (record { 0 = 0 }) (omega arith)))
+    (next_like c.args.changes.now c.args.k c.args.end _ _ c.loop-object.until (λ g. some_objects w first.0 objects c.objects_of-object-items.ensures.exact (Mentions w g f) _ env) soon)
 
 pub next_of_some-returns-after-loop-object : goal.next_of_some-returns-after-loop-object
 next_of_some-returns-after-loop-object t c =

@@ -6,18 +6,16 @@ use Rattle.hv_world.specs.SectionViews.{action_view}
 use Rattle.hv_world.specs.Values.{Effects}
 use Rattle.hv_world.specs.WorldViews.{world_view}
 use Rattle.hv_state.specs.Atoms.{Atoms, Same}
-use Rattle.hv_state.specs.inside.Notes.{AreNoted}
+use Rattle.hv_state.specs.inside.Notes.{IsSet}
 use Rattle.hv_state.proofs.StateLemmas.{atoms_are}
 use Rattle.hv_state.proofs.NoteLemmas.{passed}
 use Rattle.hv_state.proofs.pass.pass.Goals as goal
 
 pub returns-clause-done : goal.returns-clause-done
-returns-clause-done g c = λ ran.
+returns-clause-done g c = λ ran ready.
     let w = world_view c.args.world.now in
     let step = ground_action_view c.args.step.now in
     let start = g.S.State.atoms c.args.first.now in
-    let before = g.S.State.atoms c.args.state.now in
-    let after = g.S.State.atoms c.apply.new.self in
     let from = c.args.from in
     let a = action_view c.in-Some.action.now in
     let deletes = c.in_ok-deletes.deletes in
@@ -28,7 +26,7 @@ returns-clause-done g c = λ ran.
     let makes = λ (b : Bool) (os : List ℕ) (es : Effects) (S : Atoms). Same S (SomeMakes w.typing b os es) in
     let gone = subst (λ os. makes false os a.effect (Contains deletes)) objects (subst (λ es. makes false env es (Contains deletes)) c.effect.ensures c.in_ok-deletes.ensures) in
     let come = subst (λ os. makes true os a.effect (Contains adds)) objects (subst (λ es. makes true env es (Contains adds)) c.effect-2.ensures c.in_ok-adds.ensures) in
-    let is : IsTrue c.truth.result = search (rules, c.if-not-truth.false) in
-    let first = subst (λ xs. AreNoted start after from (Contains xs) c.args.changes.now c.note_all.new.changes) (atoms_are _ deletes c.rows.ensures) c.in_ok-note_all.ensures in
-    let next = subst (λ xs. AreNoted start after from (Contains xs) c.note_all.new.changes c.note_all-2.new.changes) (atoms_are _ adds c.rows-2.ensures) c.in_ok-note_all-2.ensures in
-    passed w step a there start before after from c.args.changes.now c.note_all.new.changes c.note_all-2.new.changes deletes adds _ env objects c.precondition.ensures gone come (c.truth.ensures.0 is) c.in_ok-apply.ensures.ok first next
+    let is : IsTrue c.evaluate.result = search (rules, c.if-not-evaluate.false) in
+    let first = subst (λ xs. IsSet start (Contains xs) from false c.args.changes.now c.set_all.new.changes) (atoms_are _ deletes c.rows.ensures) c.in_ok-set_all.ensures in
+    let next = subst (λ xs. IsSet start (Contains xs) from true c.set_all.new.changes c.set_all-2.new.changes) (atoms_are _ adds c.rows-2.ensures) c.in_ok-set_all-2.ensures in
+    passed w step a there start from c.args.changes.now c.set_all.new.changes c.set_all-2.new.changes deletes adds gone come ready _ env objects c.precondition.ensures (c.evaluate.ensures.0 is) first next

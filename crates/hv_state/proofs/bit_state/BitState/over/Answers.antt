@@ -15,7 +15,7 @@ returns-clause-known c =
     let new = rows_in c.in_ok-dark.dark.items in
     let lack = subst (λ vs. AreLacking (rows_in vs) more new) c.deref.ensures.value c.in_ok-dark.ensures in
     let both = c.in_ok-push_copies.ensures ∙ ap (λ vs. rows ++ rows_in vs) c.deref-2.ensures.value in
-    let known = knows_more_rows (rows_in c.args.lit.items) rows more new (rows_in c.push_copies.new.rows.items) (rows_in c.sort_distinct-2.new.rows.items) c.sort_distinct.ensures.exact lack both c.sort_distinct-2.ensures.exact in
+    let known = knows_more_rows (rows_in c.args.lit.items) rows more new (rows_in c.push_copies.new.rows.items) (rows_in c.merge_distinct.new.rows.items) c.sort_distinct.ensures.exact lack both c.in_ok-merge_distinct.ensures.exact in
     subst (λ vs. Knows (rows_in vs) more) (sym (ap (λ v. v.items) c.in_ok-table.ensures.ok)) known
 
 pub returns-clause-lit : goal.returns-clause-lit
@@ -23,13 +23,13 @@ returns-clause-lit c =
     let rows = rows_in c.sort_distinct.new.rows.items in
     let more = rows_in c.args.more.now in
     let new = rows_in c.in_ok-dark.dark.items in
-    let sorted = rows_in c.sort_distinct-2.new.rows.items in
+    let sorted = rows_in c.merge_distinct.new.rows.items in
     let old = c.in_ok-words.words.items in
     let words = c.clear_all.new.words.items in
     let lack = subst (λ vs. AreLacking (rows_in vs) more new) c.deref.ensures.value c.in_ok-dark.ensures in
     let both = c.in_ok-push_copies.ensures ∙ ap (λ vs. rows ++ rows_in vs) c.deref-2.ensures.value in
-    let size : vec_len c.sort_distinct-2.new.rows ≡ length c.sort_distinct-2.new.rows.items = search rules in
-    let long = length-map c.sort_distinct-2.new.rows.items (λ (u : Row). u.numbers.items) in
+    let size : vec_len c.merge_distinct.new.rows ≡ length c.merge_distinct.new.rows.items = search rules in
+    let long = length-map c.merge_distinct.new.rows.items (λ (u : Row). u.numbers.items) in
     let dark = subst (λ vs. AreDark (rows_in vs) old new words) c.deref-3.ensures.value (subst (λ vs. AreDark (rows_in c.deref-3.result.now) old (rows_in vs) words) c.deref-4.ensures.value c.clear_all.ensures.dark) in
-    let lit = lit_but (rows_in c.args.lit.items) rows more new (rows_in c.push_copies.new.rows.items) sorted c.sort_distinct.ensures.exact lack both c.sort_distinct-2.ensures.exact old words (λ i lt. c.in_ok-words.ensures.all i (omega (arith, lt, long, size, c.len.ensures))) dark in
+    let lit = lit_but (rows_in c.args.lit.items) rows more new (rows_in c.push_copies.new.rows.items) sorted c.sort_distinct.ensures.exact lack both c.in_ok-merge_distinct.ensures.exact old words (λ i lt. c.in_ok-words.ensures.all i (omega (arith, lt, long, size, c.len.ensures))) dark in
     subst (λ vs. (r : List ℕ) → Lit (rows_in vs, words) r ↔ Contains (rows_in c.args.lit.items) r) (sym (ap (λ v. v.items) c.in_ok-table.ensures.ok)) lit

@@ -9,20 +9,17 @@ use Rattle.hv_state.proofs.trace.Trace.run.Goals as goal
 pub loop-number-init : goal.loop-number-init
 loop-number-init g c =
     let p = plan (world_view c.args.world.now) (ground_actions_view c.args.actions.now) in
-    let atoms = g.S.State.atoms in
-    so_far_begun p (atoms c.in_ok-first.first) (atoms c.in_ok-state.state) c.in_ok-changes.changes (rows_in c.in_ok-touched.field-0.items) c.in_ok-first.ensures c.in_ok-state.ensures c.in_ok-changes.ensures c.in_ok-touched.ensures.exact
+    so_far_begun p (g.S.State.atoms c.in_ok-first.first) c.in_ok-changes.changes (rows_in c.in_ok-touched.field-0.items) c.in_ok-first.ensures c.in_ok-changes.ensures c.in_ok-touched.ensures.exact
 
 pub returns-then-not-branch-clause-stop : goal.returns-then-not-branch-clause-stop
 returns-then-not-branch-clause-stop g c =
     let p = plan (world_view c.args.world.now) (ground_actions_view c.args.actions.now) in
-    let atoms = g.S.State.atoms in
     let n = c.loop-number.number in
     let stopped : c.in_ok-pass.field-0 ≡ false = c.if-not-branch.true in
-    so_far_stops p n (ground_action_view c.at.result) c.at.ensures (atoms c.in_ok-first.first) (atoms c.loop-number.state) c.loop-number.changes c.loop-number.invariant (omega (arith, c.loop-number-test.true, c.len-number-end.ensures)) (c.in_ok-pass.ensures.stopped stopped)
+    so_far_stops p n (ground_action_view c.at.result) c.at.ensures (g.S.State.atoms c.in_ok-first.first) c.loop-number.changes c.loop-number.invariant (omega (arith, c.loop-number-test.true, c.len-number-end.ensures)) (c.in_ok-pass.ensures.stopped stopped)
 
 pub loop-number-preserved : goal.loop-number-preserved
 loop-number-preserved g c =
     let p = plan (world_view c.args.world.now) (ground_actions_view c.args.actions.now) in
-    let atoms = g.S.State.atoms in
     let n = c.loop-number.number in
-    so_far_more p n (ground_action_view c.at.result) c.at.ensures (atoms c.in_ok-first.first) (atoms c.loop-number.state) c.loop-number.changes c.loop-number.invariant (atoms c.pass.new.state) c.pass.new.changes (c.in_ok-pass.ensures.done c.if-not-branch.false)
+    so_far_more p n (ground_action_view c.at.result) c.at.ensures (g.S.State.atoms c.in_ok-first.first) c.loop-number.changes c.loop-number.invariant c.pass.new.changes (c.in_ok-pass.ensures.done c.if-not-branch.false)

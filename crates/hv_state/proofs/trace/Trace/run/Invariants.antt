@@ -6,4 +6,4 @@ use Rattle.hv_state.proofs.trace.Trace.run.Given as goal
 
 -- the plan so far
 abbrev pub invariant-loop-number : goal.invariant-loop-number
-invariant-loop-number g l = IsSoFar (plan (world_view l.world) (ground_actions_view l.actions)) l.number (g.S.State.atoms l.first) (g.S.State.atoms l.state) l.changes
+invariant-loop-number g l = IsSoFar (plan (world_view l.world) (ground_actions_view l.actions)) l.number (g.S.State.atoms l.first) l.changes
