@@ -1,4 +1,5 @@
--- The numbers and names under which faults and causes are reported, and the kind of a verdict.
+-- The numbers and names under which faults and causes are reported, the verdict of an answer and the
+-- kind of a verdict.
 use Rattle.std.specs.Prelude.{ℕ, List, codes}
 use Rattle.hv_plan.specs.Causes as trees
 use Rattle.hv_answer.specs.declared.answer.Which.{Which}
@@ -9,6 +10,8 @@ use Rattle.hv_answer.specs.declared.answer.CauseKind.{CauseKind}
 use Rattle.hv_answer.specs.declared.answer.CauseKind.TheVariants as causes
 use Rattle.hv_answer.specs.declared.answer.Answer.{Answer}
 use Rattle.hv_answer.specs.declared.answer.Answer.TheVariants as answers
+use Rattle.hv_answer.specs.declared.answer.Verdict.{Verdict}
+use Rattle.hv_answer.specs.declared.answer.Verdict.TheVariants as verdicts
 use Rattle.hv_answer.specs.declared.answer.Kind.{Kind}
 use Rattle.hv_answer.specs.declared.answer.Kind.TheVariants as kinds
 
@@ -99,9 +102,16 @@ cause_name causes.NoBinding = codes "NoBinding"
 cause_name causes.OrderBroken = codes "OrderBroken"
 cause_name causes.PreconditionUnplaced = codes "PreconditionUnplaced"
 
--- the kind of the verdict of an answer
-abbrev pub kind_of : Answer → Kind
-kind_of (answers.Solves c) = kinds.Solves
-kind_of (answers.Fails c) = kinds.Fails
-kind_of (answers.Undecided line) = kinds.Undecided
-kind_of (answers.Rejected w f) = kinds.Rejected
+-- the verdict of an answer: the answer without its certificate
+abbrev pub verdict_of : Answer → Verdict
+verdict_of (answers.Solves c) = verdicts.Solves
+verdict_of (answers.Fails c) = verdicts.Fails c
+verdict_of (answers.Undecided line) = verdicts.Undecided line
+verdict_of (answers.Rejected w f) = verdicts.Rejected w f
+
+-- the kind of a verdict
+abbrev pub kind_of : Verdict → Kind
+kind_of verdicts.Solves = kinds.Solves
+kind_of (verdicts.Fails c) = kinds.Fails
+kind_of (verdicts.Undecided line) = kinds.Undecided
+kind_of (verdicts.Rejected w f) = kinds.Rejected

@@ -1,14 +1,16 @@
--- The text of an answer.
-use Rattle.std.specs.Prelude.{ℕ, Bool, List, [], ◌∷◌, ◌++◌, Option, None, Some, codes, decimal, if◌then◌else◌}
+-- The text of a verdict and of an answer.
+use Rattle.std.specs.Prelude.{ℕ, Bool, true, false, List, [], ◌∷◌, ◌++◌, Option, None, Some, codes, decimal}
 use Rattle.hv_certificate.specs.Texts.{joined, certificate_text}
-use Rattle.hv_answer.specs.Kinds.{which_name, fault_number, fault_name, cause_number, cause_name}
+use Rattle.hv_answer.specs.Kinds.{which_name, fault_number, fault_name, cause_number, cause_name, verdict_of}
 use Rattle.hv_answer.specs.declared.answer.Place.{Place}
 use Rattle.hv_answer.specs.declared.answer.Place.TheVariants.{Nowhere, Line, At}
 use Rattle.hv_answer.specs.declared.answer.Which.{Which}
 use Rattle.hv_answer.specs.declared.answer.Fault.{Fault}
 use Rattle.hv_answer.specs.declared.answer.Cause.{Cause}
 use Rattle.hv_answer.specs.declared.answer.Answer.{Answer}
-use Rattle.hv_answer.specs.declared.answer.Answer.TheVariants.{Solves, Fails, Undecided, Rejected}
+use Rattle.hv_answer.specs.declared.answer.Answer.TheVariants as answers
+use Rattle.hv_answer.specs.declared.answer.Verdict.{Verdict}
+use Rattle.hv_answer.specs.declared.answer.Verdict.TheVariants.{Solves, Fails, Undecided, Rejected}
 
 -- where a cause stands
 abbrev pub line_text : Option ℕ → List ℕ
@@ -34,20 +36,25 @@ fault_text w f =
     ∷ codes " " ∷ fault_name f.kind ∷ [])
     ++ place_text f.place
 
--- the first line of an answer, without its end
-abbrev pub verdict_text : Answer → List ℕ
-verdict_text (Solves c) = codes "solves"
-verdict_text (Fails c) = cause_text c
-verdict_text (Undecided line) = joined (codes "undecided line " ∷ decimal line ∷ [])
-verdict_text (Rejected w f) = fault_text w f
+-- the line of a verdict, without its end
+abbrev pub verdict_words : Verdict → List ℕ
+verdict_words Solves = codes "solves"
+verdict_words (Fails c) = cause_text c
+verdict_words (Undecided line) = joined (codes "undecided line " ∷ decimal line ∷ [])
+verdict_words (Rejected w f) = fault_text w f
+
+-- the whole text of a verdict
+abbrev pub verdict_text : Verdict → List ℕ
+verdict_text v = verdict_words v ++ codes "\n"
 
 -- what is explained: the certificate, where there is one
-abbrev pub explanation : Answer → Bool → List ℕ
-explanation (Solves c) explain = if explain then certificate_text c else []
-explanation (Fails c) explain = []
-explanation (Undecided line) explain = []
-explanation (Rejected w f) explain = []
+abbrev pub explanation : Answer → List ℕ
+explanation (answers.Solves c) = certificate_text c
+explanation (answers.Fails c) = []
+explanation (answers.Undecided line) = []
+explanation (answers.Rejected w f) = []
 
--- the whole text of an answer
+-- the whole text of an answer: that of its verdict, with or without what is explained
 abbrev pub answer_text : Answer → Bool → List ℕ
-answer_text a explain = (verdict_text a ++ codes "\n") ++ explanation a explain
+answer_text a true = verdict_text (verdict_of a) ++ explanation a
+answer_text a false = verdict_text (verdict_of a)

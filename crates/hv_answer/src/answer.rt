@@ -1,7 +1,7 @@
 //! Verdicts: what the judge says of a domain, a problem and a plan.
 
 ghost use Rattle.std.specs.Prelude.{◌≡◌};
-ghost use Rattle.hv_answer.specs.Kinds.{fault_number, fault_name, cause_number, cause_name, which_name, kind_of};
+ghost use Rattle.hv_answer.specs.Kinds.{fault_number, fault_name, cause_number, cause_name, which_name, kind_of, verdict_of};
 ghost use Rattle.hv_answer.specs.Places.{cause_at, cause_nowhere};
 
 use hv_certificate::Certificate;
@@ -273,11 +273,11 @@ impl Cause {
     }
 }
 
-/// The verdict.
-#[derive(Drop)]
-pub enum Answer<'s> {
-    /// The plan solves the problem, for these choices.
-    Solves(Certificate<'s>),
+/// What is said of a plan, without a certificate.
+#[derive(Clone, Copy, Debug, PartialEq, Eq)]
+pub enum Verdict {
+    /// The plan solves the problem.
+    Solves,
     /// The plan does not solve the problem, for this cause.
     Fails(Cause),
     /// The node on this line, counted from 1, has more choices than the limit.
@@ -295,16 +295,50 @@ pub enum Kind {
     Rejected,
 }
 
-impl Answer<'_> {
+impl Verdict {
     /// The kind of the verdict.
-    pub fn kind(&self) -> Kind
-        ensures { result ≡ kind_of self.now }
+    pub fn kind(self) -> Kind
+        ensures { result ≡ kind_of self }
     {
         match self {
-            Answer::Solves(_) => Kind::Solves,
-            Answer::Fails(_) => Kind::Fails,
-            Answer::Undecided(_) => Kind::Undecided,
-            Answer::Rejected(_, _) => Kind::Rejected,
+            Verdict::Solves => Kind::Solves,
+            Verdict::Fails(_) => Kind::Fails,
+            Verdict::Undecided(_) => Kind::Undecided,
+            Verdict::Rejected(_, _) => Kind::Rejected,
         }
+    }
+}
+
+/// A verdict, with the certificate of a plan that solves its problem.
+#[derive(Drop)]
+pub enum Answer<'s> {
+    /// The plan solves the problem, for these choices.
+    Solves(Certificate<'s>),
+    /// The plan does not solve the problem, for this cause.
+    Fails(Cause),
+    /// The node on this line, counted from 1, has more choices than the limit.
+    Undecided(u32),
+    /// One of the texts is not judged.
+    Rejected(Which, Fault),
+}
+
+impl Answer<'_> {
+    /// The verdict, without the certificate.
+    pub fn verdict(&self) -> Verdict
+        ensures { result ≡ verdict_of self.now }
+    {
+        match self {
+            Answer::Solves(_) => Verdict::Solves,
+            Answer::Fails(cause) => Verdict::Fails(*cause),
+            Answer::Undecided(line) => Verdict::Undecided(*line),
+            Answer::Rejected(which, fault) => Verdict::Rejected(*which, *fault),
+        }
+    }
+
+    /// The kind of the verdict.
+    pub fn kind(&self) -> Kind
+        ensures { result ≡ kind_of (verdict_of self.now) }
+    {
+        self.verdict().kind()
     }
 }

@@ -5,5 +5,5 @@
 mod answer;
 mod write;
 
-pub use answer::{Answer, Cause, CauseKind, Fault, FaultKind, Kind, Place, Which};
-pub use write::write_answer;
+pub use answer::{Answer, Cause, CauseKind, Fault, FaultKind, Kind, Place, Verdict, Which};
+pub use write::{write_answer, write_verdict};

@@ -1,4 +1,4 @@
-//! The text of an answer, written piece by piece: writing takes no memory.
+//! The text of a verdict and of an answer, written piece by piece: writing takes no memory.
 
 ghost use Rattle.std.specs.Prelude.{◌≡◌, ◌<◌, ◌≤◌, length, ◌+◌, ◌-◌, ◌^◌, ◌++◌, codes, Some, OnOk, OnErr, is_ok, if◌then◌else◌};
 ghost use Rattle.std.specs.Io.KnownBytes.{Appends};
@@ -6,9 +6,10 @@ ghost use Rattle.hv_text.specs.Bytes.{lower};
 ghost use Rattle.hv_text.specs.Names.{text_of};
 ghost use Rattle.hv_text.specs.Io.{AppendsBeginning};
 ghost use Rattle.hv_certificate.specs.Texts.{ids_text, names_text, children_text, objects_text, choice_text, root_text, node_text, nodes_text, certificate_text};
-ghost use Rattle.hv_answer.specs.Text.{line_text, place_text, cause_text, fault_text, verdict_text, explanation, answer_text};
+ghost use Rattle.hv_answer.specs.Kinds.{verdict_of};
+ghost use Rattle.hv_answer.specs.Text.{line_text, place_text, cause_text, fault_text, verdict_words, verdict_text, explanation, answer_text};
 
-use crate::answer::{Answer, Cause, Fault, Place, Which};
+use crate::answer::{Answer, Cause, Fault, Place, Verdict, Which};
 use hv_certificate::{Certificate, Choice};
 use hv_text::{Name, Sink, WriteFault, write_all, write_parts};
 use itoa::Buffer;
@@ -261,61 +262,70 @@ fn write_fault<W: Sink>(out: &mut W, which: Which, fault: Fault) -> Result<(), W
     write_place(out, fault.place)
 }
 
-fn write_verdict<W: Sink>(out: &mut W, answer: &Answer<'_>) -> Result<(), WriteFault>
+// Writes the line of a verdict, without its end.
+fn write_words<W: Sink>(out: &mut W, verdict: Verdict) -> Result<(), WriteFault>
     requires { W.failures out.old < 2 ^ 64 - 1 }
     ensures ok { OnOk result (Appends (W.taken out.old) (W.taken out.new)
-        (verdict_text answer.now)) }
+        (verdict_words verdict)) }
     ensures err { OnErr result (AppendsBeginning (W.taken out.old) (W.taken out.new)
-        (verdict_text answer.now)) }
+        (verdict_words verdict)) }
     ensures failures { W.failures out.new ≡ W.failures out.old + (if is_ok result then 0 else 1) }
 {
-    match answer {
-        Answer::Solves(_) => write_all(out, b"solves"),
-        Answer::Fails(cause) => write_cause(out, *cause),
-        Answer::Undecided(line) => {
+    match verdict {
+        Verdict::Solves => write_all(out, b"solves"),
+        Verdict::Fails(cause) => write_cause(out, cause),
+        Verdict::Undecided(line) => {
             let mut number = Buffer::new();
-            write_parts(out, &[b"undecided line ", number.format(*line).as_bytes()])
+            write_parts(out, &[b"undecided line ", number.format(line).as_bytes()])
         }
-        Answer::Rejected(which, fault) => write_fault(out, *which, *fault),
+        Verdict::Rejected(which, fault) => write_fault(out, which, fault),
     }
 }
 
-fn write_first_line<W: Sink>(out: &mut W, answer: &Answer<'_>) -> Result<(), WriteFault>
+/// Writes the text of a verdict, which is one line. Where a write fails, a beginning of that text
+/// was written. No memory is taken.
+pub fn write_verdict<W: Sink>(verdict: Verdict, out: &mut W) -> Result<(), WriteFault>
     requires { W.failures out.old < 2 ^ 64 - 1 }
     ensures ok { OnOk result (Appends (W.taken out.old) (W.taken out.new)
-        (verdict_text answer.now ++ codes "\n")) }
+        (verdict_text verdict)) }
     ensures err { OnErr result (AppendsBeginning (W.taken out.old) (W.taken out.new)
-        (verdict_text answer.now ++ codes "\n")) }
+        (verdict_text verdict)) }
     ensures failures { W.failures out.new ≡ W.failures out.old + (if is_ok result then 0 else 1) }
 {
-    write_verdict(out, answer)?;
+    write_words(out, verdict)?;
     write_all(out, b"\n")
 }
 
-fn write_explanation<W: Sink>(
-    out: &mut W,
-    answer: &Answer<'_>,
-    explain: bool,
-) -> Result<(), WriteFault>
+fn write_explanation<W: Sink>(out: &mut W, answer: &Answer<'_>) -> Result<(), WriteFault>
     requires { W.failures out.old < 2 ^ 64 - 1 }
     ensures ok { OnOk result (Appends (W.taken out.old) (W.taken out.new)
-        (explanation answer.now explain)) }
+        (explanation answer.now)) }
     ensures err { OnErr result (AppendsBeginning (W.taken out.old) (W.taken out.new)
-        (explanation answer.now explain)) }
+        (explanation answer.now)) }
     ensures failures { W.failures out.new ≡ W.failures out.old + (if is_ok result then 0 else 1) }
 {
-    let Answer::Solves(certificate) = answer else {
-        return Ok(());
-    };
-    if !explain {
-        return Ok(());
+    match answer {
+        Answer::Solves(certificate) => write_certificate(out, certificate),
+        _ => Ok(()),
     }
-    write_certificate(out, certificate)
 }
 
-/// Writes the text of an answer: one line, and where a plan solves its problem and `explain` is
-/// asked for, a line for `root` and one for each decomposition line. Where a write fails, a
-/// beginning of that text was written. No memory is taken.
+// Writes the text of an answer with its explanation.
+fn write_explained<W: Sink>(out: &mut W, answer: &Answer<'_>) -> Result<(), WriteFault>
+    requires { W.failures out.old < 2 ^ 64 - 1 }
+    ensures ok { OnOk result (Appends (W.taken out.old) (W.taken out.new)
+        (verdict_text (verdict_of answer.now) ++ explanation answer.now)) }
+    ensures err { OnErr result (AppendsBeginning (W.taken out.old) (W.taken out.new)
+        (verdict_text (verdict_of answer.now) ++ explanation answer.now)) }
+    ensures failures { W.failures out.new ≡ W.failures out.old + (if is_ok result then 0 else 1) }
+{
+    write_verdict(answer.verdict(), out)?;
+    write_explanation(out, answer)
+}
+
+/// Writes the text of an answer: that of its verdict, and where a plan solves its problem and
+/// `explain` is asked for, a line for `root` and one for each decomposition line. Where a write
+/// fails, a beginning of that text was written. No memory is taken.
 pub fn write_answer<W: Sink>(
     answer: &Answer<'_>,
     explain: bool,
@@ -328,6 +338,9 @@ pub fn write_answer<W: Sink>(
         (answer_text answer.now explain)) }
     ensures failures { W.failures out.new ≡ W.failures out.old + (if is_ok result then 0 else 1) }
 {
-    write_first_line(out, answer)?;
-    write_explanation(out, answer, explain)
+    if explain {
+        write_explained(out, answer)
+    } else {
+        write_verdict(answer.verdict(), out)
+    }
 }

@@ -21,7 +21,7 @@ use Rattle.hv_judge.specs.Causes.{IsCauseOf}
 use Rattle.hv_judge.specs.Checked.{IsCheckFault, CountsFormulas, count_of}
 use Rattle.hv_judge.specs.declared.checking.Recheck.{Recheck}
 use Rattle.hv_judge.specs.Solutions.{HasTree, ReachesGoal, SolvesBy, run_of, judged_in}
-use Rattle.hv_judge.specs.Verdicts.{Judged}
+use Rattle.hv_judge.specs.Verdicts.{HasVerdict}
 use Rattle.hv_judge.specs.inside.Ends.{Ends}
 use Rattle.hv_judge.specs.inside.CheckEnds.{check_end}
 use Rattle.hv_judge.proofs.LawPlans.{LawsOfPlans, same_tree, is_solution, no_solution}
@@ -56,7 +56,7 @@ module _ (laws : LawsOfPlans) (w : World) (p : Plan) (c : Certificate) where
 
 -- a rejection is that of the judge
 pub check_ends : (domain problem plan : List ℕ) (e : NotSolved)
-    → Ends (Judged domain problem plan 0) e → IsCheckFault domain problem plan (check_end e)
+    → Ends (HasVerdict domain problem plan 0) e → IsCheckFault domain problem plan (check_end e)
 check_ends domain problem plan (Rejected w f) h = h
 check_ends domain problem plan (Fails c) h = tt
 check_ends domain problem plan (Undecided l) h = tt

@@ -1,5 +1,5 @@
 -- What the judge answers to three texts, from what it finds of each.
-use Rattle.std.proofs.Common.{◌≡◌, ◌⊎◌, inl, inr, ℕ, List, Option, None, Some, Result, Ok, Err, IfOk, IfErr, refl, sym, subst}
+use Rattle.std.proofs.Common.{◌≡◌, ◌⊎◌, inl, inr, ℕ, Bool, true, false, List, Option, None, Some, Result, Ok, Err, IfOk, IfErr, refl, sym, subst}
 use Rattle.hv_text.specs.declared.span.Span.{Span}
 use Rattle.hv_syntax.specs.Values.{Domain, Problem}
 use Rattle.hv_syntax.specs.Texts.{IsDomainText, IsDomainFault, IsProblemText, IsProblemFault}
@@ -12,15 +12,18 @@ use Rattle.hv_plan.specs.Values.{Plan}
 use Rattle.hv_plan.specs.Spellings.{IsPlan, IsPlanFault}
 use Rattle.hv_plan.specs.declared.fault.PlanFault.{PlanFault}
 use Rattle.hv_certificate.specs.declared.certificate.Certificate.{Certificate}
-use Rattle.hv_answer.specs.declared.answer.Answer.TheVariants as answers
+use Rattle.hv_answer.specs.declared.answer.Answer.{Answer}
+use Rattle.hv_answer.specs.declared.answer.Verdict.{Verdict}
+use Rattle.hv_answer.specs.declared.answer.Verdict.TheVariants as verdicts
 use Rattle.hv_answer.specs.declared.answer.Fault.{Fault}
 use Rattle.hv_answer.specs.declared.answer.FaultKind.{FaultKind}
 use Rattle.hv_answer.specs.declared.answer.Which.TheVariants as which
 use Rattle.hv_judge.specs.declared.not_solved.NotSolved.{NotSolved}
 use Rattle.hv_judge.specs.declared.not_solved.NotSolved.TheVariants.{Rejected, Fails, Undecided, Memory}
 use Rattle.hv_judge.specs.Rejections.{reported, reported_static, reported_plan, first_too_long, which_of, text_of_side, by_domain, by_problem, by_statics, by_pair, by_plan}
-use Rattle.hv_judge.specs.Verdicts.{AreSpelled, IsVerdict, Judged}
-use Rattle.hv_judge.specs.inside.Ends.{Ends, IsPairEnd, IsWorldOf, rejected_at, rejected_for, plan_end}
+use Rattle.hv_judge.specs.Solutions.{SolvesBy}
+use Rattle.hv_judge.specs.Verdicts.{AreSpelled, IsVerdict, HasVerdict, IsRight, Judged}
+use Rattle.hv_judge.specs.inside.Ends.{Ends, Explains, IsAnswerOf, IsVerdictOf, IsPairEnd, IsWorldOf, rejected_at, rejected_for, plan_end}
 
 -- the domain's text, the problem's text, or a static rule
 
@@ -63,7 +66,7 @@ no_world domain problem d p f says tells (inr h) =
 
 pub pair_rejected : (domain problem plan : List ℕ) (limit : ℕ) (e : NotSolved)
     → first_too_long domain problem plan ≡ None → IsPairEnd domain problem e
-    → Ends (Judged domain problem plan limit) e
+    → Ends (HasVerdict domain problem plan limit) e
 pair_rejected domain problem plan limit (Rejected w f) short h = by_pair w f short h
 pair_rejected domain problem plan limit (Fails c) short h = absurd h
 pair_rejected domain problem plan limit (Undecided line) short h = absurd h
@@ -72,14 +75,14 @@ pair_rejected domain problem plan limit Memory short h = tt
 plan_rejected_for : (domain problem plan : List ℕ) (limit : ℕ) (w : World) (f : PlanFault)
     (r : Option Fault) → reported_plan f ≡ r → first_too_long domain problem plan ≡ None
     → IsWorldOf domain problem w → IsPlanFault plan f
-    → Ends (Judged domain problem plan limit) (rejected_for which.Plan r)
+    → Ends (HasVerdict domain problem plan limit) (rejected_for which.Plan r)
 plan_rejected_for domain problem plan limit w f None e short read h = tt
 plan_rejected_for domain problem plan limit w f (Some r) e short read h =
     by_plan read.d read.p f r short read.are_read h e
 
 pub plan_rejected : (domain problem plan : List ℕ) (limit : ℕ) (w : World) (f : PlanFault)
     → first_too_long domain problem plan ≡ None → IsWorldOf domain problem w
-    → IsPlanFault plan f → Ends (Judged domain problem plan limit) (plan_end f)
+    → IsPlanFault plan f → Ends (HasVerdict domain problem plan limit) (plan_end f)
 plan_rejected domain problem plan limit w f short read h =
     plan_rejected_for domain problem plan limit w f (reported_plan f) refl short read h
 
@@ -103,26 +106,64 @@ module _ (domain problem plan : List ℕ) (limit : ℕ) (w : World) (q : Plan)
     subst (λ v. P v q) read.is h,
   )
 
-  pub plan_solves : (c : Certificate) → IsVerdict limit (answers.Solves c) w q
-      → Judged domain problem plan limit (answers.Solves c)
-  plan_solves c h = spelled (IsVerdict limit (answers.Solves c)) h
-
-  pub plan_ends : (e : NotSolved) → Ends (λ a. IsVerdict limit a w q) e
-      → Ends (Judged domain problem plan limit) e
+  pub plan_ends : (e : NotSolved) → Ends (λ v. IsVerdict limit v w q) e
+      → Ends (HasVerdict domain problem plan limit) e
   plan_ends (Rejected which fault) h = absurd h
-  plan_ends (Fails c) h = spelled (IsVerdict limit (answers.Fails c)) h
-  plan_ends (Undecided line) h = spelled (IsVerdict limit (answers.Undecided line)) h
+  plan_ends (Fails c) h = spelled (IsVerdict limit (verdicts.Fails c)) h
+  plan_ends (Undecided line) h = spelled (IsVerdict limit (verdicts.Undecided line)) h
   plan_ends Memory h = tt
 
+  plan_explains : (b : Bool) (o : Option Certificate) → Explains b (SolvesBy w q) o
+      → Explains b (IsRight domain problem plan) o
+  plan_explains true None h = h
+  plan_explains true (Some c) h = spelled (λ v r. SolvesBy v r c) h
+  plan_explains false o h = tt
+
   -- so it is with what the judge of a plan answers
-  pub texts_solve : (r : Result Certificate NotSolved)
-      → IfOk r (λ c. IsVerdict limit (answers.Solves c) w q)
-      → IfOk r (λ c. Judged domain problem plan limit (answers.Solves c))
-  texts_solve (Ok c) h = plan_solves c h
+  pub texts_solve : (r : Result (Option Certificate) NotSolved)
+      → IfOk r (λ o. IsVerdict limit verdicts.Solves w q)
+      → IfOk r (λ o. HasVerdict domain problem plan limit verdicts.Solves)
+  texts_solve (Ok o) h = spelled (IsVerdict limit verdicts.Solves) h
   texts_solve (Err e) h = tt
 
-  pub texts_end : (r : Result Certificate NotSolved)
-      → IfErr r (Ends (λ a. IsVerdict limit a w q))
-      → IfErr r (Ends (Judged domain problem plan limit))
-  texts_end (Ok c) h = tt
+  pub texts_explain : (b : Bool) (r : Result (Option Certificate) NotSolved)
+      → IfOk r (Explains b (SolvesBy w q)) → IfOk r (Explains b (IsRight domain problem plan))
+  texts_explain b (Ok o) h = plan_explains b o h
+  texts_explain b (Err e) h = tt
+
+  pub texts_end : (r : Result (Option Certificate) NotSolved)
+      → IfErr r (Ends (λ v. IsVerdict limit v w q))
+      → IfErr r (Ends (HasVerdict domain problem plan limit))
+  texts_end (Ok o) h = tt
   texts_end (Err e) h = plan_ends e h
+
+-- what is said where there is no solution
+module _ (domain problem plan : List ℕ) (limit : ℕ) where
+  judged_as : (e : NotSolved) (a : Answer) → Ends (HasVerdict domain problem plan limit) e
+      → IsAnswerOf e a → Judged domain problem plan limit a
+  judged_as (Rejected w f) a h is =
+      subst (Judged domain problem plan limit) (sym is) (record { verdict = h; certified = tt })
+  judged_as (Fails c) a h is =
+      subst (Judged domain problem plan limit) (sym is) (record { verdict = h; certified = tt })
+  judged_as (Undecided line) a h is =
+      subst (Judged domain problem plan limit) (sym is) (record { verdict = h; certified = tt })
+  judged_as Memory a h is = absurd is
+
+  verdict_as : (e : NotSolved) (v : Verdict) → Ends (HasVerdict domain problem plan limit) e
+      → IsVerdictOf e v → HasVerdict domain problem plan limit v
+  verdict_as (Rejected w f) v h is = subst (HasVerdict domain problem plan limit) (sym is) h
+  verdict_as (Fails c) v h is = subst (HasVerdict domain problem plan limit) (sym is) h
+  verdict_as (Undecided line) v h is = subst (HasVerdict domain problem plan limit) (sym is) h
+  verdict_as Memory v h is = absurd is
+
+  pub answered : {E : Type 0} (e : NotSolved) (r : Result Answer E)
+      → Ends (HasVerdict domain problem plan limit) e → IfOk r (IsAnswerOf e)
+      → IfOk r (Judged domain problem plan limit)
+  answered e (Ok a) h is = judged_as e a h is
+  answered e (Err none) h is = tt
+
+  pub decided : {E : Type 0} (e : NotSolved) (r : Result Verdict E)
+      → Ends (HasVerdict domain problem plan limit) e → IfOk r (IsVerdictOf e)
+      → IfOk r (HasVerdict domain problem plan limit)
+  decided e (Ok v) h is = verdict_as e v h is
+  decided e (Err none) h is = tt

@@ -119,7 +119,8 @@ module _ (one : (c e : Certificate) → HasNumbers c → HasNumbers e → cert_t
       (moved domain problem plan (IsRecheckOf cert s) d e p o q u spelled other that)
 
   pub explained_again : ExplainedAgainLaw
-  explained_again domain problem plan limit c r numbers (d, p, q, spelled, (solved, within)) (e, o, u, other, that) =
+  explained_again domain problem plan limit c r numbers judged (e, o, u, other, that) =
+      let (d, p, q, spelled, solved) = judged.certified in
       let this = moved domain problem plan (IsRecheckOf (cert_text c) r) d e p o q u spelled other that in
       let same = one c this.certificate numbers this.says.numbers this.says.spelled in
       this.certified.1 (solves_alike (world_of d p) q c this.certificate same solved)

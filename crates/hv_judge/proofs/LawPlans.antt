@@ -19,8 +19,8 @@ use Rattle.hv_order.specs.Meanings.{Meaning}
 use Rattle.hv_order.specs.Settings.{setting, IsMeaning, IsSolved, HasCandidate, HaveCandidates, IsFirstWithout}
 use Rattle.hv_order.specs.Certified.{Certifies, CertifiedPlans}
 use Rattle.hv_certificate.specs.declared.certificate.Certificate.{Certificate}
-use Rattle.hv_answer.specs.declared.answer.Answer.{Answer}
-use Rattle.hv_answer.specs.declared.answer.Answer.TheVariants.{Solves, Fails, Undecided, Rejected}
+use Rattle.hv_answer.specs.declared.answer.Verdict.{Verdict}
+use Rattle.hv_answer.specs.declared.answer.Verdict.TheVariants.{Solves, Fails, Undecided, Rejected}
 use Rattle.hv_answer.specs.declared.answer.Cause.{Cause}
 use Rattle.hv_answer.specs.declared.answer.CauseKind.{CauseKind}
 use Rattle.hv_answer.specs.declared.answer.CauseKind.TheVariants as causes
@@ -28,7 +28,6 @@ use Rattle.hv_judge.specs.Solutions.{HasTree, run_of, ReachesGoal, judged_in, ju
 use Rattle.hv_answer.specs.Places.{cause_at, cause_nowhere}
 use Rattle.hv_judge.specs.Causes.{tree_cause, IsCountWithin, IsCountAbove, IsWithinLimit, IsFirstAbove, IsCauseOf, by_tree, by_action, by_goal, by_binding, by_order, by_precondition}
 use Rattle.hv_judge.specs.Verdicts.{IsVerdict}
-use Rattle.hv_judge.specs.Answers.{SameAnswer}
 use Rattle.hv_judge.proofs.LawSteps.{Turn, one_turn, Step, one_step, one_there, at_there}
 use Rattle.hv_judge.proofs.LawPreconditions.{solved_without}
 
@@ -74,31 +73,31 @@ one_first t Bad Good apart line other h g = at (compare h.place g.place) where
 
 -- lines that form no tree
 
-abbrev pub IsUnformed : World → Plan → Answer → Type 0
+abbrev pub IsUnformed : World → Plan → Verdict → Type 0
 IsUnformed w p a = (c : trees.Cause) × IsCause w p c × (a ≡ Fails (tree_cause c))
 
 module _ (laws : LawsOfPlans) (w : World) (p : Plan) where
   pub same_tree : (t u : PlanTree) → HasTree w p t → HasTree w p u → t ≡ u
   same_tree t u h g = laws.one_tree w p t u h.forms h.is_tree g.is_tree
 
-  formed_or_unformed : (a : Answer) (t : PlanTree) → IsUnformed w p a → HasTree w p t → ⊥
+  formed_or_unformed : (a : Verdict) (t : PlanTree) → IsUnformed w p a → HasTree w p t → ⊥
   formed_or_unformed a t (c, cause, is) h =
       laws.no_cause w p c.kind c.line h.forms h.fits cause.qualifies
 
-  one_unformed : (a b : Answer) → IsUnformed w p a → IsUnformed w p b → a ≡ b
+  one_unformed : (a b : Verdict) → IsUnformed w p a → IsUnformed w p b → a ≡ b
   one_unformed a b (c, cause, is) (e, other, is') =
       is ∙ (ap (λ (x : trees.Cause). Fails (tree_cause x)) (laws.one_cause w p c e cause other)
       ∙ sym is')
 
 -- an action that is not applicable
 
-abbrev pub IsStopped : World → Plan → PlanTree → Answer → Type 0
+abbrev pub IsStopped : World → Plan → PlanTree → Verdict → Type 0
 IsStopped w p t a =
     (k : ℕ) × (l : Action) × StopsAt (run_of w t) k × (slice_get p.actions k ≡ Some l)
     × (a ≡ Fails (cause_at causes.Inapplicable l.line))
 
 module _ (w : World) (p : Plan) (t : PlanTree) where
-  stopped_or_run : (a : Answer) → IsStopped w p t a → CanRun (run_of w t) → ⊥
+  stopped_or_run : (a : Verdict) → IsStopped w p t a → CanRun (run_of w t) → ⊥
   stopped_or_run a (k, l, (within, stops, before), at, is) can = stops (can k within)
 
   one_stop : (j k : ℕ) → StopsAt (run_of w t) j → StopsAt (run_of w t) k → j ≡ k
@@ -108,7 +107,7 @@ module _ (w : World) (p : Plan) (t : PlanTree) where
     at (equal e) = e
     at (more h) = absurd (stops' (before k h))
 
-  one_stopped : (a b : Answer) → IsStopped w p t a → IsStopped w p t b → a ≡ b
+  one_stopped : (a b : Verdict) → IsStopped w p t a → IsStopped w p t b → a ≡ b
   one_stopped a b (k, l, stop, at, is) (k', l', stop', at', is') =
       let place : k ≡ k' = one_stop k k' stop stop' in
       let here : slice_get p.actions k' ≡ Some l =
@@ -118,7 +117,7 @@ module _ (w : World) (p : Plan) (t : PlanTree) where
 
 -- a node with too many candidates
 
-abbrev pub IsTooMany : World → PlanTree → ℕ → Answer → Type 0
+abbrev pub IsTooMany : World → PlanTree → ℕ → Verdict → Type 0
 IsTooMany w t limit a = (line : ℕ) × IsFirstAbove w t limit line × (a ≡ Undecided line)
 
 module _ (laws : LawsOfPlans) (w : World) (t : PlanTree) (limit : ℕ) where
@@ -132,7 +131,7 @@ module _ (laws : LawsOfPlans) (w : World) (t : PlanTree) (limit : ℕ) where
       let count : j ≡ k = one_count_of (method_at w t v) j k is is' in omega
       (arith, above, within, count)
 
-  many_or_within : (a : Answer) → IsTooMany w t limit a → IsWithinLimit w t limit → ⊥
+  many_or_within : (a : Verdict) → IsTooMany w t limit a → IsWithinLimit w t limit → ⊥
   many_or_within a (line, first, is) within =
       above_or_within first.number first.above
       (within first.number (slice_get_within t.nodes first.number first.node first.has_node))
@@ -151,7 +150,7 @@ module _ (laws : LawsOfPlans) (w : World) (t : PlanTree) (limit : ℕ) where
         on_line = h.on_line;
       }
 
-  one_too_many : (a b : Answer) → IsTooMany w t limit a → IsTooMany w t limit b → a ≡ b
+  one_too_many : (a b : Verdict) → IsTooMany w t limit a → IsTooMany w t limit b → a ≡ b
   one_too_many a b (line, first, is) (line', first', is') =
       let same_line : line ≡ line' =
       one_first t (IsCountAbove w t limit) (IsCountWithin w t limit) above_or_within line
@@ -161,12 +160,12 @@ module _ (laws : LawsOfPlans) (w : World) (t : PlanTree) (limit : ℕ) where
 
 -- a node without a candidate
 
-abbrev pub IsUnbound : World → PlanTree → Answer → Type 0
+abbrev pub IsUnbound : World → PlanTree → Verdict → Type 0
 IsUnbound w t a =
     (line : ℕ) × IsFirstWithout (judged_in w t) line × (a ≡ Fails (cause_at causes.NoBinding line))
 
 module _ (w : World) (t : PlanTree) where
-  unbound_or_bound : (a : Answer) → IsUnbound w t a → HaveCandidates (judged_in w t) → ⊥
+  unbound_or_bound : (a : Verdict) → IsUnbound w t a → HaveCandidates (judged_in w t) → ⊥
   unbound_or_bound a (line, first, is) have =
       first.none (have first.number
       (slice_get_within t.nodes first.number first.node first.has_node))
@@ -185,7 +184,7 @@ module _ (w : World) (t : PlanTree) where
         on_line = h.on_line;
       }
 
-  one_unbound : (a b : Answer) → IsUnbound w t a → IsUnbound w t b → a ≡ b
+  one_unbound : (a b : Verdict) → IsUnbound w t a → IsUnbound w t b → a ≡ b
   one_unbound a b (line, first, is) (line', first', is') =
       let same_line : line ≡ line' =
       one_first t (λ v. HasCandidate (judged_in w t) v → ⊥) (HasCandidate (judged_in w t))
@@ -222,85 +221,83 @@ module _ (w : World) (t : PlanTree) where
 
 -- what does not hold, for a cause without a line
 
-abbrev pub IsFailure : Type 0 → CauseKind → Answer → Type 0
+abbrev pub IsFailure : Type 0 → CauseKind → Verdict → Type 0
 IsFailure Holds kind a = (Holds → ⊥) × (a ≡ Fails (cause_nowhere kind))
 
-abbrev pub Asks : Type 0 → CauseKind → (Answer → Type 0) → Answer → Type 0
+abbrev pub Asks : Type 0 → CauseKind → (Verdict → Type 0) → Verdict → Type 0
 Asks Holds kind Rest = Turn Holds (IsFailure Holds kind) Rest
 
-one_asked : (Holds : Type 0) (kind : CauseKind) (Rest : Answer → Type 0)
-    → ((a b : Answer) → Rest a → Rest b → SameAnswer a b)
-    → (a b : Answer) → Asks Holds kind Rest a → Asks Holds kind Rest b → SameAnswer a b
+one_asked : (Holds : Type 0) (kind : CauseKind) (Rest : Verdict → Type 0)
+    → ((a b : Verdict) → Rest a → Rest b → a ≡ b)
+    → (a b : Verdict) → Asks Holds kind Rest a → Asks Holds kind Rest b → a ≡ b
 one_asked Holds kind Rest one =
     one_turn Holds (IsFailure Holds kind) Rest (λ a h holds. h.0 holds) (λ a b h g. h.1 ∙ sym g.1)
     one
 
 -- all of these, one after another
 
-abbrev pub IsSolving : Answer → Type 0
-IsSolving a = (c : Certificate) × (a ≡ Solves c)
+abbrev pub IsSolving : Verdict → Type 0
+IsSolving a = a ≡ Solves
 
-abbrev pub AtPreconditions : World → PlanTree → Answer → Type 0
+abbrev pub AtPreconditions : World → PlanTree → Verdict → Type 0
 AtPreconditions w t = Asks (IsSolved (judged_in w t)) causes.PreconditionUnplaced IsSolving
 
-abbrev pub AtOrder : World → PlanTree → Answer → Type 0
+abbrev pub AtOrder : World → PlanTree → Verdict → Type 0
 AtOrder w t = Asks (IsSolved (judged_without w t)) causes.OrderBroken (AtPreconditions w t)
 
-abbrev pub AtCandidates : World → PlanTree → Answer → Type 0
+abbrev pub AtCandidates : World → PlanTree → Verdict → Type 0
 AtCandidates w t = Turn (HaveCandidates (judged_in w t)) (IsUnbound w t) (AtOrder w t)
 
-abbrev pub AtLimit : World → ℕ → PlanTree → Answer → Type 0
+abbrev pub AtLimit : World → ℕ → PlanTree → Verdict → Type 0
 AtLimit w limit t = Turn (IsWithinLimit w t limit) (IsTooMany w t limit) (AtCandidates w t)
 
-abbrev pub AtGoal : World → ℕ → PlanTree → Answer → Type 0
+abbrev pub AtGoal : World → ℕ → PlanTree → Verdict → Type 0
 AtGoal w limit t = Asks (GoalHolds (run_of w t)) causes.GoalFalse (AtLimit w limit t)
 
-abbrev pub AtActions : World → Plan → ℕ → PlanTree → Answer → Type 0
+abbrev pub AtActions : World → Plan → ℕ → PlanTree → Verdict → Type 0
 AtActions w p limit t = Turn (CanRun (run_of w t)) (IsStopped w p t) (AtGoal w limit t)
 
-abbrev pub AtTree : World → Plan → ℕ → Answer → Type 0
+abbrev pub AtTree : World → Plan → ℕ → Verdict → Type 0
 AtTree w p limit = Step PlanTree (HasTree w p) (IsUnformed w p) (AtActions w p limit)
 
 module _ (laws : LawsOfPlans) (w : World) (p : Plan) (limit : ℕ) where
-  solving_one : (a b : Answer) → IsSolving a → IsSolving b → SameAnswer a b
-  solving_one a b (c, is) (e, is') =
-      subst (λ (x : Answer). SameAnswer x b) (sym is)
-      (subst (λ (x : Answer). SameAnswer (Solves c) x) (sym is') tt)
+  solving_one : (a b : Verdict) → IsSolving a → IsSolving b → a ≡ b
+  solving_one a b is is' = is ∙ sym is'
 
-  order_one : (t : PlanTree) (a b : Answer) → AtOrder w t a → AtOrder w t b → SameAnswer a b
+  order_one : (t : PlanTree) (a b : Verdict) → AtOrder w t a → AtOrder w t b → a ≡ b
   order_one t =
       one_asked (IsSolved (judged_without w t)) causes.OrderBroken (AtPreconditions w t)
       (one_asked (IsSolved (judged_in w t)) causes.PreconditionUnplaced IsSolving solving_one)
 
-  candidates_one : (t : PlanTree) (a b : Answer) → AtCandidates w t a → AtCandidates w t b
-      → SameAnswer a b
+  candidates_one : (t : PlanTree) (a b : Verdict) → AtCandidates w t a → AtCandidates w t b
+      → a ≡ b
   candidates_one t =
       one_turn (HaveCandidates (judged_in w t)) (IsUnbound w t) (AtOrder w t)
       (unbound_or_bound w t) (one_unbound w t) (order_one t)
 
-  limit_one : (t : PlanTree) (a b : Answer) → AtLimit w limit t a → AtLimit w limit t b
-      → SameAnswer a b
+  limit_one : (t : PlanTree) (a b : Verdict) → AtLimit w limit t a → AtLimit w limit t b
+      → a ≡ b
   limit_one t =
       one_turn (IsWithinLimit w t limit) (IsTooMany w t limit) (AtCandidates w t)
       (many_or_within laws w t limit)
       (one_too_many laws w t limit) (candidates_one t)
 
-  actions_one : (t : PlanTree) (a b : Answer) → AtActions w p limit t a → AtActions w p limit t b
-      → SameAnswer a b
+  actions_one : (t : PlanTree) (a b : Verdict) → AtActions w p limit t a → AtActions w p limit t b
+      → a ≡ b
   actions_one t =
       one_turn (CanRun (run_of w t)) (IsStopped w p t) (AtGoal w limit t) (stopped_or_run w p t)
       (one_stopped w p t)
       (one_asked (GoalHolds (run_of w t)) causes.GoalFalse (AtLimit w limit t) (limit_one t))
 
-  pub tree_one : (a b : Answer) → AtTree w p limit a → AtTree w p limit b → SameAnswer a b
+  pub tree_one : (a b : Verdict) → AtTree w p limit a → AtTree w p limit b → a ≡ b
   tree_one =
       one_step PlanTree (HasTree w p) (IsUnformed w p) (AtActions w p limit) (same_tree laws w p)
       (formed_or_unformed laws w p)
       (one_unformed laws w p) (λ t a b has. actions_one t a b)
 
-  -- each verdict is the answer of one of these steps
+  -- each verdict is that of one of these steps
 
-  at_limit : (t : PlanTree) (a : Answer) → ReachesGoal w p t → AtLimit w limit t a
+  at_limit : (t : PlanTree) (a : Verdict) → ReachesGoal w p t → AtLimit w limit t a
       → AtTree w p limit a
   at_limit t a h rest = inr (t, h.run.tree, inr (h.run.can_run, inr (h.goal, rest)))
 
@@ -338,16 +335,14 @@ module _ (laws : LawsOfPlans) (w : World) (p : Plan) (limit : ℕ) where
       at_limit t (Fails (cause_nowhere causes.PreconditionUnplaced)) reaches
       (inr (within, inr (have, inr (solved, inl (none, refl)))))
 
-  pub verdict_step : (a : Answer) → IsVerdict limit a w p → AtTree w p limit a
-  verdict_step (Solves c) (s, within) =
-      let solved : IsSolved (judged_in w s.tree) =
-      is_certified s.tree c s.reaches.run.tree s.certified in
+  pub verdict_step : (a : Verdict) → IsVerdict limit a w p → AtTree w p limit a
+  verdict_step Solves (s, within) =
       let without : IsSolved (judged_without w s.tree) =
-      solved_without s.tree (run_of w s.tree) solved in
+      solved_without s.tree (run_of w s.tree) s.solved in
       let have : HaveCandidates (judged_in w s.tree) =
-      solved_have w s.tree p true s.reaches.run.tree.is_tree solved in
-      at_limit s.tree (Solves c) s.reaches
-      (inr (within, inr (have, inr (without, inr (solved, (c, refl))))))
+      solved_have w s.tree p true s.reaches.run.tree.is_tree s.solved in
+      at_limit s.tree Solves s.reaches
+      (inr (within, inr (have, inr (without, inr (s.solved, refl)))))
   verdict_step (Fails c) is = cause_step c is
   verdict_step (Undecided line) (t, reaches, first) =
       at_limit t (Undecided line) reaches (inl (line, first, refl))

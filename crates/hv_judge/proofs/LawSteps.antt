@@ -1,48 +1,37 @@
--- Answers that are found step by step: each step answers, or leaves the answer to those behind it.
+-- Verdicts that are found step by step: each step answers, or leaves the answer to those behind it.
 -- Where no step both answers and goes on, and each says one thing, all of them together say one
 -- thing.
-use Rattle.std.proofs.Common.{◌≡◌, ◌⊎◌, inl, inr, Option, Some, MatchOption, refl, sym, ◌∙◌, subst}
-use Rattle.hv_answer.specs.declared.answer.Answer.{Answer}
-use Rattle.hv_answer.specs.declared.answer.Answer.TheVariants.{Solves, Fails, Undecided, Rejected}
-use Rattle.hv_judge.specs.Answers.{SameAnswer}
-
-same_self : (a : Answer) → SameAnswer a a
-same_self (Solves c) = tt
-same_self (Fails c) = refl
-same_self (Undecided l) = refl
-same_self (Rejected w f) = (refl, refl)
-
-pub same : (a b : Answer) → a ≡ b → SameAnswer a b
-same a b e = subst (λ (x : Answer). SameAnswer a x) e (same_self a)
+use Rattle.std.proofs.Common.{◌≡◌, ◌⊎◌, inl, inr, Option, Some, MatchOption, sym, ◌∙◌, subst}
+use Rattle.hv_answer.specs.declared.answer.Verdict.{Verdict}
 
 -- the step answers, or it passes and the rest answers
-abbrev pub Turn : Type 0 → (Answer → Type 0) → (Answer → Type 0) → Answer → Type 0
+abbrev pub Turn : Type 0 → (Verdict → Type 0) → (Verdict → Type 0) → Verdict → Type 0
 Turn Passed Stops Rest a = Stops a ⊎ (Passed × Rest a)
 
-module _ (Passed : Type 0) (Stops : Answer → Type 0) (Rest : Answer → Type 0)
-    (apart : (a : Answer) → Stops a → Passed → ⊥)
-    (alike : (a b : Answer) → Stops a → Stops b → a ≡ b)
-    (on : (a b : Answer) → Rest a → Rest b → SameAnswer a b) where
-  pub one_turn : (a b : Answer) → Turn Passed Stops Rest a → Turn Passed Stops Rest b
-      → SameAnswer a b
-  one_turn a b (inl s) (inl r) = same a b (alike a b s r)
+module _ (Passed : Type 0) (Stops : Verdict → Type 0) (Rest : Verdict → Type 0)
+    (apart : (a : Verdict) → Stops a → Passed → ⊥)
+    (alike : (a b : Verdict) → Stops a → Stops b → a ≡ b)
+    (on : (a b : Verdict) → Rest a → Rest b → a ≡ b) where
+  pub one_turn : (a b : Verdict) → Turn Passed Stops Rest a → Turn Passed Stops Rest b
+      → a ≡ b
+  one_turn a b (inl s) (inl r) = alike a b s r
   one_turn a b (inl s) (inr (passed, more)) = absurd (apart a s passed)
   one_turn a b (inr (passed, rest)) (inl s) = absurd (apart b s passed)
   one_turn a b (inr (passed, rest)) (inr (again, more)) = on a b rest more
 
 -- the step answers, or it finds a value and the rest answers by it
-abbrev pub Step : (V : Type 0) → (V → Type 0) → (Answer → Type 0) → (V → Answer → Type 0) → Answer
+abbrev pub Step : (V : Type 0) → (V → Type 0) → (Verdict → Type 0) → (V → Verdict → Type 0) → Verdict
     → Type 0
 Step V Found Stops Rest a = Stops a ⊎ ((v : V) × Found v × Rest v a)
 
-module _ (V : Type 0) (Found : V → Type 0) (Stops : Answer → Type 0) (Rest : V → Answer → Type 0)
+module _ (V : Type 0) (Found : V → Type 0) (Stops : Verdict → Type 0) (Rest : V → Verdict → Type 0)
     (one : (v u : V) → Found v → Found u → v ≡ u)
-    (apart : (a : Answer) (v : V) → Stops a → Found v → ⊥)
-    (alike : (a b : Answer) → Stops a → Stops b → a ≡ b)
-    (on : (v : V) (a b : Answer) → Found v → Rest v a → Rest v b → SameAnswer a b) where
-  pub one_step : (a b : Answer) → Step V Found Stops Rest a → Step V Found Stops Rest b
-      → SameAnswer a b
-  one_step a b (inl s) (inl r) = same a b (alike a b s r)
+    (apart : (a : Verdict) (v : V) → Stops a → Found v → ⊥)
+    (alike : (a b : Verdict) → Stops a → Stops b → a ≡ b)
+    (on : (v : V) (a b : Verdict) → Found v → Rest v a → Rest v b → a ≡ b) where
+  pub one_step : (a b : Verdict) → Step V Found Stops Rest a → Step V Found Stops Rest b
+      → a ≡ b
+  one_step a b (inl s) (inl r) = alike a b s r
   one_step a b (inl s) (inr (v, found, rest)) = absurd (apart a v s found)
   one_step a b (inr (v, found, rest)) (inl s) = absurd (apart b v s found)
   one_step a b (inr (v, found, rest)) (inr (u, other, more)) =

@@ -12,8 +12,8 @@ use Rattle.hv_plan.specs.Values.{Plan}
 use Rattle.hv_plan.specs.Spellings.{IsPlan, IsPlanFault}
 use Rattle.hv_plan.specs.declared.fault.PlanFault.{PlanFault}
 use Rattle.hv_plan.specs.declared.fault.PlanFault.TheVariants as plans
-use Rattle.hv_answer.specs.declared.answer.Answer.{Answer}
-use Rattle.hv_answer.specs.declared.answer.Answer.TheVariants.{Rejected}
+use Rattle.hv_answer.specs.declared.answer.Verdict.{Verdict}
+use Rattle.hv_answer.specs.declared.answer.Verdict.TheVariants.{Rejected}
 use Rattle.hv_answer.specs.declared.answer.Fault.{Fault}
 use Rattle.hv_answer.specs.declared.answer.FaultKind.{FaultKind}
 use Rattle.hv_answer.specs.declared.answer.FaultKind.TheVariants as faults
@@ -21,7 +21,6 @@ use Rattle.hv_answer.specs.declared.answer.Which.{Which}
 use Rattle.hv_answer.specs.declared.answer.Which.TheVariants as which
 use Rattle.hv_answer.specs.Places.{fault_nowhere}
 use Rattle.hv_judge.specs.Rejections.{reported, reported_static, reported_plan, fault_in, first_too_long, which_of, text_of_side, IsRejectedPair, by_domain, by_problem, by_statics, IsRejected, by_length, by_pair, by_plan}
-use Rattle.hv_judge.specs.Answers.{SameAnswer}
 use Rattle.hv_judge.specs.Verdicts.{AreSpelled}
 use Rattle.hv_judge.proofs.LawSteps.{Turn, one_turn, Step, one_step, one_there}
 
@@ -50,17 +49,17 @@ pub record LawsOfTexts : Type 0 where
 
 -- a text is too long
 
-abbrev pub IsTooLong : List ℕ → List ℕ → List ℕ → Answer → Type 0
+abbrev pub IsTooLong : List ℕ → List ℕ → List ℕ → Verdict → Type 0
 IsTooLong domain problem plan a =
     (w : Which) × (first_too_long domain problem plan ≡ Some w)
     × (a ≡ Rejected w (fault_nowhere faults.TooLong))
 
-pub long_or_short : (domain problem plan : List ℕ) (a : Answer) → IsTooLong domain problem plan a
+pub long_or_short : (domain problem plan : List ℕ) (a : Verdict) → IsTooLong domain problem plan a
     → first_too_long domain problem plan ≡ None → ⊥
 long_or_short domain problem plan a (w, long, is) short =
     let both : None ≡ Some w = sym short ∙ long in cc
 
-one_too_long : (domain problem plan : List ℕ) (a b : Answer) → IsTooLong domain problem plan a
+one_too_long : (domain problem plan : List ℕ) (a b : Verdict) → IsTooLong domain problem plan a
     → IsTooLong domain problem plan b → a ≡ b
 one_too_long domain problem plan a b (w, long, is) (v, again, other) =
     is ∙ (ap (λ (x : Which). Rejected x (fault_nowhere faults.TooLong))
@@ -79,7 +78,7 @@ rejected_alike w text k l s p kind place =
     ap (λ (x : FaultKind). Rejected w (fault_in x text s)) kind
     ∙ ap (λ (x : Span). Rejected w (fault_in l text x)) place
 
-abbrev pub IsUnread : (List ℕ → SyntaxKind → Span → Type 0) → Which → List ℕ → Answer → Type 0
+abbrev pub IsUnread : (List ℕ → SyntaxKind → Span → Type 0) → Which → List ℕ → Verdict → Type 0
 IsUnread IsFault w text a =
     (kind : SyntaxKind) × (s : Span) × (k : FaultKind) × IsFault text kind s
     × (reported kind ≡ Some k) × (a ≡ Rejected w (fault_in k text s))
@@ -88,14 +87,14 @@ module _ {V : Type 0} (Says : List ℕ → V → Type 0) (IsFault : List ℕ →
     (w : Which) (text : List ℕ) where
   pub read_or_unread : ((v : V) (k : SyntaxKind) (s : Span) → Says text v → IsOwnFaultBy IsFault
       text k s → ⊥)
-      → (a : Answer) (v : V) → IsUnread IsFault w text a → Says text v → ⊥
+      → (a : Verdict) (v : V) → IsUnread IsFault w text a → Says text v → ⊥
   read_or_unread never a v (kind, s, k, fault, is, answers) says =
       never v kind s says (own kind k is, fault)
 
 one_unread : (IsFault : List ℕ → SyntaxKind → Span → Type 0) (w : Which) (text : List ℕ)
     → ((k l : SyntaxKind) (s p : Span) → IsOwnFaultBy IsFault text k s
     → IsOwnFaultBy IsFault text l p → (k ≡ l) × (s ≡ p))
-    → (a b : Answer) → IsUnread IsFault w text a → IsUnread IsFault w text b → a ≡ b
+    → (a b : Verdict) → IsUnread IsFault w text a → IsUnread IsFault w text b → a ≡ b
 one_unread IsFault w text one a b (kind, s, k, fault, is, answers)
     (kind', s', k', fault', is', answers') =
     let alike = one kind kind' s s' (own kind k is, fault) (own kind' k' is', fault') in
@@ -106,23 +105,23 @@ one_unread IsFault w text one a b (kind, s, k, fault, is, answers)
 
 -- a static rule is broken
 
-abbrev pub static_answer : List ℕ → List ℕ → StaticFault → FaultKind → Answer
-static_answer domain problem f k =
+abbrev pub static_verdict : List ℕ → List ℕ → StaticFault → FaultKind → Verdict
+static_verdict domain problem f k =
     Rejected (which_of f.side) (fault_in k (text_of_side domain problem f.side) f.span)
 
-abbrev pub IsUnsound : List ℕ → List ℕ → Domain → Problem → Answer → Type 0
+abbrev pub IsUnsound : List ℕ → List ℕ → Domain → Problem → Verdict → Type 0
 IsUnsound domain problem d p a =
     (f : StaticFault) × (k : FaultKind) × (first_fault d p ≡ Some f)
-    × (reported_static f.kind ≡ Some k) × (a ≡ static_answer domain problem f k)
+    × (reported_static f.kind ≡ Some k) × (a ≡ static_verdict domain problem f k)
 
 pub sound_or_unsound : LawsOfTexts
-    → (domain problem : List ℕ) (d : Domain) (p : Problem) (a : Answer)
+    → (domain problem : List ℕ) (d : Domain) (p : Problem) (a : Verdict)
     → IsUnsound domain problem d p a → IsStatic d p → ⊥
 sound_or_unsound laws domain problem d p a (f, k, first, is, answers) sound =
     let (from, back) = laws.static d p in
     let both : None ≡ Some f = sym (back sound) ∙ first in cc
 
-one_unsound : (domain problem : List ℕ) (d : Domain) (p : Problem) (a b : Answer)
+one_unsound : (domain problem : List ℕ) (d : Domain) (p : Problem) (a b : Verdict)
     → IsUnsound domain problem d p a → IsUnsound domain problem d p b → a ≡ b
 one_unsound domain problem d p a b (f, k, first, is, answers) (g, l, first', is', answers') =
     let fault : f ≡ g = one_there (first_fault d p) f g first first' in
@@ -130,8 +129,8 @@ one_unsound domain problem d p a b (f, k, first, is, answers) (g, l, first', is'
     subst (λ (x : StaticFault). reported_static x.kind ≡ Some k) fault is in
     let kind : k ≡ l = one_there (reported_static g.kind) k l here is' in
     answers
-    ∙ (ap (λ (x : StaticFault). static_answer domain problem x k) fault
-    ∙ (ap (λ (x : FaultKind). static_answer domain problem g x) kind ∙ sym answers'))
+    ∙ (ap (λ (x : StaticFault). static_verdict domain problem x k) fault
+    ∙ (ap (λ (x : FaultKind). static_verdict domain problem g x) kind ∙ sym answers'))
 
 -- a plan's text holds no plan
 
@@ -140,17 +139,17 @@ own_plan : (e : PlanFault) (f : Fault) → reported_plan e ≡ Some f → e ≡ 
 own_plan e f is memory =
     let bad : None ≡ Some f = subst (λ (x : PlanFault). reported_plan x ≡ Some f) memory is in cc
 
-abbrev pub IsUnplanned : List ℕ → Answer → Type 0
+abbrev pub IsUnplanned : List ℕ → Verdict → Type 0
 IsUnplanned plan a =
     (e : PlanFault) × (f : Fault) × IsPlanFault plan e × (reported_plan e ≡ Some f)
     × (a ≡ Rejected which.Plan f)
 
-pub planned_or_unplanned : LawsOfTexts → (plan : List ℕ) (a : Answer) (q : Plan)
+pub planned_or_unplanned : LawsOfTexts → (plan : List ℕ) (a : Verdict) (q : Plan)
     → IsUnplanned plan a → IsPlan plan q → ⊥
 planned_or_unplanned laws plan a q (e, f, fault, is, answers) says =
     own_plan e f is (laws.no_faulty_plan plan q e says fault)
 
-one_unplanned : LawsOfTexts → (plan : List ℕ) (a b : Answer) → IsUnplanned plan a
+one_unplanned : LawsOfTexts → (plan : List ℕ) (a b : Verdict) → IsUnplanned plan a
     → IsUnplanned plan b → a ≡ b
 one_unplanned laws plan a b (e, f, fault, is, answers) (e', f', fault', is', answers') =
     let alike : e ≡ e' =
@@ -162,54 +161,54 @@ one_unplanned laws plan a b (e, f, fault, is, answers) (e', f', fault', is', ans
 
 -- all of these, one after another: behind them the rest speaks of what the texts say
 
-abbrev pub AtPlan : List ℕ → (Plan → Answer → Type 0) → Answer → Type 0
+abbrev pub AtPlan : List ℕ → (Plan → Verdict → Type 0) → Verdict → Type 0
 AtPlan plan Rest = Step Plan (IsPlan plan) (IsUnplanned plan) Rest
 
-abbrev pub AtStatics : List ℕ → List ℕ → List ℕ → (Domain → Problem → Plan → Answer → Type 0)
-    → Domain → Problem → Answer → Type 0
+abbrev pub AtStatics : List ℕ → List ℕ → List ℕ → (Domain → Problem → Plan → Verdict → Type 0)
+    → Domain → Problem → Verdict → Type 0
 AtStatics domain problem plan Rest d p =
     Turn (IsStatic d p) (IsUnsound domain problem d p) (AtPlan plan (Rest d p))
 
-abbrev pub AtProblem : List ℕ → List ℕ → List ℕ → (Domain → Problem → Plan → Answer → Type 0)
-    → Domain → Answer → Type 0
+abbrev pub AtProblem : List ℕ → List ℕ → List ℕ → (Domain → Problem → Plan → Verdict → Type 0)
+    → Domain → Verdict → Type 0
 AtProblem domain problem plan Rest d =
     Step Problem (IsProblemText problem) (IsUnread IsProblemFault which.Problem problem)
     (AtStatics domain problem plan Rest d)
 
-abbrev pub AtDomain : List ℕ → List ℕ → List ℕ → (Domain → Problem → Plan → Answer → Type 0)
-    → Answer → Type 0
+abbrev pub AtDomain : List ℕ → List ℕ → List ℕ → (Domain → Problem → Plan → Verdict → Type 0)
+    → Verdict → Type 0
 AtDomain domain problem plan Rest =
     Step Domain (IsDomainText domain) (IsUnread IsDomainFault which.Domain domain)
     (AtProblem domain problem plan Rest)
 
-abbrev pub AtTexts : List ℕ → List ℕ → List ℕ → (Domain → Problem → Plan → Answer → Type 0)
-    → Answer → Type 0
+abbrev pub AtTexts : List ℕ → List ℕ → List ℕ → (Domain → Problem → Plan → Verdict → Type 0)
+    → Verdict → Type 0
 AtTexts domain problem plan Rest =
     Turn (first_too_long domain problem plan ≡ None) (IsTooLong domain problem plan)
     (AtDomain domain problem plan Rest)
 
 module _ (laws : LawsOfTexts) (domain problem plan : List ℕ)
-    (Rest : Domain → Problem → Plan → Answer → Type 0)
-    (one : (d : Domain) (p : Problem) (q : Plan) (a b : Answer) → Rest d p q a → Rest d p q b
-    → SameAnswer a b) where
-  plan_one : (d : Domain) (p : Problem) (a b : Answer) → AtPlan plan (Rest d p) a
-      → AtPlan plan (Rest d p) b → SameAnswer a b
+    (Rest : Domain → Problem → Plan → Verdict → Type 0)
+    (one : (d : Domain) (p : Problem) (q : Plan) (a b : Verdict) → Rest d p q a → Rest d p q b
+    → a ≡ b) where
+  plan_one : (d : Domain) (p : Problem) (a b : Verdict) → AtPlan plan (Rest d p) a
+      → AtPlan plan (Rest d p) b → a ≡ b
   plan_one d p =
       one_step Plan (IsPlan plan) (IsUnplanned plan) (Rest d p) (laws.one_plan plan)
       (planned_or_unplanned laws plan)
       (one_unplanned laws plan) (λ q a b says. one d p q a b)
 
-  statics_one : (d : Domain) (p : Problem) (a b : Answer)
+  statics_one : (d : Domain) (p : Problem) (a b : Verdict)
       → AtStatics domain problem plan Rest d p a → AtStatics domain problem plan Rest d p b
-      → SameAnswer a b
+      → a ≡ b
   statics_one d p =
       one_turn (IsStatic d p) (IsUnsound domain problem d p) (AtPlan plan (Rest d p))
       (sound_or_unsound laws domain problem d p)
       (one_unsound domain problem d p) (plan_one d p)
 
-  problem_one : (d : Domain) (a b : Answer)
+  problem_one : (d : Domain) (a b : Verdict)
       → AtProblem domain problem plan Rest d a → AtProblem domain problem plan Rest d b
-      → SameAnswer a b
+      → a ≡ b
   problem_one d =
       one_step Problem (IsProblemText problem) (IsUnread IsProblemFault which.Problem problem)
       (AtStatics domain problem plan Rest d)
@@ -219,8 +218,8 @@ module _ (laws : LawsOfTexts) (domain problem plan : List ℕ)
       (one_unread IsProblemFault which.Problem problem (laws.one_problem_fault problem))
       (λ p a b says. statics_one d p a b)
 
-  domain_one : (a b : Answer) → AtDomain domain problem plan Rest a
-      → AtDomain domain problem plan Rest b → SameAnswer a b
+  domain_one : (a b : Verdict) → AtDomain domain problem plan Rest a
+      → AtDomain domain problem plan Rest b → a ≡ b
   domain_one =
       one_step Domain (IsDomainText domain) (IsUnread IsDomainFault which.Domain domain)
       (AtProblem domain problem plan Rest)
@@ -229,8 +228,8 @@ module _ (laws : LawsOfTexts) (domain problem plan : List ℕ)
       (one_unread IsDomainFault which.Domain domain (laws.one_domain_fault domain))
       (λ d a b says. problem_one d a b)
 
-  pub texts_one : (a b : Answer) → AtTexts domain problem plan Rest a
-      → AtTexts domain problem plan Rest b → SameAnswer a b
+  pub texts_one : (a b : Verdict) → AtTexts domain problem plan Rest a
+      → AtTexts domain problem plan Rest b → a ≡ b
   texts_one =
       one_turn (first_too_long domain problem plan ≡ None) (IsTooLong domain problem plan)
       (AtDomain domain problem plan Rest)
@@ -238,7 +237,7 @@ module _ (laws : LawsOfTexts) (domain problem plan : List ℕ)
 
 -- texts that are rejected answer at one of these steps
 
-module _ (domain problem plan : List ℕ) (Rest : Domain → Problem → Plan → Answer → Type 0) where
+module _ (domain problem plan : List ℕ) (Rest : Domain → Problem → Plan → Verdict → Type 0) where
   pair_step : (w : Which) (f : Fault) → IsRejectedPair domain problem w f
       → AtDomain domain problem plan Rest (Rejected w f)
   pair_step _ _ (by_domain kind s k fault is) = inl (kind, s, k, fault, is, refl)
@@ -257,7 +256,7 @@ module _ (domain problem plan : List ℕ) (Rest : Domain → Problem → Plan �
       inr (short, inr (d, read.says_domain, inr (p, read.says_problem, inr (read.sound, at_plan))))
 
   -- and texts that are spelled pass them all
-  pub spelled_step : (a : Answer) (d : Domain) (p : Problem) (q : Plan)
+  pub spelled_step : (a : Verdict) (d : Domain) (p : Problem) (q : Plan)
       → AreSpelled domain problem plan d p q → Rest d p q a → AtTexts domain problem plan Rest a
   spelled_step a d p q s rest =
       let at_plan : AtPlan plan (Rest d p) a = inr (q, s.says_plan, rest) in

@@ -12,7 +12,7 @@ use Rattle.hv_plan.specs.Values.{Plan}
 use Rattle.hv_plan.specs.Spellings.{IsPlan, IsPlanFault}
 use Rattle.hv_plan.specs.declared.fault.PlanFault.{PlanFault}
 use Rattle.hv_plan.specs.declared.fault.PlanFault.TheVariants as plans
-use Rattle.hv_answer.specs.declared.answer.Answer.TheVariants.{Rejected}
+use Rattle.hv_answer.specs.declared.answer.Verdict.TheVariants.{Rejected}
 use Rattle.hv_answer.specs.declared.answer.Fault.{Fault}
 use Rattle.hv_answer.specs.declared.answer.FaultKind.{FaultKind}
 use Rattle.hv_answer.specs.declared.answer.FaultKind.TheVariants as faults
@@ -159,10 +159,11 @@ module _ (laws : LawsOfTexts) where
 
   pub one_rejection : OneRejectionLaw
   one_rejection domain problem plan w v f g h k =
+      let both : Rejected w f ≡ Rejected v g =
       texts_one laws domain problem plan (λ d p q a. ⊥) (λ d p q a b here there. absurd here)
       (Rejected w f) (Rejected v g)
       (rejected_step domain problem plan (λ d p q a. ⊥) w f h)
-      (rejected_step domain problem plan (λ d p q a. ⊥) v g k)
+      (rejected_step domain problem plan (λ d p q a. ⊥) v g k) in (cc, cc)
 
   module _ (domain problem plan : List ℕ) (d : Domain) (p : Problem) (q : Plan)
       (h : AreSpelled domain problem plan d p q) where

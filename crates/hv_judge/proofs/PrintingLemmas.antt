@@ -1,5 +1,5 @@
 -- What is written where a text is printed, from what the parts write.
-use Rattle.std.proofs.Common.{◌≡◌, ℕ, List, Option, Result, Ok, Err, sym, subst}
+use Rattle.std.proofs.Common.{◌≡◌, ℕ, List, Option, sym, subst}
 use Rattle.hv_text.specs.Io.{IsRead, IsReadFault}
 use Rattle.hv_text.specs.declared.fault.TheConstants.{MOST_BYTES}
 use Rattle.hv_text.specs.declared.io.ReadFault.{ReadFault}
@@ -19,18 +19,9 @@ use Rattle.hv_answer.specs.declared.answer.Which.{Which}
 use Rattle.hv_answer.specs.declared.answer.Which.TheVariants as texts
 use Rattle.hv_judge.specs.declared.printing.Printed.{Printed}
 use Rattle.hv_judge.specs.declared.printing.Printed.TheVariants as ends
-use Rattle.hv_judge.specs.declared.running.RunFault.{RunFault}
-use Rattle.hv_judge.specs.declared.running.RunFault.TheVariants as runs
 use Rattle.hv_judge.specs.Rejections.{fault_in}
-use Rattle.hv_judge.specs.Prints.{rejection, IsPrint, a_domain, a_problem, a_plan, a_certificate, no_domain, no_problem, no_plan, no_certificate, IsPrintOf, text_read, text_too_long, WroteText, IsDone, IsTextRejection, IsPlanRejection, IsCertificateRejection, IsUnreadRejection}
-
--- what was written is also what a weaker demand allows
-pub print_as : {W K : Type 0} (P Q : K → List ℕ → Type 0) (taken : W → Option (List ℕ)) (old new : W) (r : Result K RunFault)
-    → ((end : K) (bytes : List ℕ) → P end bytes → Q end bytes) → WroteText P taken old new r → WroteText Q taken old new r
-print_as P Q taken old new (Ok end) f (bytes, p, w) = (bytes, f end bytes p, w)
-print_as P Q taken old new (Err (runs.Read w)) f h = h
-print_as P Q taken old new (Err runs.Memory) f h = h
-print_as P Q taken old new (Err runs.Write) f (end, bytes, p, w) = (end, bytes, f end bytes p, w)
+use Rattle.hv_judge.specs.Runs.{rejection}
+use Rattle.hv_judge.specs.Prints.{IsPrint, a_domain, a_problem, a_plan, a_certificate, no_domain, no_problem, no_plan, no_certificate, IsPrintOf, text_read, text_too_long, IsDone, IsTextRejection, IsPlanRejection, IsCertificateRejection, IsUnreadRejection}
 
 -- bytes that are those of a constructor
 as_print : (text : List ℕ) (w : Which) (end e : Printed) (bytes b : List ℕ) → end ≡ e → bytes ≡ b → IsPrint text w e b → IsPrint text w end bytes

@@ -15,12 +15,11 @@ use Rattle.hv_judge.specs.declared.rechecking.RecheckKind.{RecheckKind}
 use Rattle.hv_judge.specs.declared.rechecking.RecheckKind.TheVariants as kinds
 use Rattle.hv_judge.specs.declared.running.RunFault.{RunFault}
 use Rattle.hv_judge.specs.Checked.{Rechecked, IsRejectedOfFour, not_judged, not_of_form, IsRecheckFault}
-use Rattle.hv_judge.specs.Prints.{rejection}
-use Rattle.hv_judge.specs.Rechecks.{IsRecheckLine, says_certified, says_not_certified, says_rejected, found_line, IsFoundLine, IsRejectionLine, IsUnreadLine}
-use Rattle.hv_judge.specs.Rechecks.{IsRecheckFrom, text_read, text_too_long, IsHaltFrom, text_failed, text_given}
+use Rattle.hv_judge.specs.Rechecks.{IsRecheckLine, says_certified, says_not_certified, says_rejected, found_line, IsFoundLine}
+use Rattle.hv_judge.specs.Rechecks.{IsHaltFrom, text_failed, text_given}
 use Rattle.hv_judge.specs.Rejections.{first_too_long}
-use Rattle.hv_judge.specs.Runs.{IsFailureOf}
-use Rattle.hv_judge.specs.Verdicts.{IsSpelledAs, Judged}
+use Rattle.hv_judge.specs.Runs.{rejection, IsRejection, IsFailureOf}
+use Rattle.hv_judge.specs.Verdicts.{IsSpelledAs, HasVerdict}
 use Rattle.hv_judge.specs.inside.CheckEnds.{check_end, cert_end}
 use Rattle.hv_judge.specs.inside.Ends.{Ends}
 use Rattle.hv_judge.proofs.RunLemmas.{failed_read}
@@ -28,7 +27,7 @@ use Rattle.hv_judge.proofs.RunLemmas.{failed_read}
 module _ (domain problem plan cert : List ℕ) where
   -- a rejection of one of the three texts is that of the judge
   pub judged_ends : (e : NotSolved) → first_too_long domain problem plan ≡ None
-      → length cert ≤ MOST_BYTES → Ends (Judged domain problem plan 0) e
+      → length cert ≤ MOST_BYTES → Ends (HasVerdict domain problem plan 0) e
       → IsRecheckFault domain problem plan cert (check_end e)
   judged_ends (Rejected w f) short few h = not_judged w f short few h
   judged_ends (Fails c) short few h = tt
@@ -64,30 +63,11 @@ module _ (domain problem plan cert : List ℕ) where
   found_as r h k line is = found_by r.certified r.evaluated h k line is
 
   pub rejected_as : (w : Which) (f : Fault) → IsRejectedOfFour domain problem plan cert w f
-      → (k : RecheckKind) (line : List ℕ) → IsRejectionLine w f k line
+      → (k : RecheckKind) (line : List ℕ) → IsRejection kinds.Rejected w f k line
       → IsRecheckLine domain problem plan cert k line
   rejected_as w f h k line (kind, is) = as_line k kinds.Rejected line (rejection w f) kind is (says_rejected w f h)
 
--- a reader that gave its text, of which `handed` is what was handed on
-pub from_read : {R : Type 0} (w : Which) (left : R → Option (List ℕ)) (r r' : R) (Alone : Type 0)
-    (Next : List ℕ → RecheckKind → List ℕ → Type 0) (text handed : List ℕ) → handed ≡ text
-    → IsRead (left r) (left r') MOST_BYTES text
-    → (k : RecheckKind) (line : List ℕ) → Next handed k line → IsRecheckFrom w left r r' Alone Next k line
-from_read w left r r' Alone Next text handed e read k line h =
-    text_read text k line read (subst (λ t. Next t k line) e h)
-
--- one that gave too much
-pub from_unread : {R : Type 0} (w : Which) (left : R → Option (List ℕ)) (r r' : R) (Alone : Type 0)
-    (Next : List ℕ → RecheckKind → List ℕ → Type 0) (fault : ReadFault)
-    → IsReadFault (left r) (left r') MOST_BYTES fault → Alone
-    → (k : RecheckKind) (line : List ℕ) → IsUnreadLine w fault k line
-    → IsRecheckFrom w left r r' Alone Next k line
-from_unread w left r r' Alone Next fault h alone k line (long, (kind, is)) =
-    subst (λ x. IsRecheckFrom w left r r' Alone Next x line) (sym kind)
-    (subst (λ y. IsRecheckFrom w left r r' Alone Next kinds.Rejected y) (sym is)
-    (text_too_long (subst (IsReadFault (left r) (left r') MOST_BYTES) long h) alone))
-
--- the same where nothing is written
+-- a reader where nothing is written
 pub halt_read : {R : Type 0} (w : Which) (left : R → Option (List ℕ)) (r r' : R) (Alone : Type 0)
     (Next : RunFault → Type 0) (text : List ℕ) → IsRead (left r) (left r') MOST_BYTES text
     → (f : RunFault) → Next f → IsHaltFrom w left r r' Alone Next f

@@ -1,67 +1,58 @@
--- What a run wrote: the text of an answer that its readers' bytes allow.
-use Rattle.std.proofs.Common.{◌≡◌, ℕ, Bool, List, Option, Result, Ok, Err, refl, sym, subst}
+-- What a run wrote, by what its readers' bytes allow.
+use Rattle.std.proofs.Common.{◌≡◌, ℕ, Bool, true, false, List, Option, Result, Ok, Err, refl, sym, subst}
 use Rattle.hv_text.specs.Io.{IsRead, IsReadFault}
 use Rattle.hv_text.specs.declared.fault.TheConstants.{MOST_BYTES}
 use Rattle.hv_text.specs.declared.io.ReadFault.{ReadFault}
 use Rattle.hv_text.specs.declared.io.ReadFault.TheVariants as reads
 use Rattle.hv_answer.specs.declared.answer.Answer.{Answer}
+use Rattle.hv_answer.specs.declared.answer.Verdict.{Verdict}
 use Rattle.hv_answer.specs.declared.answer.Which.{Which}
 use Rattle.hv_answer.specs.declared.answer.Which.TheVariants as texts
 use Rattle.hv_answer.specs.declared.answer.Kind.{Kind}
 use Rattle.hv_judge.specs.declared.running.RunFault.{RunFault}
 use Rattle.hv_judge.specs.declared.running.RunFault.TheVariants as runs
-use Rattle.hv_judge.specs.Verdicts.{Judged}
-use Rattle.hv_judge.specs.Runs.{Wrote, IsUnreadText, IsRunOfPlan, plan_read, plan_too_long, IsRunOfProblem, problem_read, problem_too_long, IsRunOf, domain_read, domain_too_long}
+use Rattle.hv_judge.specs.Verdicts.{HasVerdict, Judged}
+use Rattle.hv_judge.specs.Runs.{Wrote, IsSaid, IsTextOf, IsExplained, IsUnread, ComesOf, text_read, text_too_long}
 use Rattle.hv_judge.specs.Runs.{IfHalted, IsFailedRead, IsFailureOf, IsWant, IsHaltOfText, text_failed, text_given, IsHaltOfProblem, problem_failed, problem_given, IsHaltOf, domain_failed, domain_given}
 
 -- what was written is also what a weaker demand allows
-pub wrote_as : {W : Type 0} (P Q : Answer → Type 0) (taken : W → Option (List ℕ)) (old new : W) (explain : Bool) (r : Result Kind RunFault)
-    → ((a : Answer) → P a → Q a) → Wrote P taken old new explain r → Wrote Q taken old new explain r
-wrote_as P Q taken old new explain (Ok k) f (a, p, e, w) = (a, f a p, e, w)
-wrote_as P Q taken old new explain (Err (runs.Read w)) f h = h
-wrote_as P Q taken old new explain (Err runs.Memory) f h = h
-wrote_as P Q taken old new explain (Err runs.Write) f (a, p, w) = (a, f a p, w)
+pub wrote_as : {W K : Type 0} (P Q : K → List ℕ → Type 0) (taken : W → Option (List ℕ)) (old new : W) (r : Result K RunFault)
+    → ((k : K) (text : List ℕ) → P k text → Q k text) → Wrote P taken old new r → Wrote Q taken old new r
+wrote_as P Q taken old new (Ok k) f (text, p, w) = (text, f k text p, w)
+wrote_as P Q taken old new (Err (runs.Read w)) f h = h
+wrote_as P Q taken old new (Err runs.Memory) f h = h
+wrote_as P Q taken old new (Err runs.Write) f (k, text, p, w) = (k, text, f k text p, w)
 
--- the texts that are too long
-pub unread_plan : {C : Type 0} (left : C → Option (List ℕ)) (c c' : C) (limit : ℕ) (domain problem : List ℕ) (fault : ReadFault)
-    → IsReadFault (left c) (left c') MOST_BYTES fault
-    → (a : Answer) → IsUnreadText texts.Plan fault a → IsRunOfPlan left c c' limit domain problem a
-unread_plan left c c' limit domain problem fault h a (e, s) =
-    subst (IsRunOfPlan left c c' limit domain problem) (sym s)
-    (plan_too_long (subst (IsReadFault (left c) (left c') MOST_BYTES) e h))
+-- what is said of three texts
+module _ (domain problem plan : List ℕ) (limit : ℕ) where
+  pub said_explained : (explain : Bool) → explain ≡ true → (a : Answer) → Judged domain problem plan limit a
+      → (k : Kind) (text : List ℕ) → IsExplained a k text → IsSaid domain problem plan limit explain k text
+  said_explained explain on a judged k text is =
+      subst (λ b. IsSaid domain problem plan limit b k text) (sym on) (a, judged, is)
 
-pub unread_problem : {B C : Type 0} (left_b : B → Option (List ℕ)) (b b' : B) (left : C → Option (List ℕ)) (c : C) (limit : ℕ) (domain : List ℕ) (fault : ReadFault)
-    → IsReadFault (left_b b) (left_b b') MOST_BYTES fault
-    → (a : Answer) → IsUnreadText texts.Problem fault a → IsRunOfProblem left_b b b' left c c limit domain a
-unread_problem left_b b b' left c limit domain fault h a (e, s) =
-    subst (IsRunOfProblem left_b b b' left c c limit domain) (sym s)
-    (problem_too_long (subst (IsReadFault (left_b b) (left_b b') MOST_BYTES) e h) refl)
+  pub said_verdict : (explain : Bool) → explain ≡ false → (v : Verdict) → HasVerdict domain problem plan limit v
+      → (k : Kind) (text : List ℕ) → IsTextOf v k text → IsSaid domain problem plan limit explain k text
+  said_verdict explain off v has k text is =
+      subst (λ b. IsSaid domain problem plan limit b k text) (sym off) (v, has, is)
 
-pub unread_domain : {A B C : Type 0} (left_a : A → Option (List ℕ)) (a a' : A) (left_b : B → Option (List ℕ)) (b : B) (left : C → Option (List ℕ)) (c : C) (limit : ℕ) (fault : ReadFault)
-    → IsReadFault (left_a a) (left_a a') MOST_BYTES fault
-    → (x : Answer) → IsUnreadText texts.Domain fault x → IsRunOf left_a a a' left_b b b left c c limit x
-unread_domain left_a a a' left_b b left c limit fault h x (e, s) =
-    subst (IsRunOf left_a a a' left_b b b left c c limit) (sym s)
-    (domain_too_long (subst (IsReadFault (left_a a) (left_a a') MOST_BYTES) e h) refl refl)
+-- a reader that gave its text, of which `handed` is what was handed on
+pub from_read : {R K : Type 0} (w : Which) (left : R → Option (List ℕ)) (r r' : R) (Alone : Type 0) (rejected : K)
+    (Next : List ℕ → K → List ℕ → Type 0) (text handed : List ℕ) → handed ≡ text
+    → IsRead (left r) (left r') MOST_BYTES text
+    → (k : K) (line : List ℕ) → Next handed k line → ComesOf w left r r' Alone rejected Next k line
+from_read w left r r' Alone rejected Next text handed e read k line h =
+    text_read text k line read (subst (λ t. Next t k line) e h)
 
--- the texts that are read: `text` is what was handed on
-pub judged_plan : {C : Type 0} (left : C → Option (List ℕ)) (c c' : C) (limit : ℕ) (domain problem plan text : List ℕ) → text ≡ plan
-    → IsRead (left c) (left c') MOST_BYTES plan
-    → (a : Answer) → Judged domain problem text limit a → IsRunOfPlan left c c' limit domain problem a
-judged_plan left c c' limit domain problem plan text e h a j =
-    plan_read plan a h (subst (λ t. Judged domain problem t limit a) e j)
-
-pub judged_problem : {B C : Type 0} (left_b : B → Option (List ℕ)) (b b' : B) (left : C → Option (List ℕ)) (c c' : C) (limit : ℕ) (domain problem text : List ℕ)
-    → text ≡ problem → IsRead (left_b b) (left_b b') MOST_BYTES problem
-    → (a : Answer) → IsRunOfPlan left c c' limit domain text a → IsRunOfProblem left_b b b' left c c' limit domain a
-judged_problem left_b b b' left c c' limit domain problem text e h a j =
-    problem_read problem a h (subst (λ t. IsRunOfPlan left c c' limit domain t a) e j)
-
-pub judged_domain : {A B C : Type 0} (left_a : A → Option (List ℕ)) (a a' : A) (left_b : B → Option (List ℕ)) (b b' : B) (left : C → Option (List ℕ)) (c c' : C) (limit : ℕ) (domain text : List ℕ)
-    → text ≡ domain → IsRead (left_a a) (left_a a') MOST_BYTES domain
-    → (x : Answer) → IsRunOfProblem left_b b b' left c c' limit text x → IsRunOf left_a a a' left_b b b' left c c' limit x
-judged_domain left_a a a' left_b b b' left c c' limit domain text e h x j =
-    domain_read domain x h (subst (λ t. IsRunOfProblem left_b b b' left c c' limit t x) e j)
+-- one that gave too much
+pub from_unread : {R K : Type 0} (w : Which) (left : R → Option (List ℕ)) (r r' : R) (Alone : Type 0) (rejected : K)
+    (Next : List ℕ → K → List ℕ → Type 0) (fault : ReadFault)
+    → IsReadFault (left r) (left r') MOST_BYTES fault → Alone
+    → (k : K) (line : List ℕ) → IsUnread rejected w fault k line
+    → ComesOf w left r r' Alone rejected Next k line
+from_unread w left r r' Alone rejected Next fault h alone k line (long, (kind, is)) =
+    subst (λ x. ComesOf w left r r' Alone rejected Next x line) (sym kind)
+    (subst (λ y. ComesOf w left r r' Alone rejected Next rejected y) (sym is)
+    (text_too_long (subst (IsReadFault (left r) (left r') MOST_BYTES) long h) alone))
 
 -- why nothing was given is also what a weaker demand allows
 pub halted_as : {K : Type 0} (P Q : RunFault → Type 0) (r : Result K RunFault) → ((f : RunFault) → P f → Q f) → IfHalted P r → IfHalted Q r

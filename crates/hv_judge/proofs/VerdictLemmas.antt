@@ -1,5 +1,5 @@
 -- What the judge answers of a plan in a world, from what its parts find.
-use Rattle.std.proofs.Common.{◌≡◌, ◌<◌, ◌↔◌, ℕ, Bool, List, true, false, IsTrue, IfOk, IfErr, Result, Ok, Err, Some, option_map, length, slice_get, sym, subst, ap, ◌∙◌}
+use Rattle.std.proofs.Common.{◌≡◌, ◌<◌, ◌↔◌, ℕ, Bool, List, true, false, IsTrue, IfOk, IfErr, Result, Ok, Err, Option, None, Some, option_map, length, slice_get, sym, subst, ap, ◌∙◌}
 use Rattle.hv_world.specs.Worlds.{World}
 use Rattle.hv_world.specs.Bindings.{GroundAction}
 use Rattle.hv_state.specs.Plans as states
@@ -10,7 +10,7 @@ use Rattle.hv_plan.specs.Values.{Action, Plan}
 use Rattle.hv_plan.specs.Causes.{IsTreeFault}
 use Rattle.hv_plan.specs.Shapes.{FormTree}
 use Rattle.hv_plan.specs.Fits.{FitWorld}
-use Rattle.hv_plan.specs.PlanTrees.{PlanTree, IsTreeOf, IsActionOf}
+use Rattle.hv_plan.specs.PlanTrees.{PlanTree, IsTreeOf, IsTreeIn, IsActionOf}
 use Rattle.hv_plan.specs.declared.cause.TreeFault.{TreeFault}
 use Rattle.hv_plan.specs.declared.cause.TreeFault.TheVariants as trees
 use Rattle.hv_plan.proofs.FitLemmas.{member_at, same_length}
@@ -19,25 +19,29 @@ use Rattle.hv_order.specs.Settings.{HasCandidate, HaveCandidates, IsFirstWithout
 use Rattle.hv_certificate.specs.declared.certificate.Certificate.{Certificate}
 use Rattle.hv_order.specs.declared.solution.RowFault.{RowFault}
 use Rattle.hv_order.specs.declared.solution.RowFault.TheVariants as rows
-use Rattle.hv_answer.specs.declared.answer.Answer.TheVariants as answers
+use Rattle.hv_answer.specs.declared.answer.Verdict.TheVariants as verdicts
 use Rattle.hv_answer.specs.declared.answer.CauseKind.{CauseKind}
 use Rattle.hv_answer.specs.declared.answer.CauseKind.TheVariants as causes
 use Rattle.hv_judge.specs.declared.not_solved.NotSolved.{NotSolved}
 use Rattle.hv_judge.specs.declared.not_solved.NotSolved.TheVariants.{Fails}
-use Rattle.hv_judge.specs.Solutions.{HasTree, IsRun, ReachesGoal, run_of, judged_in, judged_without}
+use Rattle.hv_judge.specs.Solutions.{HasTree, IsRun, ReachesGoal, SolvesBy, run_of, judged_in, judged_without}
 use Rattle.hv_answer.specs.Places.{cause_nowhere}
 use Rattle.hv_judge.specs.Causes.{IsCauseOf, by_tree, by_action, by_goal, by_binding, by_order, by_precondition, IsWithinLimit}
 use Rattle.hv_judge.specs.Verdicts.{IsVerdict}
-use Rattle.hv_judge.specs.inside.Ends.{Ends, tree_end, run_end, row_end, IsEndInOrder, IsLastCause}
+use Rattle.hv_judge.specs.inside.Ends.{Ends, Explains, tree_end, run_end, row_end, IsEndInOrder, IsLastCause}
 
 -- the tree that was built is the plan's
 pub has_tree : (w : World) (p : Plan) (t : PlanTree)
     → FormTree p × FitWorld w p × IsTreeOf w p t → HasTree w p t
 has_tree w p t (forms, fits, is_tree) = record { forms = forms; fits = fits; is_tree = is_tree }
 
+-- it is a tree of the world
+pub tree_in : (w : World) (p : Plan) (t : PlanTree) → HasTree w p t → IsTreeIn w t
+tree_in w p t h = record { plan = p; forms = h.forms; fits = h.fits; is_tree = h.is_tree }
+
 -- a plan whose lines form no tree fails for that cause
 pub no_tree : (w : World) (p : Plan) (limit : ℕ) (f : TreeFault)
-    → IsTreeFault w p f → Ends (λ a. IsVerdict limit a w p) (tree_end f)
+    → IsTreeFault w p f → Ends (λ v. IsVerdict limit v w p) (tree_end f)
 no_tree w p limit (trees.Cause c) h = by_tree c h
 no_tree w p limit trees.Memory h = tt
 
@@ -50,7 +54,7 @@ action_line w p t k tree within =
 
 -- a plan with an action that is not applicable fails at the line of the first
 pub no_run : (w : World) (p : Plan) (t : PlanTree) (limit : ℕ) (f : Stop) → HasTree w p t
-    → IsStop (run_of w t) f → Ends (λ a. IsVerdict limit a w p) (run_end p.actions f)
+    → IsStop (run_of w t) f → Ends (λ v. IsVerdict limit v w p) (run_end p.actions f)
 no_run w p t limit (stops.Inapplicable k) tree h =
     let line = action_line w p t k tree h.0 in
     subst (λ o. IsCauseOf w p limit (record { kind = causes.Inapplicable; line = o }))
@@ -133,12 +137,23 @@ module _ (w : World) (p : Plan) (t : PlanTree) (limit : ℕ) (r : states.Plan) (
 -- what is found of the order, where the goal is reached and no count is above the limit
 module _ (w : World) (p : Plan) (t : PlanTree) (limit : ℕ) (reaches : ReachesGoal w p t)
     (within : IsWithinLimit w t limit) where
-  pub solved : (r : Result Certificate NotSolved) → IfOk r (Certifies (judged_in w t))
-      → IfOk r (λ c. IsVerdict limit (answers.Solves c) w p)
-  solved (Ok c) h = (record { tree = t; reaches = reaches; certified = h }, within)
-  solved (Err e) h = tt
+  pub solves : (r : Result (Option Certificate) NotSolved) → IfOk r (λ o. IsSolved (judged_in w t))
+      → IfOk r (λ o. IsVerdict limit verdicts.Solves w p)
+  solves (Ok o) h = (record { tree = t; reaches = reaches; solved = h }, within)
+  solves (Err e) h = tt
 
-  pub not_solved : (r : Result Certificate NotSolved) → IfErr r (IsEndInOrder w t)
-      → IfErr r (Ends (λ a. IsVerdict limit a w p))
-  not_solved (Ok c) h = tt
+  solved_by : (b : Bool) (o : Option Certificate) → Explains b (Certifies (judged_in w t)) o
+      → Explains b (SolvesBy w p) o
+  solved_by true None h = h
+  solved_by true (Some c) h = record { tree = t; reaches = reaches; certified = h }
+  solved_by false o h = tt
+
+  pub explains : (b : Bool) (r : Result (Option Certificate) NotSolved)
+      → IfOk r (Explains b (Certifies (judged_in w t))) → IfOk r (Explains b (SolvesBy w p))
+  explains b (Ok o) h = solved_by b o h
+  explains b (Err e) h = tt
+
+  pub not_solved : (r : Result (Option Certificate) NotSolved) → IfErr r (IsEndInOrder w t)
+      → IfErr r (Ends (λ v. IsVerdict limit v w p))
+  not_solved (Ok o) h = tt
   not_solved (Err e) h = h p limit reaches within

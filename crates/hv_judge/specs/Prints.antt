@@ -1,7 +1,6 @@
 -- What is written where a text is printed.
-use Rattle.std.specs.Prelude.{◌≡◌, ℕ, false, List, Option, Some, Result, Ok, Err}
-use Rattle.std.specs.Io.KnownBytes.{Appends}
-use Rattle.hv_text.specs.Io.{IsRead, AppendsBeginning}
+use Rattle.std.specs.Prelude.{◌≡◌, ℕ, List, Option, Some}
+use Rattle.hv_text.specs.Io.{IsRead}
 use Rattle.hv_text.specs.declared.fault.TheConstants.{MOST_BYTES}
 use Rattle.hv_text.specs.declared.span.Span.{Span}
 use Rattle.hv_text.specs.declared.io.ReadFault.{ReadFault}
@@ -19,7 +18,6 @@ use Rattle.hv_certificate.specs.Forms.{IsCertText, IsCertFault}
 use Rattle.hv_certificate.specs.Texts.{cert_text}
 use Rattle.hv_certificate.specs.declared.certificate.Certificate.{Certificate}
 use Rattle.hv_certificate.specs.declared.fault.CertFault.{CertFault}
-use Rattle.hv_answer.specs.declared.answer.Answer.TheVariants as answers
 use Rattle.hv_answer.specs.declared.answer.Fault.{Fault}
 use Rattle.hv_answer.specs.declared.answer.FaultKind.{FaultKind}
 use Rattle.hv_answer.specs.declared.answer.FaultKind.TheVariants as faults
@@ -27,16 +25,9 @@ use Rattle.hv_answer.specs.declared.answer.Which.{Which}
 use Rattle.hv_answer.specs.declared.answer.Which.TheVariants as which
 use Rattle.hv_judge.specs.declared.printing.Printed.{Printed}
 use Rattle.hv_judge.specs.declared.printing.Printed.TheVariants as ends
-use Rattle.hv_judge.specs.declared.running.RunFault.{RunFault}
-use Rattle.hv_judge.specs.declared.running.RunFault.TheVariants as runs
 use Rattle.hv_answer.specs.Places.{fault_nowhere}
 use Rattle.hv_judge.specs.Rejections.{fault_in, reported, reported_plan, reported_cert}
-use Rattle.hv_answer.specs.Text.{answer_text}
-use Rattle.hv_judge.specs.Runs.{IsTooLong}
-
--- the line of a rejection
-abbrev pub rejection : Which → Fault → List ℕ
-rejection w f = answer_text (answers.Rejected w f) false
+use Rattle.hv_judge.specs.Runs.{rejection, IsTooLong}
 
 -- what is written of a text, and how that ends: the canonical text of what it says, or the line of
 -- its rejection
@@ -67,17 +58,6 @@ pub data IsPrintOf {R : Type 0} (w : Which) (left : R → Option (List ℕ)) (ol
       → IsPrintOf w left old new end bytes
   text_too_long : IsTooLong (left old) (left new)
       → IsPrintOf w left old new ends.Rejected (rejection w (fault_nowhere faults.TooLong))
-
--- what `P` allows was written, and that is how it ended; a beginning of it, where the writer
--- failed; nothing was done with the writer, where the text was not read or memory was refused
-abbrev pub WroteText : {W K : Type 0} → (K → List ℕ → Type 0) → (W → Option (List ℕ)) → W → W
-    → Result K RunFault → Type 0
-WroteText P taken old new (Ok end) = (bytes : List ℕ) × P end bytes
-    × Appends (taken old) (taken new) bytes
-WroteText P taken old new (Err (runs.Read w)) = new ≡ old
-WroteText P taken old new (Err runs.Memory) = new ≡ old
-WroteText {W} {K} P taken old new (Err runs.Write) = (end : K) × (bytes : List ℕ) × P end bytes
-    × AppendsBeginning (taken old) (taken new) bytes
 
 -- what the parts of the code do
 

@@ -2,19 +2,14 @@
 use Rattle.std.specs.Prelude.{◌≡◌, ℕ, Bool, true, false, List, Option, codes}
 use Rattle.hv_text.specs.Io.{IsRead}
 use Rattle.hv_text.specs.declared.fault.TheConstants.{MOST_BYTES}
-use Rattle.hv_text.specs.declared.io.ReadFault.{ReadFault}
-use Rattle.hv_text.specs.declared.io.ReadFault.TheVariants as reads
 use Rattle.hv_answer.specs.declared.answer.Fault.{Fault}
-use Rattle.hv_answer.specs.declared.answer.FaultKind.TheVariants as faults
 use Rattle.hv_answer.specs.declared.answer.Which.{Which}
 use Rattle.hv_answer.specs.declared.answer.Which.TheVariants as texts
 use Rattle.hv_judge.specs.declared.rechecking.RecheckKind.{RecheckKind}
 use Rattle.hv_judge.specs.declared.rechecking.RecheckKind.TheVariants as kinds
 use Rattle.hv_judge.specs.declared.running.RunFault.{RunFault}
 use Rattle.hv_judge.specs.Checked.{Rechecked, IsRejectedOfFour}
-use Rattle.hv_judge.specs.Prints.{rejection}
-use Rattle.hv_answer.specs.Places.{fault_nowhere}
-use Rattle.hv_judge.specs.Runs.{IsTooLong, IsFailedRead, IsWant}
+use Rattle.hv_judge.specs.Runs.{rejection, ComesOf, IsFailedRead, IsWant}
 
 -- the line that is written of four texts, and its kind
 pub data IsRecheckLine (domain problem plan cert : List ℕ) : RecheckKind → List ℕ → Type 0 where
@@ -27,41 +22,32 @@ pub data IsRecheckLine (domain problem plan cert : List ℕ) : RecheckKind → L
   says_rejected : (w : Which) (f : Fault) → IsRejectedOfFour domain problem plan cert w f
       → IsRecheckLine domain problem plan cert kinds.Rejected (rejection w f)
 
--- what comes of one reader: what `Next` allows for the text that it gave, or the line of its
--- rejection where it gave too much, with the readers behind it left `Alone`
-pub data IsRecheckFrom {R : Type 0} (w : Which) (left : R → Option (List ℕ)) (r r' : R)
-    (Alone : Type 0) (Next : List ℕ → RecheckKind → List ℕ → Type 0) : RecheckKind → List ℕ
-    → Type 0 where
-  text_read : (text : List ℕ) (k : RecheckKind) (line : List ℕ)
-      → IsRead (left r) (left r') MOST_BYTES text → Next text k line
-      → IsRecheckFrom w left r r' Alone Next k line
-  text_too_long : IsTooLong (left r) (left r') → Alone
-      → IsRecheckFrom w left r r' Alone Next kinds.Rejected (rejection w (fault_nowhere faults.TooLong))
-
 -- the readers of the certificate, of the plan before it, of the problem before these, and of the
 -- domain before these
 abbrev pub IsRecheckOfCertificate : {D : Type 0} → (D → Option (List ℕ)) → D → D
     → List ℕ → List ℕ → List ℕ → RecheckKind → List ℕ → Type 0
 IsRecheckOfCertificate left_d d d' domain problem plan =
-    IsRecheckFrom texts.Certificate left_d d d' (Unit {0}) (IsRecheckLine domain problem plan)
+    ComesOf texts.Certificate left_d d d' (Unit {0}) kinds.Rejected
+    (IsRecheckLine domain problem plan)
 
 abbrev pub IsRecheckOfPlan : {C D : Type 0} → (C → Option (List ℕ)) → C → C
     → (D → Option (List ℕ)) → D → D → List ℕ → List ℕ → RecheckKind → List ℕ → Type 0
 IsRecheckOfPlan left_c c c' left_d d d' domain problem =
-    IsRecheckFrom texts.Plan left_c c c' (d' ≡ d) (IsRecheckOfCertificate left_d d d' domain problem)
+    ComesOf texts.Plan left_c c c' (d' ≡ d) kinds.Rejected
+    (IsRecheckOfCertificate left_d d d' domain problem)
 
 abbrev pub IsRecheckOfProblem : {B C D : Type 0} → (B → Option (List ℕ)) → B → B
     → (C → Option (List ℕ)) → C → C → (D → Option (List ℕ)) → D → D → List ℕ
     → RecheckKind → List ℕ → Type 0
 IsRecheckOfProblem left_b b b' left_c c c' left_d d d' domain =
-    IsRecheckFrom texts.Problem left_b b b' ((c' ≡ c) × (d' ≡ d))
+    ComesOf texts.Problem left_b b b' ((c' ≡ c) × (d' ≡ d)) kinds.Rejected
     (IsRecheckOfPlan left_c c c' left_d d d' domain)
 
 abbrev pub IsRecheckOf : {A B C D : Type 0} → (A → Option (List ℕ)) → A → A
     → (B → Option (List ℕ)) → B → B → (C → Option (List ℕ)) → C → C
     → (D → Option (List ℕ)) → D → D → RecheckKind → List ℕ → Type 0
 IsRecheckOf left_a a a' left_b b b' left_c c c' left_d d d' =
-    IsRecheckFrom texts.Domain left_a a a' ((b' ≡ b) × (c' ≡ c) × (d' ≡ d))
+    ComesOf texts.Domain left_a a a' ((b' ≡ b) × (c' ≡ c) × (d' ≡ d)) kinds.Rejected
     (IsRecheckOfProblem left_b b b' left_c c c' left_d d d')
 
 -- one reader where nothing is written: it was not read to its end, and those behind it are left
@@ -107,12 +93,3 @@ found_line false = codes "not certified\n"
 
 abbrev pub IsFoundLine : Bool → RecheckKind → List ℕ → Type 0
 IsFoundLine certified k line = (k ≡ found_kind certified) × (line ≡ found_line certified)
-
--- the line of a rejection
-abbrev pub IsRejectionLine : Which → Fault → RecheckKind → List ℕ → Type 0
-IsRejectionLine w f k line = (k ≡ kinds.Rejected) × (line ≡ rejection w f)
-
--- the line of the rejection of a text that is too long
-abbrev pub IsUnreadLine : Which → ReadFault → RecheckKind → List ℕ → Type 0
-IsUnreadLine w fault k line = (fault ≡ reads.TooLong)
-    × IsRejectionLine w (fault_nowhere faults.TooLong) k line

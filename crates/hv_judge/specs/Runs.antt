@@ -6,21 +6,24 @@ use Rattle.hv_text.specs.declared.fault.TheConstants.{MOST_BYTES}
 use Rattle.hv_text.specs.declared.io.ReadFault.{ReadFault}
 use Rattle.hv_text.specs.declared.io.ReadFault.TheVariants as reads
 use Rattle.hv_answer.specs.declared.answer.Answer.{Answer}
-use Rattle.hv_answer.specs.declared.answer.Answer.TheVariants as answers
+use Rattle.hv_answer.specs.declared.answer.Fault.{Fault}
 use Rattle.hv_answer.specs.declared.answer.FaultKind.TheVariants as faults
+use Rattle.hv_answer.specs.declared.answer.Verdict.{Verdict}
+use Rattle.hv_answer.specs.declared.answer.Verdict.TheVariants as verdicts
 use Rattle.hv_answer.specs.declared.answer.Which.{Which}
 use Rattle.hv_answer.specs.declared.answer.Which.TheVariants as texts
 use Rattle.hv_answer.specs.declared.answer.Kind.{Kind}
+use Rattle.hv_answer.specs.declared.answer.Kind.TheVariants as kinds
 use Rattle.hv_judge.specs.declared.running.RunFault.{RunFault}
 use Rattle.hv_judge.specs.declared.running.RunFault.TheVariants as runs
-use Rattle.hv_answer.specs.Kinds.{kind_of}
+use Rattle.hv_answer.specs.Kinds.{kind_of, verdict_of}
 use Rattle.hv_answer.specs.Places.{fault_nowhere}
-use Rattle.hv_answer.specs.Text.{answer_text}
-use Rattle.hv_judge.specs.Verdicts.{Judged}
+use Rattle.hv_answer.specs.Text.{verdict_text, answer_text}
+use Rattle.hv_judge.specs.Verdicts.{HasVerdict, Judged}
 
--- a text that is too long is rejected
-abbrev pub too_long_answer : Which → Answer
-too_long_answer w = answers.Rejected w (fault_nowhere faults.TooLong)
+-- the line of a rejection
+abbrev pub rejection : Which → Fault → List ℕ
+rejection w f = verdict_text (verdicts.Rejected w f)
 
 -- more bytes were read than a text may have
 abbrev pub IsTooLong : Option (List ℕ) → Option (List ℕ) → Type 0
@@ -59,47 +62,62 @@ writes_failed (Err (runs.Read w)) = 0
 writes_failed (Err runs.Memory) = 0
 writes_failed (Err runs.Write) = 1
 
--- the text of an answer that `P` allows was written, and its kind is given; a beginning of such a
--- text, where the writer failed; nothing was done with the writer, where a text was not read or
--- memory was refused
-abbrev pub Wrote : {W : Type 0} → (Answer → Type 0) → (W → Option (List ℕ)) → W → W → Bool
-    → Result Kind RunFault → Type 0
-Wrote P taken old new explain (Ok k) = (a : Answer) × P a × (k ≡ kind_of a)
-    × Appends (taken old) (taken new) (answer_text a explain)
-Wrote P taken old new explain (Err (runs.Read w)) = new ≡ old
-Wrote P taken old new explain (Err runs.Memory) = new ≡ old
-Wrote P taken old new explain (Err runs.Write) = (a : Answer) × P a
-    × AppendsBeginning (taken old) (taken new) (answer_text a explain)
+-- what `P` allows was written, and its kind is given; a beginning of it, where the writer failed;
+-- nothing was done with the writer, where a text was not read or memory was refused
+abbrev pub Wrote : {W K : Type 0} → (K → List ℕ → Type 0) → (W → Option (List ℕ)) → W → W
+    → Result K RunFault → Type 0
+Wrote P taken old new (Ok k) = (text : List ℕ) × P k text × Appends (taken old) (taken new) text
+Wrote P taken old new (Err (runs.Read w)) = new ≡ old
+Wrote P taken old new (Err runs.Memory) = new ≡ old
+Wrote {W} {K} P taken old new (Err runs.Write) = (k : K) × (text : List ℕ) × P k text
+    × AppendsBeginning (taken old) (taken new) text
 
--- the answer after the domain and the problem were read: what is judged of the plan, or that it is
--- too long
-pub data IsRunOfPlan {C : Type 0} (left : C → Option (List ℕ)) (c c' : C) (limit : ℕ)
-    (domain problem : List ℕ) : Answer → Type 0 where
-  plan_read : (plan : List ℕ) (a : Answer) → IsRead (left c) (left c') MOST_BYTES plan
-      → Judged domain problem plan limit a
-      → IsRunOfPlan left c c' limit domain problem a
-  plan_too_long : IsTooLong (left c) (left c')
-      → IsRunOfPlan left c c' limit domain problem (too_long_answer texts.Plan)
+-- the text of a verdict, and its kind
+abbrev pub IsTextOf : Verdict → Kind → List ℕ → Type 0
+IsTextOf v k text = (k ≡ kind_of v) × (text ≡ verdict_text v)
 
--- the answer after the domain was read: where the problem is too long, nothing was done with the
--- plan's reader
-pub data IsRunOfProblem {B C : Type 0} (left_b : B → Option (List ℕ)) (b b' : B)
-    (left_c : C → Option (List ℕ)) (c c' : C) (limit : ℕ) (domain : List ℕ) : Answer → Type 0 where
-  problem_read : (problem : List ℕ) (a : Answer) → IsRead (left_b b) (left_b b') MOST_BYTES problem
-      → IsRunOfPlan left_c c c' limit domain problem a
-      → IsRunOfProblem left_b b b' left_c c c' limit domain a
-  problem_too_long : IsTooLong (left_b b) (left_b b') → c' ≡ c
-      → IsRunOfProblem left_b b b' left_c c c' limit domain (too_long_answer texts.Problem)
+-- the text of an answer with what explains it, and the kind of its verdict
+abbrev pub IsExplained : Answer → Kind → List ℕ → Type 0
+IsExplained a k text = (k ≡ kind_of (verdict_of a)) × (text ≡ answer_text a true)
 
--- the answer to three readers: where the domain is too long, nothing was done with the other two
-pub data IsRunOf {A B C : Type 0} (left_a : A → Option (List ℕ)) (a a' : A)
-    (left_b : B → Option (List ℕ)) (b b' : B) (left_c : C → Option (List ℕ)) (c c' : C)
-    (limit : ℕ) : Answer → Type 0 where
-  domain_read : (domain : List ℕ) (x : Answer) → IsRead (left_a a) (left_a a') MOST_BYTES domain
-      → IsRunOfProblem left_b b b' left_c c c' limit domain x
-      → IsRunOf left_a a a' left_b b b' left_c c c' limit x
-  domain_too_long : IsTooLong (left_a a) (left_a a') → b' ≡ b → c' ≡ c
-      → IsRunOf left_a a a' left_b b b' left_c c c' limit (too_long_answer texts.Domain)
+-- what is written of three texts, and its kind: with explanation the text of an answer that the judge
+-- may give, else that of their verdict
+abbrev pub IsSaid : List ℕ → List ℕ → List ℕ → ℕ → Bool → Kind → List ℕ → Type 0
+IsSaid domain problem plan limit true k text = (a : Answer) × Judged domain problem plan limit a
+    × IsExplained a k text
+IsSaid domain problem plan limit false k text = (v : Verdict) × HasVerdict domain problem plan limit v
+    × IsTextOf v k text
+
+-- what comes of one reader: what `Next` allows for the text that it gave, or the line of its
+-- rejection where it gave too much, with the readers behind it left `Alone`
+pub data ComesOf {R K : Type 0} (w : Which) (left : R → Option (List ℕ)) (r r' : R) (Alone : Type 0)
+    (rejected : K) (Next : List ℕ → K → List ℕ → Type 0) : K → List ℕ → Type 0 where
+  text_read : (text : List ℕ) (k : K) (line : List ℕ)
+      → IsRead (left r) (left r') MOST_BYTES text → Next text k line
+      → ComesOf w left r r' Alone rejected Next k line
+  text_too_long : IsTooLong (left r) (left r') → Alone
+      → ComesOf w left r r' Alone rejected Next rejected (rejection w (fault_nowhere faults.TooLong))
+
+-- what is written after the domain and the problem were read, after the domain was read, and of all
+-- three readers
+abbrev pub IsRunOfPlan : {C : Type 0} → (C → Option (List ℕ)) → C → C → ℕ → Bool → List ℕ → List ℕ
+    → Kind → List ℕ → Type 0
+IsRunOfPlan left c c' limit explain domain problem =
+    ComesOf texts.Plan left c c' (Unit {0}) kinds.Rejected
+    (λ plan. IsSaid domain problem plan limit explain)
+
+abbrev pub IsRunOfProblem : {B C : Type 0} → (B → Option (List ℕ)) → B → B
+    → (C → Option (List ℕ)) → C → C → ℕ → Bool → List ℕ → Kind → List ℕ → Type 0
+IsRunOfProblem left_b b b' left_c c c' limit explain domain =
+    ComesOf texts.Problem left_b b b' (c' ≡ c) kinds.Rejected
+    (IsRunOfPlan left_c c c' limit explain domain)
+
+abbrev pub IsRunOf : {A B C : Type 0} → (A → Option (List ℕ)) → A → A
+    → (B → Option (List ℕ)) → B → B → (C → Option (List ℕ)) → C → C → ℕ → Bool
+    → Kind → List ℕ → Type 0
+IsRunOf left_a a a' left_b b b' left_c c c' limit explain =
+    ComesOf texts.Domain left_a a a' ((b' ≡ b) × (c' ≡ c)) kinds.Rejected
+    (IsRunOfProblem left_b b b' left_c c c' limit explain)
 
 -- a reader was not read to its end, for this reason: it failed itself, or a growth was refused on
 -- the way. It has moved on by what it gave
@@ -170,6 +188,11 @@ failures_of reads.Memory = 0
 abbrev pub failures_at : Which → Which → ReadFault → ℕ
 failures_at w which fault = if is_same w which then failures_of fault else 0
 
--- the answer to a text that was not read
-abbrev pub IsUnreadText : Which → ReadFault → Answer → Type 0
-IsUnreadText w fault a = (fault ≡ reads.TooLong) × (a ≡ too_long_answer w)
+-- the line of a rejection, and its kind
+abbrev pub IsRejection : {K : Type 0} → K → Which → Fault → K → List ℕ → Type 0
+IsRejection rejected w f k text = (k ≡ rejected) × (text ≡ rejection w f)
+
+-- that of a text that was not read: it is too long
+abbrev pub IsUnread : {K : Type 0} → K → Which → ReadFault → K → List ℕ → Type 0
+IsUnread rejected w fault k text =
+    (fault ≡ reads.TooLong) × IsRejection rejected w (fault_nowhere faults.TooLong) k text

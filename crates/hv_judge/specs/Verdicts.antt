@@ -1,4 +1,4 @@
--- The verdict: what the judge may answer.
+-- The verdict of three texts and a limit, and what the judge may answer.
 use Rattle.std.specs.Prelude.{◌≡◌, ℕ, List, None}
 use Rattle.hv_syntax.specs.Values.{Domain, Problem}
 use Rattle.hv_syntax.specs.Texts.{IsDomainText, IsProblemText}
@@ -7,9 +7,13 @@ use Rattle.hv_world.specs.Worlds.{World, world_of}
 use Rattle.hv_plan.specs.Values.{Plan}
 use Rattle.hv_plan.specs.Spellings.{IsPlan}
 use Rattle.hv_plan.specs.PlanTrees.{PlanTree}
+use Rattle.hv_certificate.specs.declared.certificate.Certificate.{Certificate}
+use Rattle.hv_answer.specs.Kinds.{verdict_of}
 use Rattle.hv_answer.specs.declared.answer.Answer.{Answer}
-use Rattle.hv_answer.specs.declared.answer.Answer.TheVariants.{Solves, Fails, Undecided, Rejected}
-use Rattle.hv_judge.specs.Solutions.{ReachesGoal, SolvesBy}
+use Rattle.hv_answer.specs.declared.answer.Answer.TheVariants as answers
+use Rattle.hv_answer.specs.declared.answer.Verdict.{Verdict}
+use Rattle.hv_answer.specs.declared.answer.Verdict.TheVariants.{Solves, Fails, Undecided, Rejected}
+use Rattle.hv_judge.specs.Solutions.{ReachesGoal, IsSolution, SolvesBy}
 use Rattle.hv_judge.specs.Causes.{IsCauseOf, IsWithinLimit, IsFirstAbove}
 use Rattle.hv_judge.specs.Rejections.{first_too_long, IsRejected}
 
@@ -28,23 +32,41 @@ IsSpelledAs domain problem plan P =
     (d : Domain) × (p : Problem) × (q : Plan) × AreSpelled domain problem plan d p q
     × P (world_of d p) q
 
--- what may be said of a plan in a world: that it solves the problem by a certificate, where no
+-- what may be said of a plan in a world: that it solves the problem, where it is a solution and no
 -- node's count is above the limit; that it fails; or, where it reaches the goal and a node's count
 -- is above the limit, nothing
-abbrev pub IsVerdict : ℕ → Answer → World → Plan → Type 0
-IsVerdict limit (Solves c) w q = (s : SolvesBy w q c) × IsWithinLimit w s.tree limit
+abbrev pub IsVerdict : ℕ → Verdict → World → Plan → Type 0
+IsVerdict limit Solves w q = (s : IsSolution w q) × IsWithinLimit w s.tree limit
 IsVerdict limit (Fails c) w q = IsCauseOf w q limit c
 IsVerdict limit (Undecided line) w q = (t : PlanTree) × ReachesGoal w q t
     × IsFirstAbove w t limit line
 IsVerdict limit (Rejected which fault) w q = ⊥
 
--- what the judge may answer: a text is rejected, or all three are spelled and the verdict is theirs
-abbrev pub Judged : List ℕ → List ℕ → List ℕ → ℕ → Answer → Type 0
-Judged domain problem plan limit (Solves c) =
-    IsSpelledAs domain problem plan (IsVerdict limit (Solves c))
-Judged domain problem plan limit (Fails c) =
+-- the verdict of three texts and a limit: a text is rejected, or all three are spelled and it is that
+-- of the plan
+abbrev pub HasVerdict : List ℕ → List ℕ → List ℕ → ℕ → Verdict → Type 0
+HasVerdict domain problem plan limit Solves =
+    IsSpelledAs domain problem plan (IsVerdict limit Solves)
+HasVerdict domain problem plan limit (Fails c) =
     IsSpelledAs domain problem plan (IsVerdict limit (Fails c))
-Judged domain problem plan limit (Undecided line) =
+HasVerdict domain problem plan limit (Undecided line) =
     IsSpelledAs domain problem plan (IsVerdict limit (Undecided line))
-Judged domain problem plan limit (Rejected which fault) =
+HasVerdict domain problem plan limit (Rejected which fault) =
     IsRejected domain problem plan which fault
+
+-- the three texts spell a plan that solves its problem by this certificate
+abbrev pub IsRight : List ℕ → List ℕ → List ℕ → Certificate → Type 0
+IsRight domain problem plan c = IsSpelledAs domain problem plan (λ w q. SolvesBy w q c)
+
+-- the certificate of an answer is right, where it has one
+abbrev pub IsCertified : List ℕ → List ℕ → List ℕ → Answer → Type 0
+IsCertified domain problem plan (answers.Solves c) = IsRight domain problem plan c
+IsCertified domain problem plan (answers.Fails c) = Unit {0}
+IsCertified domain problem plan (answers.Undecided line) = Unit {0}
+IsCertified domain problem plan (answers.Rejected which fault) = Unit {0}
+
+-- what the judge may answer: its verdict is that of the texts, and where it solves, its certificate is
+-- right
+pub record Judged (domain problem plan : List ℕ) (limit : ℕ) (a : Answer) : Type 0 where
+  pub verdict : HasVerdict domain problem plan limit (verdict_of a)
+  pub certified : IsCertified domain problem plan a

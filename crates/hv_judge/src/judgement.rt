@@ -3,15 +3,15 @@
 ghost use Rattle.std.specs.Prelude.{◌≡◌, ◌≤◌, length, IfOk, IfErr};
 ghost use Rattle.hv_text.specs.declared.fault.TheConstants.{MOST_BYTES};
 ghost use Rattle.hv_world.specs.WorldViews.{world_view};
-ghost use Rattle.hv_answer.specs.declared.answer.Answer.TheVariants as answers;
+ghost use Rattle.hv_answer.specs.declared.answer.Verdict.TheVariants as verdicts;
 ghost use Rattle.hv_judge.specs.Rejections.{reported, reported_static, first_too_long, which_of, text_of_side};
-ghost use Rattle.hv_judge.specs.Verdicts.{Judged};
-ghost use Rattle.hv_judge.specs.inside.Ends.{Ends, IsPairEnd, IsWorldOf, rejected_at};
+ghost use Rattle.hv_judge.specs.Verdicts.{HasVerdict, IsRight, Judged};
+ghost use Rattle.hv_judge.specs.inside.Ends.{Ends, Explains, IsPairEnd, IsWorldOf, rejected_at};
 
 use crate::not_solved::NotSolved;
 use crate::rejection::{fault_in, reported, reported_static};
 use crate::verdict::judge_plan;
-use hv_answer::{Answer, Fault, Which};
+use hv_answer::{Answer, Fault, Verdict, Which};
 use hv_certificate::Certificate;
 use hv_plan::{plans_are_small, read_plan};
 use hv_syntax::{SyntaxFault, read_domain, read_problem};
@@ -96,18 +96,22 @@ pub(crate) fn read_world<'s>(
     }
 }
 
-// The certificate of a plan that solves its problem, or why it is not said to.
+// That a plan solves its problem, with its certificate where `explain` asks for it, or why that is
+// not said.
 fn judge_texts<'s>(
     alloc: Global,
     domain: &'s [u8],
     problem: &'s [u8],
     plan: &'s [u8],
     limit: u64,
-) -> Result<Certificate<'s>, NotSolved>
-    ensures ok { IfOk result
-        (λ c. Judged domain.entry.now problem.entry.now plan.entry.now limit (answers.Solves c)) }
+    explain: bool,
+) -> Result<Option<Certificate<'s>>, NotSolved>
+    ensures solves { IfOk result (λ _. HasVerdict
+        domain.entry.now problem.entry.now plan.entry.now limit verdicts.Solves) }
+    ensures certificate { IfOk result
+        (Explains explain (IsRight domain.entry.now problem.entry.now plan.entry.now)) }
     ensures err { IfErr result
-        (Ends (Judged domain.entry.now problem.entry.now plan.entry.now limit)) }
+        (Ends (HasVerdict domain.entry.now problem.entry.now plan.entry.now limit)) }
 {
     plans_are_small();
     if let Some(which) = first_too_long(domain, problem, plan) {
@@ -115,7 +119,7 @@ fn judge_texts<'s>(
     }
     let world = read_world(alloc, domain, problem)?;
     let plan = read_plan(alloc, plan)?;
-    judge_plan(alloc, &world, &plan, limit)
+    judge_plan(alloc, &world, &plan, limit, explain)
 }
 
 /// Judges whether a plan solves a problem of a domain. Where a node of the plan has more choices
@@ -133,8 +137,30 @@ pub fn judge<'s>(
 ) -> Result<Answer<'s>, Memory>
     ensures { IfOk result (Judged domain.entry.now problem.entry.now plan.entry.now limit) }
 {
-    match judge_texts(alloc, domain, problem, plan, limit) {
-        Ok(certificate) => Ok(Answer::Solves(certificate)),
+    match judge_texts(alloc, domain, problem, plan, limit, true) {
+        Ok(Some(certificate)) => Ok(Answer::Solves(certificate)),
+        Ok(None) => unreachable!(),
         Err(why) => why.answer(),
+    }
+}
+
+/// Judges the same, and gives the verdict alone: no certificate is made, which takes less time and
+/// memory.
+///
+/// # Errors
+///
+/// `Memory` where a growth was refused.
+pub fn decide(
+    alloc: Global,
+    domain: &[u8],
+    problem: &[u8],
+    plan: &[u8],
+    limit: u64,
+) -> Result<Verdict, Memory>
+    ensures { IfOk result (HasVerdict domain.now problem.now plan.now limit) }
+{
+    match judge_texts(alloc, domain, problem, plan, limit, false) {
+        Ok(_found) => Ok(Verdict::Solves),
+        Err(why) => why.verdict(),
     }
 }

@@ -1,7 +1,8 @@
 //! What holds of every answer. A function only cites the laws that it stands on: its contract is
 //! the law.
 
-ghost use Rattle.hv_judge.specs.Answers.{OneAnswerLaw, SolvesLaw, FailsLaw};
+ghost use Rattle.hv_judge.specs.Answers.{OneVerdictLaw, OneAnswerLaw, VerdictOfAnswerLaw};
+ghost use Rattle.hv_judge.specs.Answers.{SolvesLaw, FailsLaw};
 ghost use Rattle.hv_judge.specs.Answers.{CertifiedLaw, ExplainedLaw, OneRecheckLaw, ExplainedAgainLaw};
 ghost use Rattle.hv_judge.specs.Answers.{ValuesOrRejectionLaw, NeverBothLaw};
 ghost use Rattle.hv_judge.specs.Answers.{OneSpellingLaw, OneRejectionLaw};
@@ -13,12 +14,14 @@ use hv_plan::{a_plan_has_one_tree, a_plan_or_a_fault, a_tree_or_a_cause};
 use hv_syntax::{a_domain_or_a_fault, a_problem_or_a_fault, a_text_says_one_thing};
 use hv_world::a_world_or_a_fault;
 
-/// Three texts and a limit have one answer: whatever the judge may answer for them, it is the same
-/// text that is rejected, for the same fault at the same place, or the same verdict, with the same
-/// cause and line. Only the certificate of a plan that solves its problem is left open: several may
-/// be right.
+/// Three texts and a limit have one verdict: the same text is rejected, for the same fault at the
+/// same place, or the same is said of the plan, with the same cause and line. Whatever the judge may
+/// answer for them, its verdict is this one. Only the certificate of a plan that solves its problem
+/// is left open: several may be right.
 pub fn one_answer()
-    ensures { OneAnswerLaw }
+    ensures verdict { OneVerdictLaw }
+    ensures answer { OneAnswerLaw }
+    ensures of_answer { VerdictOfAnswerLaw }
 {
     a_text_says_one_thing();
     a_domain_or_a_fault();

@@ -14,9 +14,12 @@ mod running;
 mod verdict;
 
 pub use checking::{CheckFault, Recheck, check};
-pub use hv_answer::{Answer, Cause, CauseKind, Fault, FaultKind, Kind, Place, Which, write_answer};
+pub use hv_answer::{
+    Answer, Cause, CauseKind, Fault, FaultKind, Kind, Place, Verdict, Which, write_answer,
+    write_verdict,
+};
 pub use hv_certificate::{Certificate, Choice};
-pub use judgement::judge;
+pub use judgement::{decide, judge};
 pub use law::{
     a_certificate_of_a_solution, a_solution_or_none, one_answer, one_recheck, values_or_a_rejection,
 };

@@ -1,10 +1,10 @@
-//! What the judge answers where it finds no certificate.
+//! What the judge says where it finds no solution.
 
 ghost use Rattle.std.specs.Prelude.{◌≡◌, IfOk};
-ghost use Rattle.hv_judge.specs.inside.Ends.{IsAnswerOf};
+ghost use Rattle.hv_judge.specs.inside.Ends.{IsAnswerOf, IsVerdictOf};
 
 use crate::rejection::reported_plan;
-use hv_answer::{Answer, Cause, CauseKind, Fault, Which};
+use hv_answer::{Answer, Cause, CauseKind, Fault, Verdict, Which};
 use hv_order::solution::RowFault;
 use hv_plan::{PlanFault, TreeFault};
 use hv_text::Memory;
@@ -23,6 +23,18 @@ pub(crate) enum NotSolved {
 }
 
 impl NotSolved {
+    /// The verdict, which there is unless a growth was refused.
+    pub(crate) fn verdict(self) -> Result<Verdict, Memory>
+        ensures { IfOk result (IsVerdictOf self) }
+    {
+        match self {
+            NotSolved::Rejected(which, fault) => Ok(Verdict::Rejected(which, fault)),
+            NotSolved::Fails(cause) => Ok(Verdict::Fails(cause)),
+            NotSolved::Undecided(line) => Ok(Verdict::Undecided(line)),
+            NotSolved::Memory => Err(Memory),
+        }
+    }
+
     /// The answer, which there is unless a growth was refused.
     pub(crate) fn answer<'s>(self) -> Result<Answer<'s>, Memory>
         ensures { IfOk result (IsAnswerOf self) }

@@ -1,20 +1,19 @@
 //! Whether a plan that reaches the goal has a solution.
 
-ghost use Rattle.std.specs.Prelude.{◌≡◌, ◌<◌, length, IfOk, IfErr};
+ghost use Rattle.std.specs.Prelude.{true, IfOk, IfErr};
 ghost use Rattle.hv_world.specs.WorldViews.{world_view};
-ghost use Rattle.hv_state.specs.Plans.{plan};
 ghost use Rattle.hv_plan.specs.BuiltTrees.{tree_view};
-ghost use Rattle.hv_plan.specs.PlanTrees.{IsTreeIn};
 ghost use Rattle.hv_order.specs.Certified.{Certifies, IsRowFault};
-ghost use Rattle.hv_order.specs.Settings.{HasNoPrecondition};
+ghost use Rattle.hv_order.specs.Settings.{setting, BelongTogether, HaveCandidates, IsSolved};
 ghost use Rattle.hv_judge.specs.Solutions.{judged_in, judged_without};
-ghost use Rattle.hv_judge.specs.inside.Ends.{IsEndInOrder, IsLastCause};
+ghost use Rattle.hv_judge.specs.inside.Ends.{Explains, IsEndInOrder, IsLastCause};
 
 use crate::not_solved::NotSolved;
 use hv_answer::{Cause, CauseKind};
 use hv_certificate::Certificate;
 use hv_match::Matcher;
-use hv_order::solution::{RowFault, is_solvable, solution};
+use hv_order::certified_plans::certified_plans_are_solved;
+use hv_order::solution::{RowFault, has_solution, is_solvable, solution};
 use hv_plan::Tree;
 use hv_state::{BitState, Trace};
 use hv_world::World;
@@ -29,11 +28,7 @@ fn last_cause(
     tree: &Tree<'_, '_>,
     trace: &Trace<'_, '_, BitState>,
 ) -> Result<CauseKind, RowFault>
-    requires world { matcher.now ≡ world_view world.now }
-    requires top { HasNoPrecondition (world_view world.now) }
-    requires tree { IsTreeIn (world_view world.now) (tree_view tree.now) }
-    requires trace { trace.now ≡ plan (world_view world.now) (tree_view tree.now).actions }
-    requires small { length (tree_view tree.now).actions < 4294967295 }
+    requires { BelongTogether (world_view world.now) matcher.now (tree_view tree.now) trace.now }
     ensures ok { IfOk result (IsLastCause (world_view world.now) (tree_view tree.now)) }
     ensures err { IfErr result
         (IsRowFault (judged_without (world_view world.now) (tree_view tree.now))) }
@@ -46,27 +41,52 @@ fn last_cause(
     }
 }
 
-/// The certificate of a plan that reaches the goal, or why it has none.
-pub(crate) fn certificate<'s>(
+// Why a plan that reaches the goal fails, where each node has a candidate and there is no solution.
+fn unsolved(
+    alloc: Global,
+    world: &World<'_>,
+    matcher: &Matcher<'_, '_>,
+    tree: &Tree<'_, '_>,
+    trace: &Trace<'_, '_, BitState>,
+) -> NotSolved
+    requires together { BelongTogether
+        (world_view world.now) matcher.now (tree_view tree.now) trace.now }
+    requires candidates { HaveCandidates (setting (tree_view tree.now) trace.now true) }
+    requires none { IsSolved (setting (tree_view tree.now) trace.now true) → ⊥ }
+    ensures { IsEndInOrder (world_view world.now) (tree_view tree.now) result }
+{
+    match last_cause(alloc, world, matcher, tree, trace) {
+        Ok(kind) => NotSolved::Fails(Cause::nowhere(kind)),
+        Err(fault) => NotSolved::from(fault),
+    }
+}
+
+/// That a plan which reaches the goal has a solution, with its certificate where `explain` asks for
+/// it, or why there is none.
+pub(crate) fn find_solution<'s>(
     alloc: Global,
     world: &World<'s>,
     matcher: &Matcher<'_, 's>,
     tree: &Tree<'_, '_>,
     trace: &Trace<'_, '_, BitState>,
-) -> Result<Certificate<'s>, NotSolved>
-    requires world { matcher.now ≡ world_view world.now }
-    requires top { HasNoPrecondition (world_view world.now) }
-    requires tree { IsTreeIn (world_view world.now) (tree_view tree.now) }
-    requires trace { trace.now ≡ plan (world_view world.now) (tree_view tree.now).actions }
-    requires small { length (tree_view tree.now).actions < 4294967295 }
-    ensures ok { IfOk result (Certifies (judged_in (world_view world.now) (tree_view tree.now))) }
+    explain: bool,
+) -> Result<Option<Certificate<'s>>, NotSolved>
+    requires { BelongTogether (world_view world.now) matcher.now (tree_view tree.now) trace.now }
+    ensures solved { IfOk result
+        (λ _. IsSolved (judged_in (world_view world.now) (tree_view tree.now))) }
+    ensures certificate { IfOk result
+        (Explains explain (Certifies (judged_in (world_view world.now) (tree_view tree.now)))) }
     ensures err { IfErr result (IsEndInOrder (world_view world.now) (tree_view tree.now)) }
 {
-    match solution(alloc, world, matcher, tree, trace, true)? {
-        Some(certificate) => Ok(certificate),
-        None => {
-            let kind = last_cause(alloc, world, matcher, tree, trace)?;
-            Err(NotSolved::Fails(Cause::nowhere(kind)))
+    certified_plans_are_solved();
+    if explain {
+        match solution(alloc, world, matcher, tree, trace, true)? {
+            Some(certificate) => Ok(Some(certificate)),
+            None => Err(unsolved(alloc, world, matcher, tree, trace)),
         }
+    } else if has_solution(alloc, world, matcher, tree, trace, true)? {
+        Ok(None)
+    } else {
+        Err(unsolved(alloc, world, matcher, tree, trace))
     }
 }

@@ -4,12 +4,12 @@ ghost use Rattle.std.specs.Prelude.{◌≡◌, ◌<◌, ◌≤◌, ◌+◌, ◌-
 ghost use Rattle.hv_text.specs.declared.fault.TheConstants.{MOST_BYTES};
 ghost use Rattle.hv_answer.specs.declared.answer.Which.{Which};
 ghost use Rattle.hv_answer.specs.declared.answer.Which.TheVariants as texts;
-ghost use Rattle.hv_judge.specs.Runs.{is_same, reads_failed, writes_failed, failures_at, IfHalted, IsWant, IsFailureOf, IsHaltOfText};
-ghost use Rattle.hv_judge.specs.Prints.{IsPrint, IsPrintOf, WroteText, IsDone, IsRejection, IsTextRejection, IsPlanRejection, IsCertificateRejection, IsUnreadRejection};
+ghost use Rattle.hv_judge.specs.Runs.{is_same, reads_failed, writes_failed, failures_at, Wrote, IfHalted, IsWant, IsFailureOf, IsHaltOfText};
+ghost use Rattle.hv_judge.specs.Prints.{IsPrint, IsPrintOf, IsDone, IsRejection, IsTextRejection, IsPlanRejection, IsCertificateRejection, IsUnreadRejection};
 
 use crate::rejection::{fault_in, reported, reported_cert, reported_plan};
 use crate::running::RunFault;
-use hv_answer::{Answer, Fault, Which, write_answer};
+use hv_answer::{Fault, Verdict, Which, write_verdict};
 use hv_certificate::{CertFault, print_cert, read_cert};
 use hv_plan::{PlanFault, print_plan, read_plan};
 use hv_syntax::{SyntaxFault, print_domain, print_problem, read_domain, read_problem};
@@ -28,12 +28,12 @@ pub enum Printed {
 // Writes the line of a rejection.
 fn reject<W: Sink>(which: Which, fault: Fault, out: &mut W) -> Result<Printed, RunFault>
     requires { W.failures out.old < 2 ^ 64 - 1 }
-    ensures wrote { WroteText (IsRejection which fault) W.taken out.old out.new result }
+    ensures wrote { Wrote (IsRejection which fault) W.taken out.old out.new result }
     ensures reads { (w : Which) → reads_failed w result ≡ 0 }
     ensures halted { IfHalted (λ _. ⊥) result }
     ensures writes { W.failures out.new ≡ W.failures out.old + writes_failed result }
 {
-    write_answer(&Answer::Rejected(which, fault), false, out)?;
+    write_verdict(Verdict::Rejected(which, fault), out)?;
     Ok(Printed::Rejected)
 }
 
@@ -46,7 +46,7 @@ fn reject_text<W: Sink>(
 ) -> Result<Printed, RunFault>
     requires text { length text.now ≤ MOST_BYTES }
     requires out { W.failures out.old < 2 ^ 64 - 1 }
-    ensures wrote { WroteText
+    ensures wrote { Wrote
         (IsTextRejection which text.now fault) W.taken out.old out.new result }
     ensures reads { (w : Which) → reads_failed w result ≡ 0 }
     ensures halted { IfHalted IsWant result }
@@ -61,7 +61,7 @@ fn reject_text<W: Sink>(
 // Writes bytes that are the canonical text of something.
 fn write_canonical<W: Sink>(bytes: &[u8], out: &mut W) -> Result<Printed, RunFault>
     requires { W.failures out.old < 2 ^ 64 - 1 }
-    ensures wrote { WroteText (IsDone bytes.now) W.taken out.old out.new result }
+    ensures wrote { Wrote (IsDone bytes.now) W.taken out.old out.new result }
     ensures reads { (w : Which) → reads_failed w result ≡ 0 }
     ensures halted { IfHalted IsWant result }
     ensures writes { W.failures out.new ≡ W.failures out.old + writes_failed result }
@@ -74,7 +74,7 @@ fn write_canonical<W: Sink>(bytes: &[u8], out: &mut W) -> Result<Printed, RunFau
 fn print_domain_text<W: Sink>(alloc: Global, text: &[u8], out: &mut W) -> Result<Printed, RunFault>
     requires text { length text.now ≤ MOST_BYTES }
     requires out { W.failures out.old < 2 ^ 64 - 1 }
-    ensures wrote { WroteText (IsPrint text.now texts.Domain) W.taken out.old out.new result }
+    ensures wrote { Wrote (IsPrint text.now texts.Domain) W.taken out.old out.new result }
     ensures reads { (w : Which) → reads_failed w result ≡ 0 }
     ensures halted { IfHalted IsWant result }
     ensures writes { W.failures out.new ≡ W.failures out.old + writes_failed result }
@@ -93,7 +93,7 @@ fn print_domain_text<W: Sink>(alloc: Global, text: &[u8], out: &mut W) -> Result
 fn print_problem_text<W: Sink>(alloc: Global, text: &[u8], out: &mut W) -> Result<Printed, RunFault>
     requires text { length text.now ≤ MOST_BYTES }
     requires out { W.failures out.old < 2 ^ 64 - 1 }
-    ensures wrote { WroteText (IsPrint text.now texts.Problem) W.taken out.old out.new result }
+    ensures wrote { Wrote (IsPrint text.now texts.Problem) W.taken out.old out.new result }
     ensures reads { (w : Which) → reads_failed w result ≡ 0 }
     ensures halted { IfHalted IsWant result }
     ensures writes { W.failures out.new ≡ W.failures out.old + writes_failed result }
@@ -111,7 +111,7 @@ fn print_problem_text<W: Sink>(alloc: Global, text: &[u8], out: &mut W) -> Resul
 // Prints a plan.
 fn print_plan_text<W: Sink>(alloc: Global, text: &[u8], out: &mut W) -> Result<Printed, RunFault>
     requires { W.failures out.old < 2 ^ 64 - 1 }
-    ensures wrote { WroteText (IsPrint text.now texts.Plan) W.taken out.old out.new result }
+    ensures wrote { Wrote (IsPrint text.now texts.Plan) W.taken out.old out.new result }
     ensures reads { (w : Which) → reads_failed w result ≡ 0 }
     ensures halted { IfHalted IsWant result }
     ensures writes { W.failures out.new ≡ W.failures out.old + writes_failed result }
@@ -129,7 +129,7 @@ fn print_plan_text<W: Sink>(alloc: Global, text: &[u8], out: &mut W) -> Result<P
 // Writes the line of the rejection of a plan.
 fn reject_plan<W: Sink>(fault: PlanFault, out: &mut W) -> Result<Printed, RunFault>
     requires { W.failures out.old < 2 ^ 64 - 1 }
-    ensures wrote { WroteText (IsPlanRejection fault) W.taken out.old out.new result }
+    ensures wrote { Wrote (IsPlanRejection fault) W.taken out.old out.new result }
     ensures reads { (w : Which) → reads_failed w result ≡ 0 }
     ensures halted { IfHalted IsWant result }
     ensures writes { W.failures out.new ≡ W.failures out.old + writes_failed result }
@@ -147,7 +147,7 @@ fn print_certificate_text<W: Sink>(
     out: &mut W,
 ) -> Result<Printed, RunFault>
     requires { W.failures out.old < 2 ^ 64 - 1 }
-    ensures wrote { WroteText (IsPrint text.now texts.Certificate) W.taken out.old out.new result }
+    ensures wrote { Wrote (IsPrint text.now texts.Certificate) W.taken out.old out.new result }
     ensures reads { (w : Which) → reads_failed w result ≡ 0 }
     ensures halted { IfHalted IsWant result }
     ensures writes { W.failures out.new ≡ W.failures out.old + writes_failed result }
@@ -165,7 +165,7 @@ fn print_certificate_text<W: Sink>(
 // Writes the line of the rejection of a certificate.
 fn reject_certificate<W: Sink>(fault: CertFault, out: &mut W) -> Result<Printed, RunFault>
     requires { W.failures out.old < 2 ^ 64 - 1 }
-    ensures wrote { WroteText (IsCertificateRejection fault) W.taken out.old out.new result }
+    ensures wrote { Wrote (IsCertificateRejection fault) W.taken out.old out.new result }
     ensures reads { (w : Which) → reads_failed w result ≡ 0 }
     ensures halted { IfHalted IsWant result }
     ensures writes { W.failures out.new ≡ W.failures out.old + writes_failed result }
@@ -185,7 +185,7 @@ fn print_text<W: Sink>(
 ) -> Result<Printed, RunFault>
     requires text { length text.now ≤ MOST_BYTES }
     requires out { W.failures out.old < 2 ^ 64 - 1 }
-    ensures wrote { WroteText (IsPrint text.now which) W.taken out.old out.new result }
+    ensures wrote { Wrote (IsPrint text.now which) W.taken out.old out.new result }
     ensures reads { (w : Which) → reads_failed w result ≡ 0 }
     ensures halted { IfHalted IsWant result }
     ensures writes { W.failures out.new ≡ W.failures out.old + writes_failed result }
@@ -201,7 +201,7 @@ fn print_text<W: Sink>(
 // What is done with a text that was not read: one that is too long is rejected.
 fn print_unread<W: Sink>(which: Which, fault: ReadFault, out: &mut W) -> Result<Printed, RunFault>
     requires { W.failures out.old < 2 ^ 64 - 1 }
-    ensures wrote { WroteText (IsUnreadRejection which fault) W.taken out.old out.new result }
+    ensures wrote { Wrote (IsUnreadRejection which fault) W.taken out.old out.new result }
     ensures reads { (w : Which) → reads_failed w result ≡ failures_at w which fault }
     ensures halted { IfHalted (IsFailureOf which fault) result }
     ensures writes { W.failures out.new ≡ W.failures out.old + writes_failed result }
@@ -228,7 +228,7 @@ pub fn run_print<R: Source, W: Sink>(
 ) -> Result<Printed, RunFault>
     requires reader { R.failures reader.old < 2 ^ 64 - 1 }
     requires out { W.failures out.old < 2 ^ 64 - 1 }
-    ensures wrote { WroteText
+    ensures wrote { Wrote
         (IsPrintOf which R.left reader.old reader.new) W.taken out.old out.new result }
     ensures reads { R.failures reader.new ≡ R.failures reader.old + reads_failed which result }
     // no other reader is blamed

@@ -4,14 +4,14 @@ ghost use Rattle.std.specs.Prelude.{◌≡◌, ◌<◌, ◌+◌, ◌-◌, ◌^�
 ghost use Rattle.hv_answer.specs.declared.answer.Which.TheVariants as texts;
 ghost use Rattle.hv_answer.specs.declared.answer.Which.{Which};
 ghost use Rattle.hv_judge.specs.Checked.{Rechecked, IsRecheckFault};
-ghost use Rattle.hv_judge.specs.Prints.{WroteText};
-ghost use Rattle.hv_judge.specs.Rechecks.{IsRecheckLine, IsFoundLine, IsRejectionLine, IsUnreadLine, IsRecheckOfCertificate, IsRecheckOfPlan, IsRecheckOfProblem, IsRecheckOf, IsRecheckHaltOfCertificate, IsRecheckHaltOfPlan, IsRecheckHaltOfProblem, IsRecheckHaltOf};
-ghost use Rattle.hv_judge.specs.Runs.{reads_failed, writes_failed, failures_at, IfHalted, IsWant, IsFailureOf};
+ghost use Rattle.hv_judge.specs.Rechecks.{IsRecheckLine, IsFoundLine, IsRecheckOfCertificate, IsRecheckOfPlan, IsRecheckOfProblem, IsRecheckOf, IsRecheckHaltOfCertificate, IsRecheckHaltOfPlan, IsRecheckHaltOfProblem, IsRecheckHaltOf};
+ghost use Rattle.hv_judge.specs.declared.rechecking.RecheckKind.TheVariants as kinds;
+ghost use Rattle.hv_judge.specs.Runs.{reads_failed, writes_failed, failures_at, Wrote, IsRejection, IsUnread, IfHalted, IsWant, IsFailureOf};
 
 use crate::checking::{CheckFault, Recheck, check_plan};
 use crate::judgement::{first_too_long, read_world};
 use crate::running::RunFault;
-use hv_answer::{Answer, Fault, Which, write_answer};
+use hv_answer::{Fault, Verdict, Which, write_verdict};
 use hv_certificate::read_cert;
 use hv_plan::{plans_are_small, read_plan};
 use hv_text::{MOST_BYTES, ReadFault, Sink, Source, read_all, write_all};
@@ -64,7 +64,7 @@ pub enum RecheckKind {
 // Writes what was found of a certificate.
 fn tell<W: Sink>(certified: bool, out: &mut W) -> Result<RecheckKind, RunFault>
     requires { W.failures out.old < 2 ^ 64 - 1 }
-    ensures wrote { WroteText (IsFoundLine certified) W.taken out.old out.new result }
+    ensures wrote { Wrote (IsFoundLine certified) W.taken out.old out.new result }
     ensures reads { (w : Which) → reads_failed w result ≡ 0 }
     ensures halted { IfHalted (λ _. ⊥) result }
     ensures writes { W.failures out.new ≡ W.failures out.old + writes_failed result }
@@ -80,12 +80,12 @@ fn tell<W: Sink>(certified: bool, out: &mut W) -> Result<RecheckKind, RunFault>
 // Writes the line of a rejection.
 fn reject<W: Sink>(which: Which, fault: Fault, out: &mut W) -> Result<RecheckKind, RunFault>
     requires { W.failures out.old < 2 ^ 64 - 1 }
-    ensures wrote { WroteText (IsRejectionLine which fault) W.taken out.old out.new result }
+    ensures wrote { Wrote (IsRejection kinds.Rejected which fault) W.taken out.old out.new result }
     ensures reads { (w : Which) → reads_failed w result ≡ 0 }
     ensures halted { IfHalted (λ _. ⊥) result }
     ensures writes { W.failures out.new ≡ W.failures out.old + writes_failed result }
 {
-    write_answer(&Answer::Rejected(which, fault), false, out)?;
+    write_verdict(Verdict::Rejected(which, fault), out)?;
     Ok(RecheckKind::Rejected)
 }
 
@@ -96,7 +96,7 @@ fn reject_unread<W: Sink>(
     out: &mut W,
 ) -> Result<RecheckKind, RunFault>
     requires { W.failures out.old < 2 ^ 64 - 1 }
-    ensures wrote { WroteText (IsUnreadLine which fault) W.taken out.old out.new result }
+    ensures wrote { Wrote (IsUnread kinds.Rejected which fault) W.taken out.old out.new result }
     ensures reads { (w : Which) → reads_failed w result ≡ failures_at w which fault }
     ensures halted { IfHalted (IsFailureOf which fault) result }
     ensures writes { W.failures out.new ≡ W.failures out.old + writes_failed result }
@@ -118,7 +118,7 @@ fn recheck_texts<W: Sink>(
     out: &mut W,
 ) -> Result<RecheckKind, RunFault>
     requires { W.failures out.old < 2 ^ 64 - 1 }
-    ensures wrote { WroteText (IsRecheckLine domain.now problem.now plan.now certificate.now)
+    ensures wrote { Wrote (IsRecheckLine domain.now problem.now plan.now certificate.now)
         W.taken out.old out.new result }
     ensures reads { (w : Which) → reads_failed w result ≡ 0 }
     ensures halted { IfHalted IsWant result }
@@ -142,7 +142,7 @@ fn recheck_certificate<D: Source, W: Sink>(
 ) -> Result<RecheckKind, RunFault>
     requires certificate { D.failures certificate.old < 2 ^ 64 - 1 }
     requires out { W.failures out.old < 2 ^ 64 - 1 }
-    ensures wrote { WroteText
+    ensures wrote { Wrote
         (IsRecheckOfCertificate D.left certificate.old certificate.new
         domain.now problem.now plan.now) W.taken out.old out.new result }
     ensures reads_domain { reads_failed texts.Domain result ≡ 0 }
@@ -172,7 +172,7 @@ fn recheck_plan<C: Source, D: Source, W: Sink>(
     requires plan { C.failures plan.old < 2 ^ 64 - 1 }
     requires certificate { D.failures certificate.old < 2 ^ 64 - 1 }
     requires out { W.failures out.old < 2 ^ 64 - 1 }
-    ensures wrote { WroteText
+    ensures wrote { Wrote
         (IsRecheckOfPlan C.left plan.old plan.new D.left certificate.old certificate.new
         domain.now problem.now) W.taken out.old out.new result }
     ensures reads_domain { reads_failed texts.Domain result ≡ 0 }
@@ -207,7 +207,7 @@ fn recheck_problem<B: Source, C: Source, D: Source, W: Sink>(
     requires plan { C.failures plan.old < 2 ^ 64 - 1 }
     requires certificate { D.failures certificate.old < 2 ^ 64 - 1 }
     requires out { W.failures out.old < 2 ^ 64 - 1 }
-    ensures wrote { WroteText
+    ensures wrote { Wrote
         (IsRecheckOfProblem B.left problem.old problem.new C.left plan.old plan.new
         D.left certificate.old certificate.new domain.now) W.taken out.old out.new result }
     ensures reads_domain { reads_failed texts.Domain result ≡ 0 }
@@ -252,7 +252,7 @@ pub fn run_recheck<A: Source, B: Source, C: Source, D: Source, W: Sink>(
     requires plan { C.failures plan.old < 2 ^ 64 - 1 }
     requires certificate { D.failures certificate.old < 2 ^ 64 - 1 }
     requires out { W.failures out.old < 2 ^ 64 - 1 }
-    ensures wrote { WroteText
+    ensures wrote { Wrote
         (IsRecheckOf A.left domain.old domain.new B.left problem.old problem.new
         C.left plan.old plan.new D.left certificate.old certificate.new)
         W.taken out.old out.new result }

@@ -3,11 +3,11 @@
 ghost use Rattle.std.specs.Prelude.{◌≡◌, ◌<◌, ◌+◌, ◌-◌, ◌^◌};
 ghost use Rattle.hv_answer.specs.declared.answer.Which.TheVariants as texts;
 ghost use Rattle.hv_answer.specs.declared.answer.Which.{Which};
-ghost use Rattle.hv_judge.specs.Verdicts.{Judged};
-ghost use Rattle.hv_judge.specs.Runs.{reads_failed, writes_failed, failures_at, Wrote, IsRunOfPlan, IsRunOfProblem, IsRunOf, IsUnreadText, IfHalted, IsWant, IsFailureOf, IsHaltOfText, IsHaltOfProblem, IsHaltOf};
+ghost use Rattle.hv_answer.specs.declared.answer.Kind.TheVariants as kinds;
+ghost use Rattle.hv_judge.specs.Runs.{reads_failed, writes_failed, failures_at, Wrote, IsSaid, IsTextOf, IsExplained, IsUnread, IsRunOfPlan, IsRunOfProblem, IsRunOf, IfHalted, IsWant, IsFailureOf, IsHaltOfText, IsHaltOfProblem, IsHaltOf};
 
-use crate::judgement::judge;
-use hv_answer::{Answer, Fault, Kind, Which, write_answer};
+use crate::judgement::{decide, judge};
+use hv_answer::{Answer, Fault, Kind, Verdict, Which, write_answer, write_verdict};
 use hv_text::{MOST_BYTES, Memory, ReadFault, Sink, Source, WriteFault, read_all};
 use std::alloc::Global;
 use thiserror::Error;
@@ -47,39 +47,46 @@ impl From<WriteFault> for RunFault {
     }
 }
 
-// Writes an answer and says its kind.
-fn finish<W: Sink>(answer: &Answer<'_>, explain: bool, out: &mut W) -> Result<Kind, RunFault>
+// Writes a verdict and says its kind.
+fn finish<W: Sink>(verdict: Verdict, out: &mut W) -> Result<Kind, RunFault>
     requires { W.failures out.old < 2 ^ 64 - 1 }
-    ensures wrote { Wrote (λ a. a ≡ answer.now) W.taken out.old out.new explain result }
+    ensures wrote { Wrote (IsTextOf verdict) W.taken out.old out.new result }
     ensures reads { (w : Which) → reads_failed w result ≡ 0 }
     ensures halted { IfHalted (λ _. ⊥) result }
     ensures writes { W.failures out.new ≡ W.failures out.old + writes_failed result }
 {
-    write_answer(answer, explain, out)?;
+    write_verdict(verdict, out)?;
+    Ok(verdict.kind())
+}
+
+// Writes an answer, with what explains it, and says its kind.
+fn finish_explained<W: Sink>(answer: &Answer<'_>, out: &mut W) -> Result<Kind, RunFault>
+    requires { W.failures out.old < 2 ^ 64 - 1 }
+    ensures wrote { Wrote (IsExplained answer.now) W.taken out.old out.new result }
+    ensures reads { (w : Which) → reads_failed w result ≡ 0 }
+    ensures halted { IfHalted (λ _. ⊥) result }
+    ensures writes { W.failures out.new ≡ W.failures out.old + writes_failed result }
+{
+    write_answer(answer, true, out)?;
     Ok(answer.kind())
 }
 
 // What is done with a text that was not read: one that is too long is rejected.
-fn finish_unread<W: Sink>(
-    which: Which,
-    fault: ReadFault,
-    explain: bool,
-    out: &mut W,
-) -> Result<Kind, RunFault>
+fn finish_unread<W: Sink>(which: Which, fault: ReadFault, out: &mut W) -> Result<Kind, RunFault>
     requires { W.failures out.old < 2 ^ 64 - 1 }
-    ensures wrote { Wrote (IsUnreadText which fault) W.taken out.old out.new explain result }
+    ensures wrote { Wrote (IsUnread kinds.Rejected which fault) W.taken out.old out.new result }
     ensures reads { (w : Which) → reads_failed w result ≡ failures_at w which fault }
     ensures halted { IfHalted (IsFailureOf which fault) result }
     ensures writes { W.failures out.new ≡ W.failures out.old + writes_failed result }
 {
     match fault {
-        ReadFault::TooLong => finish(&Answer::Rejected(which, Fault::too_long()), explain, out),
+        ReadFault::TooLong => finish(Verdict::Rejected(which, Fault::too_long()), out),
         ReadFault::Device => Err(RunFault::Read(which)),
         ReadFault::Memory => Err(RunFault::Memory),
     }
 }
 
-// Judges three texts and writes the verdict.
+// Judges three texts and writes the verdict. A certificate is made only where it is written.
 fn judge_texts<W: Sink>(
     alloc: Global,
     domain: &[u8],
@@ -91,13 +98,17 @@ fn judge_texts<W: Sink>(
 ) -> Result<Kind, RunFault>
     requires { W.failures out.old < 2 ^ 64 - 1 }
     ensures wrote { Wrote
-        (Judged domain.now problem.now plan.now limit) W.taken out.old out.new explain result }
+        (IsSaid domain.now problem.now plan.now limit explain) W.taken out.old out.new result }
     ensures reads { (w : Which) → reads_failed w result ≡ 0 }
     ensures halted { IfHalted IsWant result }
     ensures writes { W.failures out.new ≡ W.failures out.old + writes_failed result }
 {
-    let answer = judge(alloc, domain, problem, plan, limit)?;
-    finish(&answer, explain, out)
+    if explain {
+        let answer = judge(alloc, domain, problem, plan, limit)?;
+        return finish_explained(&answer, out);
+    }
+    let verdict = decide(alloc, domain, problem, plan, limit)?;
+    finish(verdict, out)
 }
 
 // Reads a plan, judges it and writes the verdict.
@@ -113,8 +124,8 @@ fn run_plan<C: Source, W: Sink>(
     requires plan { C.failures plan.old < 2 ^ 64 - 1 }
     requires out { W.failures out.old < 2 ^ 64 - 1 }
     ensures wrote { Wrote
-        (IsRunOfPlan C.left plan.old plan.new limit domain.now problem.now)
-        W.taken out.old out.new explain result }
+        (IsRunOfPlan C.left plan.old plan.new limit explain domain.now problem.now)
+        W.taken out.old out.new result }
     ensures reads_domain { reads_failed texts.Domain result ≡ 0 }
     ensures reads_problem { reads_failed texts.Problem result ≡ 0 }
     ensures reads_plan { C.failures plan.new
@@ -124,7 +135,7 @@ fn run_plan<C: Source, W: Sink>(
 {
     match read_all(alloc, plan, MOST_BYTES) {
         Ok(plan) => judge_texts(alloc, domain, problem, &plan, limit, explain, out),
-        Err(fault) => finish_unread(Which::Plan, fault, explain, out),
+        Err(fault) => finish_unread(Which::Plan, fault, out),
     }
 }
 
@@ -142,8 +153,8 @@ fn run_problem<B: Source, C: Source, W: Sink>(
     requires plan { C.failures plan.old < 2 ^ 64 - 1 }
     requires out { W.failures out.old < 2 ^ 64 - 1 }
     ensures wrote { Wrote
-        (IsRunOfProblem B.left problem.old problem.new C.left plan.old plan.new limit domain.now)
-        W.taken out.old out.new explain result }
+        (IsRunOfProblem B.left problem.old problem.new C.left plan.old plan.new
+        limit explain domain.now) W.taken out.old out.new result }
     ensures reads_domain { reads_failed texts.Domain result ≡ 0 }
     ensures reads_problem { B.failures problem.new
         ≡ B.failures problem.old + reads_failed texts.Problem result }
@@ -156,13 +167,14 @@ fn run_problem<B: Source, C: Source, W: Sink>(
 {
     match read_all(alloc, problem, MOST_BYTES) {
         Ok(problem) => run_plan(alloc, domain, &problem, plan, limit, explain, out),
-        Err(fault) => finish_unread(Which::Problem, fault, explain, out),
+        Err(fault) => finish_unread(Which::Problem, fault, out),
     }
 }
 
 /// Reads a domain, a problem and a plan, in this order, judges them, and writes the verdict, whose
-/// kind it answers. A text that is too long is rejected at once. The readers behind one that failed
-/// or gave too much are left alone.
+/// kind it answers, with the certificate of a plan that solves its problem where `explain` asks for
+/// it. A text that is too long is rejected at once. The readers behind one that failed or gave too
+/// much are left alone.
 ///
 /// # Errors
 ///
@@ -183,8 +195,8 @@ pub fn run<A: Source, B: Source, C: Source, W: Sink>(
     requires out { W.failures out.old < 2 ^ 64 - 1 }
     ensures wrote { Wrote
         (IsRunOf A.left domain.old domain.new B.left problem.old problem.new
-        C.left plan.old plan.new limit)
-        W.taken out.old out.new explain result }
+        C.left plan.old plan.new limit explain)
+        W.taken out.old out.new result }
     ensures reads_domain { A.failures domain.new
         ≡ A.failures domain.old + reads_failed texts.Domain result }
     ensures reads_problem { B.failures problem.new
@@ -203,6 +215,6 @@ pub fn run<A: Source, B: Source, C: Source, W: Sink>(
 {
     match read_all(alloc, domain, MOST_BYTES) {
         Ok(domain) => run_problem(alloc, &domain, problem, plan, limit, explain, out),
-        Err(fault) => finish_unread(Which::Domain, fault, explain, out),
+        Err(fault) => finish_unread(Which::Domain, fault, out),
     }
 }

@@ -4,13 +4,14 @@ ghost use Rattle.std.specs.Prelude.{◌≡◌, ◌<◌, option_map, slice_get, l
 ghost use Rattle.hv_world.specs.WorldViews.{world_view};
 ghost use Rattle.hv_plan.specs.LineViews.{actions_view, plan_view};
 ghost use Rattle.hv_order.specs.Settings.{HasNoPrecondition};
+ghost use Rattle.hv_answer.specs.declared.answer.Verdict.TheVariants as verdicts;
+ghost use Rattle.hv_judge.specs.Solutions.{SolvesBy};
 ghost use Rattle.hv_judge.specs.Verdicts.{IsVerdict};
-ghost use Rattle.hv_answer.specs.declared.answer.Answer.TheVariants as answers;
-ghost use Rattle.hv_judge.specs.inside.Ends.{Ends, run_end};
+ghost use Rattle.hv_judge.specs.inside.Ends.{Ends, Explains, run_end};
 
 use crate::limit::first_above;
 use crate::not_solved::NotSolved;
-use crate::order::certificate;
+use crate::order::find_solution;
 use hv_answer::{Cause, CauseKind};
 use hv_certificate::Certificate;
 use hv_match::Matcher;
@@ -40,19 +41,23 @@ fn stopped(stop: Stop, actions: &ActionLines<'_>) -> NotSolved
     }
 }
 
-/// The certificate of a plan that solves the problem of a world, or why it is not said to.
+/// That a plan solves the problem of a world, with its certificate where `explain` asks for it, or
+/// why that is not said.
 pub(crate) fn judge_plan<'s>(
     alloc: Global,
     world: &World<'s>,
     plan: &PlanText<'s>,
     limit: u64,
-) -> Result<Certificate<'s>, NotSolved>
+    explain: bool,
+) -> Result<Option<Certificate<'s>>, NotSolved>
     requires top { HasNoPrecondition (world_view world.now) }
     requires small { length (plan_view plan.now).actions < 4294967295 }
-    ensures ok { IfOk result
-        (λ c. IsVerdict limit (answers.Solves c) (world_view world.now) (plan_view plan.now)) }
+    ensures solves { IfOk result
+        (λ _. IsVerdict limit verdicts.Solves (world_view world.now) (plan_view plan.now)) }
+    ensures certificate { IfOk result
+        (Explains explain (SolvesBy (world_view world.now) (plan_view plan.now))) }
     ensures err { IfErr result
-        (Ends (λ a. IsVerdict limit a (world_view world.now) (plan_view plan.now))) }
+        (Ends (λ v. IsVerdict limit v (world_view world.now) (plan_view plan.now))) }
 {
     let tree = Tree::build(alloc, world, plan)?;
     let trace = match Trace::<BitState>::run(alloc, world, tree.actions()) {
@@ -66,5 +71,5 @@ pub(crate) fn judge_plan<'s>(
     if let Some(line) = first_above(&matcher, &tree, limit) {
         return Err(NotSolved::Undecided(line));
     }
-    certificate(alloc, world, &matcher, &tree, &trace)
+    find_solution(alloc, world, &matcher, &tree, &trace, explain)
 }

@@ -4,7 +4,7 @@ use Rattle.std.proofs.Common.{◌≡◌, ℕ, ◌<◌, ◌⊎◌, inl, inr, List
 use Rattle.hv_plan.specs.PlanTrees.{IsTreeIn, root_number}
 use Rattle.hv_plan.proofs.FitLemmas.{less_or_same}
 use Rattle.hv_order.specs.Meanings.{Meaning}
-use Rattle.hv_order.specs.Settings.{Setting, AmountsTo, HasCandidate, HaveCandidates}
+use Rattle.hv_order.specs.Settings.{Setting, AmountsTo, IsMeaning, IsSolved, HasCandidate, HaveCandidates}
 use Rattle.hv_order.specs.Certified.{Certifies, CertifiedPlans}
 use Rattle.hv_order.proofs.NodeParts.{is_candidate_at}
 use Rattle.hv_order.proofs.TreeLines.{below_root}
@@ -39,11 +39,18 @@ has_one q v M B c a = record {
       (record { node = a.node; has_node = a.has_node; method = a.method; has_method = a.has_method; candidate = a.candidate });
 }
 
-pub have_candidates : (q : Setting) (c : Certificate) → IsTreeIn q.plan.world q.tree → Certifies q c → HaveCandidates q
-have_candidates q c is certified v lt = by_side (less_or_same v (root_number q.tree) (omega (arith, lt, is.is_tree.last)))
+-- each node of a plan that is solved has a candidate
+pub solved_have : (q : Setting) → IsTreeIn q.plan.world q.tree → IsSolved q → HaveCandidates q
+solved_have q is solved v lt = by_side (less_or_same v (root_number q.tree) (omega (arith, lt, is.is_tree.last)))
   where
+    has : (u : ℕ) (c : Meaning) → IsMeaning q u c → HasCandidate q u
+    has u c m = has_one q u m.matching m.binding c m.amounts
+
     by_side : (v < root_number q.tree) ⊎ (v ≡ root_number q.tree) → HasCandidate q v
-    by_side (inl below) = has_one q v (certified.matching v) (certified.binding v) (certified.choice.line v) (certified.nodes v below)
-    by_side (inr root) =
-        subst (HasCandidate q) (sym root)
-        (has_one q (root_number q.tree) (certified.matching (root_number q.tree)) (certified.binding (root_number q.tree)) certified.choice.root certified.root)
+    by_side (inl below) =
+        has v (solved.choice.line v)
+        (solved.is_choice.of_lines v (is.is_tree.shape.reached_lines v (omega (arith, below, is.is_tree.last))))
+    by_side (inr root) = subst (HasCandidate q) (sym root) (has (root_number q.tree) solved.choice.root solved.is_choice.of_root)
+
+pub have_candidates : (q : Setting) (c : Certificate) → IsTreeIn q.plan.world q.tree → Certifies q c → HaveCandidates q
+have_candidates q c is certified = solved_have q is (certified_plans q c is certified)

@@ -1,7 +1,9 @@
 -- What is learned is right, and less is left to be learned.
-use Rattle.std.proofs.Common.{◌≡◌, ℕ, zero, suc, ◌+◌, ◌<◌, ◌≤◌, ◌⊎◌, inl, inr, ◌∙◌, true, false, length, length-set, slice_get, refl, sym, ap, subst, arith, Option, Some, None, is_some, if◌then◌else◌}
+use Rattle.std.proofs.Common.{◌≡◌, ℕ, zero, suc, ◌+◌, ◌<◌, ◌≤◌, ◌⊎◌, inl, inr, ◌∙◌, true, false, List, length, slice_get, refl, sym, ap, subst, arith, Option, Some, None, is_some, if◌then◌else◌}
 use Rattle.std.specs.Global.{Vec}
 use Rattle.std.specs.List.{slice_set}
+use Rattle.std.proofs.lemmas.Bool.{cases_lt}
+use Rattle.std.proofs.Math.Seq.{set_out}
 use Rattle.std.specs.BTreeMap.{BTreeMap, get}
 use Rattle.hv_order.proofs.Members.{SameNumber, equal_numbers, other_numbers, number_cases}
 use Rattle.hv_order.specs.inside.Facts.{Facts, IsNodeRun}
@@ -29,7 +31,6 @@ pub learned : (q : Facts) (size : ℕ) (m m' : Memo) (v s : ℕ) (r : Run) → A
 learned q size m m' v s r are keeps same is = record {
   room = subst (λ k. size ≤ k) (sym keeps.room) are.room;
   right = λ w x u e. tell w x u (keeps.only w x u e);
-  places = ap (λ (k : Vec (Option Won)). length k.items) same ∙ are.places ∙ sym keeps.room;
   won = λ w x e. are.won w x (let P : Vec (Option Won) → Type 0 = λ k. said_of k.items w ≡ Some x in subst P same e);
 }
   where
@@ -101,46 +102,46 @@ same_found m m' same v s =
     ap (λ (k : Vec Span). or_else (spanned (slice_get k.items v) s) (get pair_cmp m'.more p)) same.spans
     ∙ ap (λ (k : BTreeMap Pair Run). or_else (spanned (slice_get m.spans.items v) s) (get pair_cmp k p)) same.more
 
-still_right : (q : Facts) (size : ℕ) (m m' : Memo) → AreKnown q size m → SameRuns m m' → length m'.won.items ≡ length m.won.items → ((v : ℕ) (w : Won) → said_of m'.won.items v ≡ Some w → IsSettled q v w.start w.settled) → AreKnown q size m'
-still_right q size m m' are same places won =
+still_right : (q : Facts) (size : ℕ) (m m' : Memo) → AreKnown q size m → SameRuns m m' → ((v : ℕ) (w : Won) → said_of m'.won.items v ≡ Some w → IsSettled q v w.start w.settled) → AreKnown q size m'
+still_right q size m m' are same won =
     let as_many : length m'.spans.items ≡ length m.spans.items = ap (λ (k : Vec Span). length k.items) same.spans in
     record {
       room = subst (λ k. size ≤ k) (sym as_many) are.room;
       right = λ v s r e. are.right v s r (sym (same_found m m' same v s) ∙ e);
-      places = places ∙ are.places ∙ sym as_many;
       won = won;
     }
-
--- there is a place for the winner of each node
-pub has_place : (q : Facts) (size : ℕ) (m : Memo) → AreKnown q size m → (v : ℕ) → v < size → v < length m.won.items
-has_place q size m are v lt = let room = are.room in let places = are.places in omega (arith, lt, room, places)
 
 abbrev as_won : ℕ → Settled → Won
 as_won s r = record { start = s; settled = r }
 
--- a winner is kept
-pub remembered : (q : Facts) (size : ℕ) (m m' : Memo) (v s : ℕ) (r : Settled) → AreKnown q size m → SameRuns m m' → IsRemembered m m' v s r → v < size → IsSettled q v s r → AreKnown q size m'
-remembered q size m m' v s r are same kept lt is =
-    still_right q size m m' are same (ap length kept ∙ length-set m.won.items v (Some (as_won s r))) (λ w x e. by w x (number_cases w v) (sym (ap (λ k. said_of k w) kept) ∙ e))
+-- a winner is kept, where there is a place for it
+pub remembered : (q : Facts) (size : ℕ) (m m' : Memo) (v s : ℕ) (r : Settled) → AreKnown q size m → SameRuns m m' → IsRemembered m m' v s r → IsSettled q v s r → AreKnown q size m'
+remembered q size m m' v s r are same kept is =
+    still_right q size m m' are same (λ w x e. by w x (number_cases w v) (sym (ap (λ k. said_of k w) kept) ∙ e))
   where
-    by : (w : ℕ) (x : Won) → SameNumber w v → said_of (slice_set m.won.items v (Some (as_won s r))) w ≡ Some x → IsSettled q w x.start x.settled
-    by w x (equal_numbers e t) said =
-        let P : ℕ → Type 0 = λ k. said_of (slice_set m.won.items v (Some (as_won s r))) k ≡ Some x in
-        let one : as_won s r ≡ x = same_said (as_won s r) x (sym (said_here m.won.items v (Some (as_won s r)) (has_place q size m are v lt)) ∙ subst P e said) in
+    new : List (Option Won)
+    new = slice_set m.won.items v (Some (as_won s r))
+
+    here : (x : Won) → said_of new v ≡ Some x → (v < length m.won.items) ⊎ (length m.won.items ≤ v) → IsSettled q v x.start x.settled
+    here x said (inl lt) =
+        let one : as_won s r ≡ x = same_said (as_won s r) x (sym (said_here m.won.items v (Some (as_won s r)) lt) ∙ said) in
         let Q : Won → Type 0 = λ y. IsSettled q v y.start y.settled in
+        subst Q one is
+    here x said (inr le) = are.won v x (sym (ap (λ k. said_of k v) (set_out m.won.items v (Some (as_won s r)) le)) ∙ said)
+
+    by : (w : ℕ) (x : Won) → SameNumber w v → said_of new w ≡ Some x → IsSettled q w x.start x.settled
+    by w x (equal_numbers e t) said =
+        let P : ℕ → Type 0 = λ k. said_of new k ≡ Some x in
         let R : ℕ → Type 0 = λ k. IsSettled q k x.start x.settled in
-        subst R (sym e) (subst Q one is)
+        subst R (sym e) (here x (subst P e said) (cases_lt v (length m.won.items)))
     by w x (other_numbers e t) said = are.won w x (sym (said_else m.won.items v w (Some (as_won s r)) e) ∙ said)
 
 -- one may be taken
 pub still_known : (q : Facts) (size : ℕ) (m m' : Memo) → AreKnown q size m → SameRuns m m' → OnlyTaken m m' → AreKnown q size m'
-still_known q size m m' are same only = still_right q size m m' are same only.places (λ v w e. are.won v w (only.won v w e))
+still_known q size m m' are same only = still_right q size m m' are same (λ v w e. are.won v w (only.won v w e))
 
 pub only_taken : (m m' : Memo) (v : ℕ) → v < length m.won.items → m'.won.items ≡ slice_set m.won.items v None → OnlyTaken m m'
-only_taken m m' v lt is = record {
-  places = ap length is ∙ length-set m.won.items v None;
-  won = λ w x said. by w x (number_cases w v) (sym (ap (λ k. said_of k w) is) ∙ said);
-}
+only_taken m m' v lt is = record { won = λ w x said. by w x (number_cases w v) (sym (ap (λ k. said_of k w) is) ∙ said) }
   where
     by : (w : ℕ) (x : Won) → SameNumber w v → said_of (slice_set m.won.items v None) w ≡ Some x → said_of m.won.items w ≡ Some x
     by w x (equal_numbers e t) said =

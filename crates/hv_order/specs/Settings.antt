@@ -8,7 +8,7 @@ use Rattle.hv_state.specs.Truth.{True}
 use Rattle.hv_state.specs.Plans as states
 use Rattle.hv_state.specs.Plans.{StateAt}
 use Rattle.hv_plan.specs.Trees.{Item, Act}
-use Rattle.hv_plan.specs.PlanTrees.{Node, PlanTree, tree_of, root_number}
+use Rattle.hv_plan.specs.PlanTrees.{Node, PlanTree, IsTreeIn, tree_of, root_number}
 use Rattle.hv_match.specs.Candidates.{IsCandidate, IsCandidateAt, child_tasks, node_method}
 use Rattle.hv_order.specs.Meanings.{Meaning}
 use Rattle.hv_order.specs.StandIns.{StandsFor}
@@ -81,3 +81,12 @@ pub record IsFirstWithout (q : Setting) (line : ℕ) : Type 0 where
 -- the initial network, as a method, has the precondition that is always true
 abbrev pub HasNoPrecondition : World → Type 0
 HasNoPrecondition w = w.top.precondition ≡ and no_formulas
+
+-- A tree of a world, with its matcher and the states that the tree's actions pass: the world's initial
+-- network has no precondition, and 32 bits are enough for one state more than there are
+pub record BelongTogether (w matcher : World) (t : PlanTree) (p : states.Plan) : Type 0 where
+  pub world : matcher ≡ w
+  pub top : HasNoPrecondition w
+  pub tree : IsTreeIn w t
+  pub trace : p ≡ states.plan w t.actions
+  pub small : length t.actions < 4294967295

@@ -34,7 +34,8 @@ pub struct Won {
 
 /// What is known of the least finishes of a plan's nodes: for each node one interval of starts, and
 /// further starts one by one. Nothing of that is ever forgotten. The table is one in order, so no
-/// plan can make it slow. For each node one run is kept with its winner until that is taken.
+/// plan can make it slow. For each node that has a place among the winners, one run is kept with its
+/// winner until that is taken.
 #[derive(Drop)]
 pub struct Memo {
     pub spans: Vec<Span>,
@@ -73,8 +74,9 @@ fn none_won(alloc: Global, count: usize) -> Result<Vec<Option<Won>>, Memory>
 }
 
 impl Memo {
-    /// A memory with room for so many nodes, which knows nothing.
-    pub fn new(alloc: Global, count: usize) -> Result<Memo, Memory>
+    /// A memory with room for so many nodes, which knows nothing, and a place for the winner of each
+    /// node below `winners`.
+    pub fn new(alloc: Global, count: usize, winners: usize) -> Result<Memo, Memory>
         ensures { IfOk result (KnowsNothing count) }
     {
         let none = Span {
@@ -86,7 +88,7 @@ impl Memo {
         Ok(Memo {
             spans,
             more: BTreeMap::new(alloc),
-            won: none_won(alloc, count)?,
+            won: none_won(alloc, winners)?,
         })
     }
 
@@ -130,22 +132,25 @@ impl Memo {
         Ok(())
     }
 
-    /// Keeps a run that a node has from a start on, with its winner.
+    /// Keeps a run that a node has from a start on, with its winner, where that has a place.
     pub fn remember(&mut self, node: u32, start: u32, settled: Settled)
-        requires node { node < length self.old.won.items }
         ensures same { SameRuns self.old self.new }
         ensures won { IsRemembered self.old self.new node start settled }
     {
-        self.won[node as usize] = Some(Won { start, settled });
+        if (node as usize) < self.won.len() {
+            self.won[node as usize] = Some(Won { start, settled });
+        }
     }
 
     /// Hands out the run that is kept of a node, where a start lies in it.
     pub fn take_won(&mut self, node: u32, start: u32) -> Option<Settled>
-        requires node { node < length self.old.won.items }
         ensures same { SameRuns self.old self.new }
         ensures left { OnlyTaken self.old self.new }
         ensures taken { IsTaken self.old node start result }
     {
+        if self.won.len() <= node as usize {
+            return None;
+        }
         let won = replace(&mut self.won[node as usize], None)?;
         if won.start <= start && start <= won.settled.run.last {
             Some(won.settled)

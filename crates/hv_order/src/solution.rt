@@ -1,12 +1,12 @@
 //! Whether a plan has a solution.
 
-ghost use Rattle.std.specs.Prelude.{◌≡◌, ◌<◌, ℕ, length, IfOk, IfErr, MatchBool, MatchOption};
+ghost use Rattle.std.specs.Prelude.{◌≡◌, IfOk, IfErr, MatchBool, MatchOption};
 ghost use Rattle.hv_world.specs.WorldViews.{world_view};
-ghost use Rattle.hv_state.specs.Plans.{plan};
 ghost use Rattle.hv_plan.specs.BuiltTrees.{tree_view};
 ghost use Rattle.hv_plan.specs.PlanTrees.{IsTreeIn};
-ghost use Rattle.hv_order.specs.Settings.{setting, HasNoPrecondition, IsSolved, HaveCandidates};
+ghost use Rattle.hv_order.specs.Settings.{setting, BelongTogether, IsSolved, HaveCandidates};
 ghost use Rattle.hv_order.specs.Certified.{Certifies, IsRowFault};
+ghost use Rattle.hv_order.specs.inside.Writings.{TellsBound, TellsUnbound};
 
 use crate::first::first_without;
 use crate::memory::Memory;
@@ -63,11 +63,7 @@ pub fn is_solvable<'s>(
     trace: &Trace<'_, '_, BitState>,
     is_with: bool,
 ) -> Result<bool, Memory>
-    requires world { matcher.now ≡ world_view world.now }
-    requires top { HasNoPrecondition (world_view world.now) }
-    requires tree { IsTreeIn (world_view world.now) (tree_view tree.now) }
-    requires trace { trace.now ≡ plan (world_view world.now) (tree_view tree.now).actions }
-    requires small { length (tree_view tree.now).actions < 4294967295 }
+    requires { BelongTogether (world_view world.now) matcher.now (tree_view tree.now) trace.now }
     ensures { IfOk result (λ b. MatchBool b
         (IsSolved (setting (tree_view tree.now) trace.now is_with))
         (IsSolved (setting (tree_view tree.now) trace.now is_with) → ⊥)) }
@@ -87,11 +83,7 @@ fn find_certificate<'s>(
     trace: &Trace<'_, '_, BitState>,
     is_with: bool,
 ) -> Result<Option<Certificate<'s>>, Memory>
-    requires world { matcher.now ≡ world_view world.now }
-    requires top { HasNoPrecondition (world_view world.now) }
-    requires tree { IsTreeIn (world_view world.now) (tree_view tree.now) }
-    requires trace { trace.now ≡ plan (world_view world.now) (tree_view tree.now).actions }
-    requires small { length (tree_view tree.now).actions < 4294967295 }
+    requires { BelongTogether (world_view world.now) matcher.now (tree_view tree.now) trace.now }
     ensures { IfOk result (λ o. MatchOption o
         (IsSolved (setting (tree_view tree.now) trace.now is_with) → ⊥)
         (Certifies (setting (tree_view tree.now) trace.now is_with))) }
@@ -99,6 +91,49 @@ fn find_certificate<'s>(
     world.is_sound();
     let nodes = PlanNodes::new(alloc, world, matcher, tree, trace, is_with)?;
     certificate_of(alloc, &nodes)
+}
+
+// Each node has a candidate, or the first that has none is told.
+fn all_bound(alloc: Global, matcher: &Matcher<'_, '_>, tree: &Tree<'_, '_>) -> Result<(), RowFault>
+    requires { IsTreeIn matcher.now (tree_view tree.now) }
+    ensures ok { IfOk result (λ _. TellsBound matcher.now (tree_view tree.now)) }
+    ensures err { IfErr result (TellsUnbound matcher.now (tree_view tree.now)) }
+{
+    match first_without(alloc, matcher, tree)? {
+        Some(line) => Err(RowFault::NoBinding(line)),
+        None => Ok(()),
+    }
+}
+
+/// Whether a plan has a solution, the goal aside, where each node has a candidate. Where `is_with`
+/// is false, each method's precondition is taken as true. No certificate is made.
+///
+/// # Errors
+///
+/// `NoBinding` exactly where a node has no candidate, and `Memory` where a growth was refused.
+#[tactic(auto, using(crate::proofs::RowFaults::memory_is))]
+pub fn has_solution<'s>(
+    alloc: Global,
+    world: &World<'s>,
+    matcher: &Matcher<'_, 's>,
+    tree: &Tree<'_, '_>,
+    trace: &Trace<'_, '_, BitState>,
+    is_with: bool,
+) -> Result<bool, RowFault>
+    requires { BelongTogether (world_view world.now) matcher.now (tree_view tree.now) trace.now }
+    ensures candidates { IfOk result
+        (λ _. HaveCandidates (setting (tree_view tree.now) trace.now is_with)) }
+    ensures solved { IfOk result (λ b. MatchBool b
+        (IsSolved (setting (tree_view tree.now) trace.now is_with))
+        (IsSolved (setting (tree_view tree.now) trace.now is_with) → ⊥)) }
+    ensures fault { IfErr result (IsRowFault (setting (tree_view tree.now) trace.now is_with)) }
+{
+    let solved = is_solvable(alloc, world, matcher, tree, trace, is_with)?;
+    if solved {
+        return Ok(true);
+    }
+    all_bound(alloc, matcher, tree)?;
+    Ok(false)
 }
 
 /// A certificate of a plan, exactly where it has a solution, the goal aside, and each node has a
@@ -116,11 +151,7 @@ pub fn solution<'s>(
     trace: &Trace<'_, '_, BitState>,
     is_with: bool,
 ) -> Result<Option<Certificate<'s>>, RowFault>
-    requires world { matcher.now ≡ world_view world.now }
-    requires top { HasNoPrecondition (world_view world.now) }
-    requires tree { IsTreeIn (world_view world.now) (tree_view tree.now) }
-    requires trace { trace.now ≡ plan (world_view world.now) (tree_view tree.now).actions }
-    requires small { length (tree_view tree.now).actions < 4294967295 }
+    requires { BelongTogether (world_view world.now) matcher.now (tree_view tree.now) trace.now }
     ensures candidates { IfOk result
         (λ _. HaveCandidates (setting (tree_view tree.now) trace.now is_with)) }
     ensures certificate { IfOk result (λ o. MatchOption o
@@ -128,11 +159,9 @@ pub fn solution<'s>(
         (Certifies (setting (tree_view tree.now) trace.now is_with))) }
     ensures fault { IfErr result (IsRowFault (setting (tree_view tree.now) trace.now is_with)) }
 {
-    match find_certificate(alloc, world, matcher, tree, trace, is_with)? {
-        Some(certificate) => Ok(Some(certificate)),
-        None => match first_without(alloc, matcher, tree)? {
-            Some(line) => Err(RowFault::NoBinding(line)),
-            None => Ok(None),
-        },
+    if let Some(found) = find_certificate(alloc, world, matcher, tree, trace, is_with)? {
+        return Ok(Some(found));
     }
+    all_bound(alloc, matcher, tree)?;
+    Ok(None)
 }

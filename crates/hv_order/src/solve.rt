@@ -48,12 +48,18 @@ impl<N: Nodes> Table for Below<'_, N> {
     }
 }
 
-/// A memory for the nodes of a plan, which knows nothing of them.
-pub fn new_memo<N: Nodes>(alloc: Global, nodes: &N, count: usize) -> Result<Memo, Memory>
+/// A memory for the nodes of a plan, which knows nothing of them, and keeps the winner of each node
+/// below `winners`.
+pub fn new_memo<N: Nodes>(
+    alloc: Global,
+    nodes: &N,
+    count: usize,
+    winners: usize,
+) -> Result<Memo, Memory>
     requires room { N.size nodes.now ≤ count }
     ensures { IfOk result (AreKnown (N.facts nodes.now) (N.size nodes.now)) }
 {
-    Memo::new(alloc, count)
+    Memo::new(alloc, count, winners)
 }
 
 /// A node that is worked out from a start on: its candidates that are still to come, and how far

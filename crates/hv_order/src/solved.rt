@@ -39,7 +39,7 @@ fn by_walk<'s>(
 }
 
 /// Whether a plan has a solution, the goal aside. Only the finishes that this hangs on are worked
-/// out, and nothing is written down.
+/// out; no candidate is kept, and nothing is written down.
 pub fn is_solved(
     alloc: Global,
     nodes: &PlanNodes<'_, '_, '_, '_, '_, '_, '_>,
@@ -49,7 +49,7 @@ pub fn is_solved(
 {
     let tree = nodes.tree();
     let count = tree.node_count();
-    let mut memo = new_memo(alloc, nodes, count as usize)?;
+    let mut memo = new_memo(alloc, nodes, count as usize, 0)?;
     let run = run_for(alloc, nodes, &mut memo, count - 1, 0)?;
     Ok(run.finish.is_some())
 }
@@ -66,7 +66,7 @@ pub fn certificate_of<'s>(
     let world = nodes.world();
     let tree = nodes.tree();
     let count = tree.node_count();
-    let mut memo = new_memo(alloc, nodes, count as usize)?;
+    let mut memo = new_memo(alloc, nodes, count as usize, count as usize)?;
     match walk(alloc, nodes, &mut memo, count)? {
         None => Ok(None),
         Some(stands) => {

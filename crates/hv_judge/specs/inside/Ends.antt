@@ -1,5 +1,5 @@
--- What the code answers in place of a certificate.
-use Rattle.std.specs.Prelude.{◌≡◌, ℕ, List, Option, None, Some, option_map, slice_get}
+-- What the code answers where it finds no solution, and with one.
+use Rattle.std.specs.Prelude.{◌≡◌, ℕ, Bool, true, false, List, Option, None, Some, MatchOption, option_map, slice_get}
 use Rattle.hv_text.specs.declared.span.Span.{Span}
 use Rattle.hv_world.specs.Worlds.{World, world_of}
 use Rattle.hv_state.specs.declared.trace.Stop.{Stop}
@@ -9,11 +9,14 @@ use Rattle.hv_plan.specs.PlanTrees.{Node, PlanTree}
 use Rattle.hv_plan.specs.declared.fault.PlanFault.{PlanFault}
 use Rattle.hv_plan.specs.declared.cause.TreeFault.{TreeFault}
 use Rattle.hv_plan.specs.declared.cause.TreeFault.TheVariants as trees
+use Rattle.hv_certificate.specs.declared.certificate.Certificate.{Certificate}
 use Rattle.hv_order.specs.Settings.{IsSolved}
 use Rattle.hv_order.specs.declared.solution.RowFault.{RowFault}
 use Rattle.hv_order.specs.declared.solution.RowFault.TheVariants as rows
 use Rattle.hv_answer.specs.declared.answer.Answer.{Answer}
 use Rattle.hv_answer.specs.declared.answer.Answer.TheVariants as answers
+use Rattle.hv_answer.specs.declared.answer.Verdict.{Verdict}
+use Rattle.hv_answer.specs.declared.answer.Verdict.TheVariants as verdicts
 use Rattle.hv_answer.specs.declared.answer.CauseKind.{CauseKind}
 use Rattle.hv_answer.specs.declared.answer.CauseKind.TheVariants as causes
 use Rattle.hv_answer.specs.declared.answer.Fault.{Fault}
@@ -29,12 +32,19 @@ use Rattle.hv_judge.specs.Causes.{tree_cause, IsWithinLimit, IsCountWithin, IsCo
 use Rattle.hv_judge.specs.Rejections.{reported_plan, fault_in, AreRead, IsRejectedPair}
 use Rattle.hv_judge.specs.Verdicts.{IsVerdict}
 
--- the answer, which P allows, unless memory was refused
-abbrev pub Ends : (Answer → Type 0) → NotSolved → Type 0
-Ends P (Rejected w f) = P (answers.Rejected w f)
-Ends P (Fails c) = P (answers.Fails c)
-Ends P (Undecided line) = P (answers.Undecided line)
+-- the verdict, which P allows, unless memory was refused
+abbrev pub Ends : (Verdict → Type 0) → NotSolved → Type 0
+Ends P (Rejected w f) = P (verdicts.Rejected w f)
+Ends P (Fails c) = P (verdicts.Fails c)
+Ends P (Undecided line) = P (verdicts.Undecided line)
 Ends P Memory = Unit {0}
+
+-- this is the verdict
+abbrev pub IsVerdictOf : NotSolved → Verdict → Type 0
+IsVerdictOf (Rejected w f) v = v ≡ verdicts.Rejected w f
+IsVerdictOf (Fails c) v = v ≡ verdicts.Fails c
+IsVerdictOf (Undecided line) v = v ≡ verdicts.Undecided line
+IsVerdictOf Memory v = ⊥
 
 -- this is the answer
 abbrev pub IsAnswerOf : NotSolved → Answer → Type 0
@@ -42,6 +52,11 @@ IsAnswerOf (Rejected w f) a = a ≡ answers.Rejected w f
 IsAnswerOf (Fails c) a = a ≡ answers.Fails c
 IsAnswerOf (Undecided line) a = a ≡ answers.Undecided line
 IsAnswerOf Memory a = ⊥
+
+-- where it is asked for, there is a certificate, of which P holds
+abbrev pub Explains : Bool → (Certificate → Type 0) → Option Certificate → Type 0
+Explains true P o = MatchOption o ⊥ P
+Explains false P o = Unit {0}
 
 -- a text is rejected for a fault, where one is reported; else memory was refused
 abbrev pub rejected_for : Which → Option Fault → NotSolved
@@ -82,11 +97,11 @@ pub record IsWorldOf (domain problem : List ℕ) (w : World) : Type 0 where
   pub are_read : AreRead domain problem d p
   pub is : w ≡ world_of d p
 
--- an answer to each plan that has this tree and reaches the goal, where no count is above the limit
+-- the verdict of each plan that has this tree and reaches the goal, where no count is above the limit
 abbrev pub IsEndInOrder : World → PlanTree → NotSolved → Type 0
 IsEndInOrder w t e =
     (p : Plan) (limit : ℕ) → ReachesGoal w p t → IsWithinLimit w t limit
-    → Ends (λ a. IsVerdict limit a w p) e
+    → Ends (λ v. IsVerdict limit v w p) e
 
 -- the node at a place in the order of nodes, where there is one, has a count within the limit
 abbrev pub IsWithinAt : World → PlanTree → ℕ → ℕ → Type 0

@@ -60,7 +60,6 @@ as_finish (Some r) = finishes.Known r
 pub record AreKnown (q : Facts) (size : ℕ) (m : Memo) : Type 0 where
   pub room : size ≤ length m.spans.items
   pub right : (v s : ℕ) (r : Run) → found m v s ≡ Some r → IsNodeRun q v s r
-  pub places : length m.won.items ≡ length m.spans.items
   pub won : (v : ℕ) (w : Won) → said_of m.won.items v ≡ Some w → IsSettled q v w.start w.settled
 
 -- what it keeps is right, and it may be asked for the nodes before one
@@ -77,20 +76,19 @@ pub record IsEmptyList (size : ℕ) (won : List (Option Won)) : Type 0 where
 pub record KnowsNothing (size : ℕ) (m : Memo) : Type 0 where
   pub room : length m.spans.items ≡ size
   pub nothing : (v s : ℕ) → found m v s ≡ None
-  pub won : IsEmptyList size m.won.items
+  pub won : (v : ℕ) → said_of m.won.items v ≡ None
 
 -- the same is known of all starts
 pub record SameRuns (m m' : Memo) : Type 0 where
   pub spans : m'.spans ≡ m.spans
   pub more : m'.more ≡ m.more
 
--- a run of a node from a start on is kept with its winner
+-- a run of a node from a start on is kept with its winner, where there is a place for it
 abbrev pub IsRemembered : Memo → Memo → ℕ → ℕ → Settled → Type 0
 IsRemembered m m' v s r = m'.won.items ≡ slice_set m.won.items v (Some (record { start = s; settled = r }))
 
 -- there are no other winners than before
 pub record OnlyTaken (m m' : Memo) : Type 0 where
-  pub places : length m'.won.items ≡ length m.won.items
   pub won : (v : ℕ) (w : Won) → said_of m'.won.items v ≡ Some w → said_of m.won.items v ≡ Some w
 
 -- the run was kept, and the start lies in it

@@ -13,10 +13,11 @@ use Rattle.hv_plan.specs.PlanTrees.{Node, PlanTree, NodeIs, StandsFor, root_numb
 use Rattle.hv_match.specs.Candidates.{IsCandidateAt}
 use Rattle.hv_order.specs.Meanings as meanings
 use Rattle.hv_order.specs.Settings.{Setting, AmountsTo, HaveCandidates, IsFirstWithout}
-use Rattle.hv_order.specs.Certified.{line_numbers}
+use Rattle.hv_order.specs.Certified.{line_numbers, IsRowFault}
 use Rattle.hv_certificate.specs.declared.certificate.Choice.{Choice}
 use Rattle.hv_certificate.specs.declared.certificate.Certificate.{Certificate}
 use Rattle.hv_order.specs.declared.certify.Chosen.{Chosen}
+use Rattle.hv_order.specs.declared.solution.RowFault.{RowFault}
 
 -- the id is that of the line of an item
 abbrev pub IsIdOf : PlanTree → Item → ℕ → Type 0
@@ -119,3 +120,11 @@ IsSettingOver w t q = (q.plan.world ≡ w) × (q.tree ≡ t)
 abbrev pub TellsFirst : World → PlanTree → Option ℕ → Type 0
 TellsFirst w t o =
     (q : Setting) → IsSettingOver w t q → MatchOption o (HaveCandidates q) (IsFirstWithout q)
+
+-- all nodes have candidates
+abbrev pub TellsBound : World → PlanTree → Type 0
+TellsBound w t = (q : Setting) → IsSettingOver w t q → HaveCandidates q
+
+-- this is the fault of a tree of which not all have
+abbrev pub TellsUnbound : World → PlanTree → RowFault → Type 0
+TellsUnbound w t e = (q : Setting) → IsSettingOver w t q → IsRowFault q e

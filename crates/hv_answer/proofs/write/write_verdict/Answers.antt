@@ -1,12 +1,12 @@
-use Rattle.std.proofs.Common.{rules}
-use Rattle.hv_answer.specs.Text.{verdict_text}
-use Rattle.hv_answer.proofs.WriteLemmas.{same_ok, same_err}
+use Rattle.std.proofs.Common.{rules, codes}
+use Rattle.hv_answer.specs.Text.{verdict_words}
+use Rattle.hv_answer.proofs.WriteLemmas.{first_fails, on_err, then_err}
 use Rattle.hv_answer.proofs.write.write_verdict.Goals as goal
 
-pub returns-in-Undecided-clause-ok : goal.returns-in-Undecided-clause-ok
-returns-in-Undecided-clause-ok g c =
-    same_ok c.write_parts.result _ _ (verdict_text c.args.answer.now) _ (search rules) c.write_parts.ensures.ok
+pub returns-in_err-write_words-clause-err : goal.returns-in_err-write_words-clause-err
+returns-in_err-write_words-clause-err g c =
+    on_err c.from_residual.result _ (first_fails _ _ (verdict_words c.args.verdict) _ (codes "\n") (search rules) c.in_err-write_words.ensures.err)
 
-pub returns-in-Undecided-clause-err : goal.returns-in-Undecided-clause-err
-returns-in-Undecided-clause-err g c =
-    same_err c.write_parts.result _ _ (verdict_text c.args.answer.now) _ (search rules) c.write_parts.ensures.err
+pub returns-clause-err : goal.returns-clause-err
+returns-clause-err g c =
+    then_err c.write_all.result _ _ _ (verdict_words c.args.verdict) _ (codes "\n") _ (search rules) (search rules) c.in_ok-write_words.ensures.ok c.write_all.ensures.err

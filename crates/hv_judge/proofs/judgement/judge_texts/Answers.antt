@@ -3,7 +3,7 @@ use Rattle.std.proofs.lemmas.Result.{err_from_is_err_and}
 use Rattle.hv_world.specs.WorldViews.{world_view}
 use Rattle.hv_plan.specs.LineViews.{plan_view}
 use Rattle.hv_judge.specs.Rejections.{IsRejected, by_length}
-use Rattle.hv_judge.proofs.JudgementLemmas.{pair_rejected, plan_rejected, texts_solve, texts_end}
+use Rattle.hv_judge.proofs.JudgementLemmas.{pair_rejected, plan_rejected, texts_solve, texts_explain, texts_end}
 use Rattle.hv_judge.proofs.judgement.judge_texts.Goals as goal
 
 pub returns-in-Some-clause-err : goal.returns-in-Some-clause-err
@@ -29,12 +29,19 @@ returns-in_err-plan-clause-err c =
     (sym c.first_too_long.ensures ∙ c.in_default.is) c.in_ok-world.ensures.ok
     c.in_err-plan.ensures.err)
 
-pub returns-clause-ok : goal.returns-clause-ok
-returns-clause-ok c =
+pub returns-clause-solves : goal.returns-clause-solves
+returns-clause-solves c =
     texts_solve c.args.domain.now c.args.problem.now c.args.plan.now c.args.limit
     (world_view c.in_ok-world.world) (plan_view c.in_ok-plan.plan)
     (sym c.first_too_long.ensures ∙ c.in_default.is) c.in_ok-world.ensures.ok
-    c.in_ok-plan.ensures.ok c.judge_plan.result c.judge_plan.ensures.ok
+    c.in_ok-plan.ensures.ok c.judge_plan.result c.judge_plan.ensures.solves
+
+pub returns-clause-certificate : goal.returns-clause-certificate
+returns-clause-certificate c =
+    texts_explain c.args.domain.now c.args.problem.now c.args.plan.now c.args.limit
+    (world_view c.in_ok-world.world) (plan_view c.in_ok-plan.plan)
+    (sym c.first_too_long.ensures ∙ c.in_default.is) c.in_ok-world.ensures.ok
+    c.in_ok-plan.ensures.ok c.args.explain c.judge_plan.result c.judge_plan.ensures.certificate
 
 pub returns-clause-err : goal.returns-clause-err
 returns-clause-err c =

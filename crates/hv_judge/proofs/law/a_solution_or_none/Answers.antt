@@ -11,4 +11,4 @@ returns c =
       one_count = c.counts_are_one.ensures;
       certified = c.certified_plans_are_solved.ensures;
     } in
-    record { solves = a_solution laws; fails = none_solves laws }
+    record { solves = a_solution; fails = none_solves laws }

@@ -3,17 +3,18 @@ use Rattle.hv_syntax.specs.DomainViews.{domain_view}
 use Rattle.hv_syntax.specs.CanonicalSections.{canonical_domain}
 use Rattle.hv_answer.specs.declared.answer.Which.TheVariants as texts
 use Rattle.hv_judge.specs.Prints.{IsPrint, IsDone, IsTextRejection}
-use Rattle.hv_judge.proofs.PrintingLemmas.{print_as, printed_domain, rejected_domain}
+use Rattle.hv_judge.proofs.PrintingLemmas.{printed_domain, rejected_domain}
+use Rattle.hv_judge.proofs.RunLemmas.{wrote_as}
 use Rattle.hv_judge.proofs.printing.print_domain_text.Goals as goal
 
 pub returns-in_ok-print_domain-in-Ok-clause-wrote : goal.returns-in_ok-print_domain-in-Ok-clause-wrote
 returns-in_ok-print_domain-in-Ok-clause-wrote g c =
-    print_as (IsDone c.deref.result.now) (IsPrint c.args.text.now texts.Domain) g.W.Sink.taken _ _ c.write_canonical.result
+    wrote_as (IsDone c.deref.result.now) (IsPrint c.args.text.now texts.Domain) g.W.Sink.taken _ _ c.write_canonical.result
     (printed_domain c.args.text.now c.deref.result.now (domain_view c.in-Ok.domain) c.in-Ok.ensures.ok
     (c.deref.ensures.value ∙ (c.in_ok-print_domain-in-Ok.ensures.ok ∙ ap (λ xs. xs ++ canonical_domain (domain_view c.in-Ok.domain)) c.new-bytes.ensures.items)))
     c.write_canonical.ensures.wrote
 
 pub returns-in-Err-clause-wrote : goal.returns-in-Err-clause-wrote
 returns-in-Err-clause-wrote g c =
-    print_as (IsTextRejection texts.Domain c.args.text.now c.in-Err.fault) (IsPrint c.args.text.now texts.Domain) g.W.Sink.taken _ _ c.reject_text.result
+    wrote_as (IsTextRejection texts.Domain c.args.text.now c.in-Err.fault) (IsPrint c.args.text.now texts.Domain) g.W.Sink.taken _ _ c.reject_text.result
     (rejected_domain c.args.text.now c.in-Err.fault c.in-Err.ensures.err) c.reject_text.ensures.wrote

@@ -1,17 +1,17 @@
 use Rattle.hv_answer.specs.declared.answer.Which.TheVariants as texts
-use Rattle.hv_judge.proofs.RunLemmas.{wrote_as, judged_plan, unread_plan, halted_as, halted_text, wanted}
+use Rattle.hv_judge.proofs.RunLemmas.{wrote_as, from_read, from_unread, halted_as, halted_text, wanted}
 use Rattle.hv_judge.proofs.running.run_plan.Goals as goal
 
 pub returns-in-Ok-clause-wrote : goal.returns-in-Ok-clause-wrote
 returns-in-Ok-clause-wrote g c =
-    wrote_as _ _ g.W.Sink.taken _ _ c.args.explain c.judge_texts.result
-    (judged_plan g.C.Source.left c.args.plan.now c.read_all.new.reader c.args.limit c.args.domain.now c.args.problem.now c.in-Ok.plan.items _ c.deref.ensures.value c.in-Ok.ensures.ok)
+    wrote_as _ _ g.W.Sink.taken _ _ c.judge_texts.result
+    (from_read texts.Plan g.C.Source.left c.args.plan.now c.read_all.new.reader _ _ _ c.in-Ok.plan.items _ c.deref.ensures.value c.in-Ok.ensures.ok)
     c.judge_texts.ensures.wrote
 
 pub returns-in-Err-clause-wrote : goal.returns-in-Err-clause-wrote
 returns-in-Err-clause-wrote g c =
-    wrote_as _ _ g.W.Sink.taken _ _ c.args.explain c.finish_unread.result
-    (unread_plan g.C.Source.left c.args.plan.now c.read_all.new.reader c.args.limit c.args.domain.now c.args.problem.now c.in-Err.fault c.in-Err.ensures.err)
+    wrote_as _ _ g.W.Sink.taken _ _ c.finish_unread.result
+    (from_unread texts.Plan g.C.Source.left c.args.plan.now c.read_all.new.reader _ _ _ c.in-Err.fault c.in-Err.ensures.err tt)
     c.finish_unread.ensures.wrote
 
 pub returns-in-Ok-clause-halted : goal.returns-in-Ok-clause-halted

@@ -8,7 +8,7 @@ use Rattle.hv_plan.specs.LineViews.{plan_view}
 use Rattle.hv_plan.specs.PlanTrees.{IsActionOf}
 use Rattle.hv_plan.proofs.FitLemmas.{same_length}
 use Rattle.hv_judge.specs.Causes.{IsFirstAbove, IsWithinLimit}
-use Rattle.hv_judge.proofs.VerdictLemmas.{has_tree, no_tree, no_run, no_goal, reaches_goal, solved, not_solved}
+use Rattle.hv_judge.proofs.VerdictLemmas.{has_tree, tree_in, no_tree, no_run, no_goal, run_is, reaches_goal, solves, explains, not_solved}
 use Rattle.hv_judge.proofs.verdict.judge_plan.Goals as goal
 use Rattle.hv_world.specs.Bindings.{ground_actions_view}
 
@@ -51,27 +51,48 @@ returns-in-Some-clause-err c =
           c.in-Some.ensures,
     )
 
-pub certificate-requires-clause-small : goal.certificate-requires-clause-small
-certificate-requires-clause-small c =
+pub find_solution-requires : goal.find_solution-requires
+find_solution-requires c =
     let w = world_view c.args.world.now in
     let q = plan_view c.args.plan.now in
     let t = tree_view c.in_ok-tree.tree in
-    subst (λ n. n < 4294967295)
-    (same_length (IsActionOf w) q.actions t.actions
-    (has_tree w q t c.in_ok-tree.ensures.ok).is_tree.actions)
-    c.requires.small
+    let tree = has_tree w q t c.in_ok-tree.ensures.ok in
+    record {
+      world = c.in_ok-matcher.ensures;
+      top = c.requires.top;
+      tree = tree_in w q t tree;
+      trace =
+          run_is w q t c.args.limit c.in-Ok.trace (ground_actions_view c.actions.result.now) tree
+          c.actions.ensures c.in-Ok.ensures.plan c.in-Ok.ensures.ran c.goal_holds.result
+          c.goal_holds.ensures;
+      small =
+          subst (λ n. n < 4294967295)
+          (same_length (IsActionOf w) q.actions t.actions tree.is_tree.actions) c.requires.small;
+    }
 
-pub returns-clause-ok : goal.returns-clause-ok
-returns-clause-ok c =
+pub returns-clause-solves : goal.returns-clause-solves
+returns-clause-solves c =
     let w = world_view c.args.world.now in
     let q = plan_view c.args.plan.now in
     let t = tree_view c.in_ok-tree.tree in
-    solved w q t c.args.limit
+    solves w q t c.args.limit
     (reaches_goal w q t c.args.limit c.in-Ok.trace (ground_actions_view c.actions.result.now)
     (has_tree w q t c.in_ok-tree.ensures.ok) c.actions.ensures c.in-Ok.ensures.plan
     c.in-Ok.ensures.ran c.goal_holds.result c.goal_holds.ensures c.if-not-goal_holds.false)
     (subst (λ v. IsWithinLimit v t c.args.limit) c.in_ok-matcher.ensures c.in_default.ensures)
-    c.certificate.result c.certificate.ensures.ok
+    c.find_solution.result c.find_solution.ensures.solved
+
+pub returns-clause-certificate : goal.returns-clause-certificate
+returns-clause-certificate c =
+    let w = world_view c.args.world.now in
+    let q = plan_view c.args.plan.now in
+    let t = tree_view c.in_ok-tree.tree in
+    explains w q t c.args.limit
+    (reaches_goal w q t c.args.limit c.in-Ok.trace (ground_actions_view c.actions.result.now)
+    (has_tree w q t c.in_ok-tree.ensures.ok) c.actions.ensures c.in-Ok.ensures.plan
+    c.in-Ok.ensures.ran c.goal_holds.result c.goal_holds.ensures c.if-not-goal_holds.false)
+    (subst (λ v. IsWithinLimit v t c.args.limit) c.in_ok-matcher.ensures c.in_default.ensures)
+    c.args.explain c.find_solution.result c.find_solution.ensures.certificate
 
 pub returns-clause-err : goal.returns-clause-err
 returns-clause-err c =
@@ -83,4 +104,4 @@ returns-clause-err c =
     (has_tree w q t c.in_ok-tree.ensures.ok) c.actions.ensures c.in-Ok.ensures.plan
     c.in-Ok.ensures.ran c.goal_holds.result c.goal_holds.ensures c.if-not-goal_holds.false)
     (subst (λ v. IsWithinLimit v t c.args.limit) c.in_ok-matcher.ensures c.in_default.ensures)
-    c.certificate.result c.certificate.ensures.err
+    c.find_solution.result c.find_solution.ensures.err

@@ -13,7 +13,7 @@ returns-then-is_some-clause-memo g c =
     remembered q size c.learn.new.self c.remember.new.self c.args.node c.args.start c.args.settled
     (learned q size c.args.memo.now c.learn.new.self c.args.node c.args.start c.args.settled.run
     c.requires.memo c.learn.ensures.keeps c.learn.ensures.won c.requires.settled.run)
-    c.remember.ensures.same c.remember.ensures.won c.requires.node c.requires.settled
+    c.remember.ensures.same c.remember.ensures.won c.requires.settled
 
 pub returns-then-is_some-clause-keeps : goal.returns-then-is_some-clause-keeps
 returns-then-is_some-clause-keeps g c =
