@@ -18,3 +18,4 @@ pub mod DecisionLemmas
 pub mod WordLemmas
 pub mod BitLemmas
 pub mod LitLemmas
+mod TakeLemmas

@@ -66,33 +66,17 @@ made_parts w b g env (x ∷ xs) =
 abbrev pub Joined : List (List ℕ) → Atoms → List (List ℕ) → Type 0
 Joined old S new = (r : List ℕ) → Contains new r ↔ (Contains old r ⊎ IsRowOf S r)
 
-pub joined_none : (old : List (List ℕ)) (S : Atoms) → ((g : GroundAtom) → S g → ⊥) → Joined old S old
-joined_none old S out r = (λ m. inl m, λ m. elim m [ inl l ↦ l | inr x ↦ absurd (out x.0 x.1) ])
-
-pub joined_one : (old new : List (List ℕ)) (g : GroundAtom) → new ≡ old ++ row_of g ∷ [] → Joined old (λ h. g ≡ h) new
-joined_one old new g is r = (λ m. from (Contains-push_cases old (row_of g) r (subst (λ rows. Contains rows r) is m)), λ m. subst (λ rows. Contains rows r) (sym is) (to m))
-  where
-    from : Contains old r ⊎ (row_of g ≡ r) → Contains old r ⊎ IsRowOf (λ h. g ≡ h) r
-    from (inl m) = inl m
-    from (inr e) = inr (g, refl, e)
-
-    to : Contains old r ⊎ IsRowOf (λ h. g ≡ h) r → Contains (old ++ row_of g ∷ []) r
-    to (inl m) = Contains-append_left old (row_of g ∷ []) r m
-    to (inr x) = subst (λ row. Contains (old ++ row_of g ∷ []) row) (ap row_of x.1 ∙ x.2) (Contains-push old (row_of g))
-
 pub values_agree : (a b : Bool) → beq a b ≡ true → a ≡ b
 values_agree true true e = refl
 values_agree true false e = absurd (true≢false (sym e))
 values_agree false true e = absurd (true≢false (sym e))
 values_agree false false e = refl
 
--- an effect that makes an atom true or false, as is asked, or otherwise
-module _ (w : Typing) (b c : Bool) (a : Atom) (env : List ℕ) (old new : List (List ℕ)) where
-  pub joined_itself : c ≡ b → Joined old (λ g. atom_under env a ≡ g) new → Joined old (λ g. IsMadeBy w b g (becomes c a) env) new
-  joined_itself is joined r = (λ m. elim ((joined r).0 m) [ inl l ↦ inl l | inr x ↦ inr (x.0, (is, x.1), x.2) ], λ m. (joined r).1 (elim m [ inl l ↦ inl l | inr x ↦ inr (x.0, x.1.1, x.2) ]))
-
-  pub joined_not : (c ≡ b → ⊥) → Joined old (λ g. IsMadeBy w b g (becomes c a) env) old
-  joined_not out = joined_none old (λ g. IsMadeBy w b g (becomes c a) env) (λ g m. out m.0)
+pub values_differ : (a b : Bool) → beq a b ≡ false → a ≡ b → ⊥
+values_differ true true e same = true≢false e
+values_differ true false e same = true≢false same
+values_differ false true e same = true≢false (sym same)
+values_differ false false e same = true≢false e
 
 pub joined_like : (old new : List (List ℕ)) (S T : Atoms) → Same S T → Joined old S new → Joined old T new
 joined_like old new S T same joined r =
@@ -121,14 +105,6 @@ joined_both old mid new S T one next r = (λ m. from ((next r).0 m), to)
 pub joined_made : (old new : List (List ℕ)) (w : Typing) (b : Bool) (env os : List ℕ) (es fs : Effects) → env ≡ os → es ≡ fs → Joined old (λ g. IsMadeBySome w b g es env) new → Joined old (SomeMakes w b os fs) new
 joined_made old new w b env os es fs same same' joined =
     subst (λ e. Joined old (SomeMakes w b e fs) new) same (subst (λ x. Joined old (SomeMakes w b env x) new) same' (joined_like old new (λ g. IsMadeBySome w b g es env) (SomeMakes w b env es) (made_is w b env es) joined))
-
-module _ {X : Type 0} (P : X → Atoms) (xs : List X) (i : ℕ) (old now : List (List ℕ)) where
-  pub joined_push : (x : X) (new : List (List ℕ)) → i < length xs → x ≡ get_or xs i x → Joined old (λ g. SomeOf (λ y. P y g) (take i xs)) now → Joined now (P x) new → Joined old (λ g. SomeOf (λ y. P y g) (take (i + 1) xs)) new
-  joined_push x new lt is so_far next =
-      joined_like old new (λ g. SomeOf (λ y. P y g) (take i xs) ⊎ P x g) (λ g. SomeOf (λ y. P y g) (take (i + 1) xs)) (λ g. some_more (λ y. P y g) xs i x lt is) (joined_both old now new (λ g. SomeOf (λ y. P y g) (take i xs)) (P x) so_far next)
-
-  pub joined_all : length xs ≤ i → Joined old (λ g. SomeOf (λ y. P y g) (take i xs)) now → Joined old (λ g. SomeOf (λ y. P y g) xs) now
-  joined_all le = subst (λ ys. Joined old (λ g. SomeOf (λ y. P y g) ys) now) (taken xs i le)
 
 -- rows, each of which is that of an atom
 pub rows_again : (rows : List (List ℕ)) (S : Atoms) → ((r : List ℕ) → Contains rows r → IsRowOf S r) → rows ≡ map row_of (map atom_of rows)

@@ -29,6 +29,10 @@ module _ (t : Table) (k end : ℕ) where
   pub next_none : (M : GroundAtom → Type 0) → k < end → ((g : GroundAtom) → M g → ⊥) → IsNext t k end M end
   next_none M lt out = record { after = lt; within = omega arith; quiet = λ g m. absurd (out g m); change = λ less. absurd (omega (arith, less)) }
 
+  -- atoms without changes have no next one
+  pub next_still : (M : GroundAtom → Type 0) → k < end → ((g : GroundAtom) → M g → kept t g ≡ []) → IsNext t k end M end
+  next_still M lt still = record { after = lt; within = omega arith; quiet = λ g m c at. (let none = subst (λ cs. Contains cs c) (still g m) at in absurd (omega (arith, none.1))); change = λ less. absurd (omega (arith, less)) }
+
   pub next_both : (M N : GroundAtom → Type 0) (a b c : ℕ) → IsNext t k end M a → IsNext t k end N b → IsLeast a b c → IsNext t k end (λ g. M g ⊎ N g) c
   next_both M N a b c first other (le, le', one) =
       record {

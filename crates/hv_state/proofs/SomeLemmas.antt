@@ -52,3 +52,8 @@ number_of_some P (o ∷ os) (inr m) = let (n, at, p) = number_of_some P os m in 
 pub some_objects : (w : Typing) (t : ℕ) (os : List ObjectId) (exact : (o : ℕ) → Contains (object_numbers os) o ↔ Of w o t) (P : List ℕ → Type 0) (ts env : List ℕ) → SomeOf (λ o. ForSome w P ts (env ++ o.0 ∷ [])) os ↔ ForSome w P (t ∷ ts) env
 some_objects w t os exact P ts env =
     (λ m. (let h = number_of_some (λ n. ForSome w P ts (env ++ n ∷ [])) os m in (h.0, (exact h.0).0 h.1, h.2)), λ m. some_number (λ n. ForSome w P ts (env ++ n ∷ [])) os m.0 ((exact m.0).1 m.1) m.2)
+
+-- where it is so for some objects, it is so for these
+pub for_these : (w : Typing) (P : List ℕ → Type 0) (ts env : List ℕ) → ForSome w P ts env → (inner : List ℕ) × P inner
+for_these w P [] env p = (env, p)
+for_these w P (t ∷ ts) env (o, of, rest) = for_these w P ts (env ++ o ∷ []) rest

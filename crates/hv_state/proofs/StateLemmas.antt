@@ -42,11 +42,3 @@ applied old mid rows new deletes adds without is all g = (λ m. from ((all (row_
     to : After (Listed old) (Contains deletes) (Contains adds) g → Listed new g
     to (inl (m, kept)) = (all (row_of g)).1 (inl ((without (row_of g)).1 (m, λ gone. kept (atom_listed deletes g gone))))
     to (inr m) = (all (row_of g)).1 (inr (subst (λ xs. Contains xs (row_of g)) (sym is) (row_listed adds g m)))
-
--- the atoms of the rows of atoms
-pub atoms_again : (gs : List GroundAtom) → map atom_of (map row_of gs) ≡ gs
-atoms_again [] = refl
-atoms_again (g ∷ gs) = ap (λ hs. g ∷ hs) (atoms_again gs)
-
-pub atoms_are : (rows : List (List ℕ)) (gs : List GroundAtom) → rows ≡ map row_of gs → map atom_of rows ≡ gs
-atoms_are rows gs e = ap (map atom_of) e ∙ atoms_again gs

@@ -5,3 +5,4 @@ pub mod Notes
 pub mod Bits
 pub mod Makings
 pub mod Parts
+pub mod Takings

@@ -1,6 +1,6 @@
 //! When the truth of atoms changes on the way of a plan.
 
-ghost use Rattle.std.specs.Prelude.{◌≡◌, ◌↔◌, ◌<◌, ◌+◌, ℕ, Bool, List, [], ◌∷◌, length, map};
+ghost use Rattle.std.specs.Prelude.{◌≡◌, ◌↔◌, ◌<◌, ◌+◌, ℕ, Bool, List, [], ◌∷◌, length, map, false};
 ghost use Rattle.std.specs.Prelude.{Ok, IsTrue, IfOk, OnOk, OnErr, All};
 ghost use Rattle.hv_world.specs.Bindings.{GroundAtom};
 ghost use Rattle.hv_state.specs.Atoms.{atom_read};
@@ -17,6 +17,7 @@ use crate::guesses::{Guesses, hash_of};
 use crate::rows::{Row, compare, guesses_of};
 use crate::state::State;
 use hv_text::Memory;
+use hv_world::PredicateId;
 use std::alloc::Global;
 use std::cmp::Ordering;
 use std::marker::Model;
@@ -191,12 +192,19 @@ fn next_in(list: &[Change], k: usize, end: usize) -> usize
 }
 
 impl Changes {
+    /// Whether an action touches an atom of a predicate.
+    pub(crate) fn has_some_of(&self, predicate: PredicateId) -> bool
+        ensures { result ≡ false → (g : GroundAtom) → g.predicate ≡ predicate.0 → kept self.now g ≡ [] }
+    {
+        has_bit(&self.flags, predicate.0)
+    }
+
     // The changes of an atom, which are none where no action touches it.
     fn of(&self, atom: &AtomView<'_>) -> &[Change]
         ensures rise { Rise (map change_view result.now) }
         ensures exact { map change_view result.now ≡ kept self.now (atom_read atom.now) }
     {
-        if !has_bit(&self.flags, atom.predicate.0) {
+        if !self.has_some_of(atom.predicate) {
             return &[];
         }
         match look_up_history(&self.list, &self.guesses, atom) {

@@ -1,45 +1,43 @@
 //! One action of a plan, and what it changes.
 
-ghost use Rattle.std.specs.Prelude.{◌≡◌, map, Bool, true, false, IfOk};
-ghost use Rattle.std.specs.List.{Contains};
+ghost use Rattle.std.specs.Prelude.{◌≡◌, true, false, IfOk};
 ghost use Rattle.hv_world.specs.Bindings.{ground_action_view};
 ghost use Rattle.hv_world.specs.WorldViews.{world_view};
 ghost use Rattle.hv_state.specs.Changes.{TrueAfter};
 ghost use Rattle.hv_state.specs.Plans.{IsApplicableIn};
 ghost use Rattle.hv_state.specs.inside.Histories.{kept};
-ghost use Rattle.hv_state.specs.inside.Rows.{atom_of, rows_in};
 ghost use Rattle.hv_state.specs.inside.Notes.{IsReady, IsSet, IsPassed};
 
+use crate::atom::AtomView;
 use crate::changes::{Changes, Moment};
 use crate::evaluate::evaluate;
-use crate::ground::GroundAtoms;
-use crate::rows::Row;
+use crate::made::{Take, take_made};
 use crate::state::State;
 use hv_text::Memory;
 use hv_world::{Binding, GroundAction, World};
-use std::alloc::Global;
 
-// From an index on the atoms of rows are true, or false.
-fn set_all<S: State>(
-    changes: &mut Changes,
-    first: &S,
+// From an index on atoms are true, or false.
+#[derive(Clone, Copy)]
+struct Note<'a, S: State> {
+    first: &'a S,
     from: usize,
-    rows: &[Row],
     is_true: bool,
-) -> Result<(), Memory>
-    ensures { IfOk result (λ _. IsSet (S.atoms first.now)
-        (Contains (map atom_of (rows_in rows.now))) from is_true changes.old changes.new) }
-{
-    for row in rows {
-        changes.set(first, from, &row.atom(), is_true)?;
+}
+
+impl<S: State> Take for Note<'_, S> {
+    type Into = Changes;
+
+    ghost takes = { λ n g old new.
+        IsSet (S.atoms n.first.now) (λ h. g ≡ h) n.from n.is_true old new };
+
+    fn take(&self, changes: &mut Changes, atom: &AtomView<'_>) -> Result<(), Memory> {
+        changes.set(self.first, self.from, atom, self.is_true)
     }
-    Ok(())
 }
 
 /// Does an action where it is applicable, notes what it changes from an index on, and says whether
 /// it was. What is true before it is what the changes so far tell.
 pub(crate) fn pass<S: State>(
-    alloc: Global,
     world: &World<'_>,
     step: &GroundAction<'_>,
     first: &S,
@@ -67,9 +65,17 @@ pub(crate) fn pass<S: State>(
     if !evaluate(world, &before, action.precondition(), &objects) {
         return Ok(false);
     }
-    let deletes = GroundAtoms::made(alloc, world, action.effect(), false, &objects)?;
-    let adds = GroundAtoms::made(alloc, world, action.effect(), true, &objects)?;
-    set_all(changes, first, from, deletes.rows(), false)?;
-    set_all(changes, first, from, adds.rows(), true)?;
+    let gone = Note {
+        first,
+        from,
+        is_true: false,
+    };
+    let come = Note {
+        first,
+        from,
+        is_true: true,
+    };
+    take_made(world, &gone, changes, action.effect(), false, &objects)?;
+    take_made(world, &come, changes, action.effect(), true, &objects)?;
     Ok(true)
 }

@@ -81,14 +81,7 @@ impl<'a, 's, S: State> Trace<'a, 's, S> {
         let first = S::initial_for(alloc, world, actions)?;
         let mut changes = Changes::none(alloc, touched(alloc, world, actions)?)?;
         for number in 0..actions.len() {
-            if !pass(
-                alloc,
-                world,
-                &actions.at(number),
-                &first,
-                &mut changes,
-                number + 1,
-            )? {
+            if !pass(world, &actions.at(number), &first, &mut changes, number + 1)? {
                 return Err(Stop::Inapplicable(number));
             }
         }

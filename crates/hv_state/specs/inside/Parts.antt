@@ -1,6 +1,7 @@
 -- Truth, and what is spoken of, for what a formula of the code has for parts, and what is made so for what an effect has.
-use Rattle.std.specs.Prelude.{Bool, List, map}
+use Rattle.std.specs.Prelude.{◌≡◌, ℕ, Bool, List, [], map}
 use Rattle.hv_world.specs.Bindings.{GroundAtom, objects_in}
+use Rattle.hv_world.specs.Types.{Typing}
 use Rattle.hv_world.specs.Values.{formulas_of, effects_of}
 use Rattle.hv_world.specs.Views.{formula_view, effect_view, type_number}
 use Rattle.hv_world.specs.WorldViews.{world_view}
@@ -12,6 +13,7 @@ use Rattle.hv_world.specs.declared.world.World.{World}
 use Rattle.hv_state.specs.Atoms.{Atoms}
 use Rattle.hv_state.specs.Truth.{True, AllTrue, SomeTrue, ForEach, ForSome}
 use Rattle.hv_state.specs.Changes.{Mentions, SomeMention}
+use Rattle.hv_state.specs.inside.Histories.{Table, kept}
 use Rattle.hv_state.specs.inside.Makings.{IsMadeBy, IsMadeBySome}
 
 -- all of the formulas are true, or some of them
@@ -37,6 +39,13 @@ SpokenOfBySome w fs b g = SomeMention (world_view w).typing g (formulas_of (map 
 
 abbrev pub SpokenOfForSome : World → Formula → List TypeId → Binding → GroundAtom → Type 0
 SpokenOfForSome w f ts b g = ForSome (world_view w).typing (Mentions (world_view w).typing g (formula_view f)) (map type_number ts) (objects_in b)
+
+-- no atom has changes that the formula speaks of, or some of the formulas, whatever objects there are and the variables have
+abbrev pub IsStill : Table → Formula → Type 0
+IsStill t f = (types : Typing) (env : List ℕ) (g : GroundAtom) → Mentions types g (formula_view f) env → kept t g ≡ []
+
+abbrev pub AreStill : Table → List Formula → Type 0
+AreStill t fs = (types : Typing) (env : List ℕ) (g : GroundAtom) → SomeMention types g (formulas_of (map formula_view fs)) env → kept t g ≡ []
 
 -- the atoms that an effect of the code makes true, or false, or some of several effects, or they where the next variables have objects of these types
 abbrev pub MadeBy : World → Bool → Effect → Binding → Atoms

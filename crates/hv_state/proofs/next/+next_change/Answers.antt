@@ -9,27 +9,27 @@ use Rattle.hv_state.specs.inside.Histories.{IsNext}
 use Rattle.hv_state.proofs.Levels.{levels, most_levels}
 use Rattle.hv_state.proofs.FormulaLemmas.{view-Forall, view-Exists, part_below}
 use Rattle.hv_state.proofs.Chosen.{front}
-use Rattle.hv_state.proofs.SomeLemmas.{SomeOf, some_objects}
-use Rattle.hv_state.proofs.NextLemmas.{next_like, next_push, next_all, next_soon, mentioned_parts}
+use Rattle.hv_state.proofs.SomeLemmas.{SomeOf, some_objects, for_these}
+use Rattle.hv_state.proofs.NextLemmas.{next_like, next_still, next_push, next_all, next_soon, mentioned_parts}
 use Rattle.hv_state.proofs.next.+next_change.Goals as goal
 
 pub next_change-returns-in-Forall : goal.next_change-returns-in-Forall
 next_change-returns-in-Forall t c =
     let w = (world_view c.args.world.now).typing in
     let env = objects_in c.args.binding.now in
-    let Q = λ (M : GroundAtom → Type 0). IsNext c.args.changes.now c.args.k c.args.end M c.next_of_some.result in
+    let Q = λ (M : GroundAtom → Type 0). IsNext c.args.changes.now c.args.k c.args.end M c.next_of_choices.result in
     subst (λ f. Q (λ g. Mentions w g f env)) (sym (ap formula_view c.in-Forall.is ∙ view-Forall _ _))
     (subst (λ ts. Q (λ g. ForSome w (Mentions w g (formula_view c.in-Forall.part.value)) (map type_number ts) env)) c.deref-in-Forall-2.ensures.value
-    (subst (λ f. Q (λ g. ForSome w (Mentions w g (formula_view f)) (map type_number c.deref-in-Forall-2.result.now) env)) c.deref-in-Forall.ensures c.next_of_some.ensures))
+    (subst (λ f. Q (λ g. ForSome w (Mentions w g (formula_view f)) (map type_number c.deref-in-Forall-2.result.now) env)) c.deref-in-Forall.ensures c.next_of_choices.ensures))
 
 pub next_change-returns-in-Exists : goal.next_change-returns-in-Exists
 next_change-returns-in-Exists t c =
     let w = (world_view c.args.world.now).typing in
     let env = objects_in c.args.binding.now in
-    let Q = λ (M : GroundAtom → Type 0). IsNext c.args.changes.now c.args.k c.args.end M c.next_of_some-in-Exists.result in
+    let Q = λ (M : GroundAtom → Type 0). IsNext c.args.changes.now c.args.k c.args.end M c.next_of_choices-in-Exists.result in
     subst (λ f. Q (λ g. Mentions w g f env)) (sym (ap formula_view c.in-Exists.is ∙ view-Exists _ _))
     (subst (λ ts. Q (λ g. ForSome w (Mentions w g (formula_view c.in-Exists.part.value)) (map type_number ts) env)) c.deref-in-Exists-2.ensures.value
-    (subst (λ f. Q (λ g. ForSome w (Mentions w g (formula_view f)) (map type_number c.deref-in-Exists-2.result.now) env)) c.deref-in-Exists.ensures c.next_of_some-in-Exists.ensures))
+    (subst (λ f. Q (λ g. ForSome w (Mentions w g (formula_view f)) (map type_number c.deref-in-Exists-2.result.now) env)) c.deref-in-Exists.ensures c.next_of_choices-in-Exists.ensures))
 
 pub next_of_parts-next_change-requires : goal.next_of_parts-next_change-requires
 next_of_parts-next_change-requires t c =
@@ -57,6 +57,13 @@ next_of_parts-returns t c =
     let parts = c.args.parts.now in
     let all = next_all c.args.changes.now c.args.k c.args.end (λ f g. Mentions w g (formula_view f) env) parts c.loop-part.part-index c.loop-part.until c.loop-part-test.false c.loop-part.invariant in
     next_like c.args.changes.now c.args.k c.args.end (λ g. SomeOf (λ f. Mentions w g (formula_view f) env) parts) (λ g. SomeMention w g (formulas_of (map formula_view parts)) env) c.loop-part.until (λ g. mentioned_parts w g env parts) all
+
+pub next_of_choices-returns-else-may_change : goal.next_of_choices-returns-else-may_change
+next_of_choices-returns-else-may_change t c =
+    let w = (world_view c.args.world.now).typing in
+    let env = objects_in c.args.binding.now in
+    let f = formula_view c.args.formula.now in
+    next_still c.args.changes.now c.args.k c.args.end (λ g. ForSome w (Mentions w g f) (map type_number c.args.of.now) env) c.requires (λ g m. let (inner, there) = for_these w (Mentions w g f) (map type_number c.args.of.now) env m in c.may_change.ensures c.if-may_change.false w inner g there)
 
 pub next_of_some-loop-object-preserved : goal.next_of_some-loop-object-preserved
 next_of_some-loop-object-preserved t c =

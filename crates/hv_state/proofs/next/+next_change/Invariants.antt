@@ -16,6 +16,9 @@ decreases-next_change l = levels (formula_view l.formula.now)
 abbrev pub decreases-next_of_parts : goal.decreases-next_of_parts
 decreases-next_of_parts l = most_levels (formulas_of (map formula_view l.parts.now)) + 1
 
+abbrev pub decreases-next_of_choices : goal.decreases-next_of_choices
+decreases-next_of_choices l = levels (formula_view l.formula.now) + length l.of.now + 2
+
 abbrev pub decreases-next_of_some : goal.decreases-next_of_some
 decreases-next_of_some l = levels (formula_view l.formula.now) + length l.of.now + 1
 

@@ -1,14 +1,16 @@
 use Rattle.std.proofs.Common.{rules, ◌≡◌, Bool, true, false, List, ℕ, Some, slice_get, option_map, map, sym, subst, ap, ◌∙◌, IsTrue}
 use Rattle.std.specs.List.{Contains}
-use Rattle.hv_world.specs.Bindings.{object_number, ground_action_view}
+use Rattle.hv_world.specs.Bindings.{GroundAtom, object_number, ground_action_view}
 use Rattle.hv_world.specs.Effects.{SomeMakes}
 use Rattle.hv_world.specs.SectionViews.{action_view}
 use Rattle.hv_world.specs.Values.{Effects}
 use Rattle.hv_world.specs.WorldViews.{world_view}
-use Rattle.hv_state.specs.Atoms.{Atoms, Same}
-use Rattle.hv_state.specs.inside.Notes.{IsSet}
-use Rattle.hv_state.proofs.StateLemmas.{atoms_are}
+use Rattle.hv_state.specs.Atoms.{Same}
+use Rattle.hv_state.specs.inside.Makings.{IsMadeBySome}
+use Rattle.hv_state.proofs.MadeLemmas.{made_is}
 use Rattle.hv_state.proofs.NoteLemmas.{passed}
+use Rattle.hv_state.proofs.PlanLemmas.{same_through}
+use Rattle.hv_state.proofs.TakeLemmas.{set_in_turn}
 use Rattle.hv_state.proofs.pass.pass.Goals as goal
 
 pub returns-clause-done : goal.returns-clause-done
@@ -18,15 +20,18 @@ returns-clause-done g c = λ ran ready.
     let start = g.S.State.atoms c.args.first.now in
     let from = c.args.from in
     let a = action_view c.in-Some.action.now in
-    let deletes = c.in_ok-deletes.deletes in
-    let adds = c.in_ok-adds.adds in
     let there : slice_get w.actions step.action ≡ Some a = sym (c.action-2.ensures ∙ ap (slice_get w.actions) c.action.ensures) ∙ ap (option_map (λ x. action_view x.now)) c.in-Some.is in
     let env = map object_number c.objects.result.now in
     let objects : env ≡ step.objects = c.objects.ensures in
-    let makes = λ (b : Bool) (os : List ℕ) (es : Effects) (S : Atoms). Same S (SomeMakes w.typing b os es) in
-    let gone = subst (λ os. makes false os a.effect (Contains deletes)) objects (subst (λ es. makes false env es (Contains deletes)) c.effect.ensures c.in_ok-deletes.ensures) in
-    let come = subst (λ os. makes true os a.effect (Contains adds)) objects (subst (λ es. makes true env es (Contains adds)) c.effect-2.ensures c.in_ok-adds.ensures) in
+    let made = λ (b : Bool) (os : List ℕ) (es : Effects) (h : GroundAtom). IsMadeBySome w.typing b h es os in
+    let (deletes, are_gone, sets) = c.in_ok-take_made.ensures in
+    let (adds, have_come, sets_then) = c.in_ok-take_made-2.ensures in
+    let gone = same_through (Contains deletes) (made false step.objects a.effect) (SomeMakes w.typing false step.objects a.effect) (subst (λ os. Same (Contains deletes) (made false os a.effect)) objects (subst (λ es. Same (Contains deletes) (made false env es)) c.effect.ensures are_gone)) (made_is w.typing false step.objects a.effect) in
+    let come = same_through (Contains adds) (made true step.objects a.effect) (SomeMakes w.typing true step.objects a.effect) (subst (λ os. Same (Contains adds) (made true os a.effect)) objects (subst (λ es. Same (Contains adds) (made true env es)) c.effect-2.ensures have_come)) (made_is w.typing true step.objects a.effect) in
     let is : IsTrue c.evaluate.result = search (rules, c.if-not-evaluate.false) in
-    let first = subst (λ xs. IsSet start (Contains xs) from false c.args.changes.now c.set_all.new.changes) (atoms_are _ deletes c.rows.ensures) c.in_ok-set_all.ensures in
-    let next = subst (λ xs. IsSet start (Contains xs) from true c.set_all.new.changes c.set_all-2.new.changes) (atoms_are _ adds c.rows-2.ensures) c.in_ok-set_all-2.ensures in
-    passed w step a there start from c.args.changes.now c.set_all.new.changes c.set_all-2.new.changes deletes adds gone come ready _ env objects c.precondition.ensures (c.evaluate.ensures.0 is) first next
+    let before = c.args.changes.now in
+    let mid = c.take_made.new.into in
+    let after = c.take_made-2.new.into in
+    let first = set_in_turn start from false deletes before mid sets in
+    let next = set_in_turn start from true adds mid after sets_then in
+    passed w step a there start from before mid after deletes adds gone come ready _ env objects c.precondition.ensures (c.evaluate.ensures.0 is) first next
