@@ -1,7 +1,7 @@
 #!/usr/bin/env python3
 """Makes random and malicious texts without end, and has two programs judge each of them.
 
-sweep/hostile.py PROGRAM OTHER [--seed N] [--count N] [--jobs N] [--keep FOLDER]
+sweep/hostile.py PROGRAM OTHER [--seed N] [--first N] [--count N] [--longest SECONDS] [--jobs N] [--keep FOLDER]
 
 Each case spoils the texts of an example: bytes, words, sections, lines of the plan, ids near 2^64, nesting up to the limits, names
 in their thousands, quantifiers in one another. Both programs have the same command line. A case is kept, in a folder of its own,
@@ -15,7 +15,7 @@ import multiprocessing
 import os
 import random
 import re
-import subprocess
+import signal
 import tempfile
 import time
 
@@ -27,8 +27,6 @@ WORDS = (
     b":constants :objects :predicates :task :method :action :parameters :precondition :effect :subtasks :ordered-subtasks :tasks "
     b":ordering :constraints :htn :init :goal :requirements < 0 1 00 18446744073709551615 18446744073709551616 99999999999999999999"
 ).split()
-# the seconds after which a run is given up
-LONGEST = 5.0
 
 
 def read_examples():
@@ -185,14 +183,36 @@ def make(seed, number, examples):
     return texts, words
 
 
-def end_of(program, words):
+class Watch:
+    """Ends a process that runs for too long. The worker's own alarm does it, so that starting one costs nothing more."""
+
+    def __init__(self, longest):
+        self.longest, self.child, self.is_late = longest, 0, False
+        signal.signal(signal.SIGALRM, self.end)
+
+    def end(self, *_):
+        self.is_late = True
+        os.kill(self.child, signal.SIGKILL)
+
+    def wait(self, child):
+        """The exit status of a process, or that there was no end to it."""
+        self.child, self.is_late = child, False
+        signal.setitimer(signal.ITIMER_REAL, self.longest)
+        status = os.waitpid(child, 0)[1]
+        signal.setitimer(signal.ITIMER_REAL, 0)
+        return "no end" if self.is_late else os.waitstatus_to_exitcode(status)
+
+
+def end_of(program, words, folder, watch):
     """How a run ends, and how long it takes."""
+    said = f"{folder}/said"
+    outputs = [(os.POSIX_SPAWN_OPEN, 1, said, os.O_WRONLY | os.O_CREAT | os.O_TRUNC, 0o600)]
+    outputs += [(os.POSIX_SPAWN_OPEN, 2, os.devnull, os.O_WRONLY, 0)]
     begun = time.monotonic()
-    try:
-        run = subprocess.run([program, "judge", *words], stdout=subprocess.PIPE, stderr=subprocess.DEVNULL, timeout=LONGEST)
-        return (run.returncode, run.stdout), time.monotonic() - begun
-    except subprocess.TimeoutExpired:
-        return ("no end", b""), LONGEST
+    status = watch.wait(os.posix_spawn(program, [program, "judge", *words], os.environ, file_actions=outputs))
+    seconds = time.monotonic() - begun
+    with open(said, "rb") as read:
+        return (status, read.read()), seconds
 
 
 def kind_of(end, other, seconds, others):
@@ -208,17 +228,21 @@ def kind_of(end, other, seconds, others):
     return f"status {end[0]}"
 
 
+def prepare(room, longest):
+    """Gives a worker a folder of its own, and a watch."""
+    judge.folder, judge.watch = tempfile.mkdtemp(dir=room), Watch(longest)
+
+
 def judge(task):
     """Judges one case by both programs."""
     arguments, examples, number = task
     texts, words = make(arguments.seed, number, examples)
-    with tempfile.TemporaryDirectory(dir="/dev/shm" if os.path.isdir("/dev/shm") else None) as folder:
-        files = [f"{folder}/{name}" for name in NAMES]
-        for file, text in zip(files, texts):
-            with open(file, "wb") as out:
-                out.write(text)
-        end, seconds = end_of(arguments.program, [*words, *files])
-        other, others = end_of(arguments.other, [*words, *files])
+    files = [f"{judge.folder}/{name}" for name in NAMES]
+    for file, text in zip(files, texts):
+        with open(file, "wb") as out:
+            out.write(text)
+    end, seconds = end_of(arguments.program, [*words, *files], judge.folder, judge.watch)
+    other, others = end_of(arguments.other, [*words, *files], judge.folder, judge.watch)
     kind = kind_of(end, other, seconds, others)
     if kind.isupper():
         keep(arguments.keep, number, texts, words, [f"{kind} {seconds:.2f} s {others:.2f} s", repr(end), repr(other)])
@@ -240,15 +264,18 @@ def main():
     parser.add_argument("program")
     parser.add_argument("other")
     parser.add_argument("--seed", type=int, default=1)
+    parser.add_argument("--first", type=int, default=0, help="the number of the first case")
     parser.add_argument("--count", type=int, help="so many cases, and not without end")
+    parser.add_argument("--longest", type=float, default=5, help="the seconds after which a run is given up")
     parser.add_argument("--jobs", type=int, default=os.cpu_count())
     parser.add_argument("--keep", default="hostile", help="the folder for cases that are kept")
     arguments = parser.parse_args()
     arguments.program, arguments.other = (os.path.abspath(it) for it in (arguments.program, arguments.other))
     examples = list(read_examples())
-    numbers = range(arguments.count) if arguments.count else itertools.count()
+    numbers = range(arguments.first, arguments.first + arguments.count) if arguments.count else itertools.count(arguments.first)
     kinds = collections.Counter()
-    with multiprocessing.Pool(arguments.jobs) as pool:
+    memory = "/dev/shm" if os.path.isdir("/dev/shm") else None
+    with tempfile.TemporaryDirectory(dir=memory) as room, multiprocessing.Pool(arguments.jobs, prepare, (room, arguments.longest)) as pool:
         for number, kind in pool.imap_unordered(judge, ((arguments, examples, it) for it in numbers), chunksize=20):
             kinds[kind] += 1
             if kind.isupper():
