@@ -1,5 +1,5 @@
 -- Histories in the order of their rows.
-use Rattle.std.proofs.Common.{◌≡◌, ◌<◌, ◌≤◌, ◌-◌, ◌⊎◌, inl, inr, ℕ, zero, suc, Bool, true, false, nat_le, List, [], ◌∷◌, length, map, get_or, Option, Some, None, if◌then◌else◌, refl, sym, ap, ◌∙◌, subst, arith, bytes_eq}
+use Rattle.std.proofs.Common.{◌≡◌, ◌<◌, ◌≤◌, ◌-◌, ◌⊎◌, inl, inr, ℕ, zero, suc, Bool, true, false, nat_le, List, [], ◌∷◌, length, map, get_or, Option, Some, None, Ok, if◌then◌else◌, refl, sym, ap, ◌∙◌, subst, arith, bytes_eq}
 use Rattle.std.specs.List.{All, Contains}
 use Rattle.std.specs.List.Sorted.{IsNonDecreasingBy, IsPartitionPoint}
 use Rattle.std.specs.Cmp.Lexicographic.{bytes_decides}
@@ -9,15 +9,24 @@ use Rattle.hv_state.specs.declared.changes.Change as code
 use Rattle.hv_state.specs.declared.changes.History.{History}
 use Rattle.hv_world.specs.Bindings.{GroundAtom}
 use Rattle.hv_state.specs.inside.Bits.{Has}
-use Rattle.hv_state.specs.inside.Rows.{row_of, atom_of, IsBelow, Ascend, IsGap}
+use Rattle.hv_state.specs.inside.Rows.{row_of, atom_of, IsBelow, Ascend, IsPlace}
 use Rattle.hv_state.specs.Changes.{Change, told_from, told}
 use Rattle.hv_state.specs.inside.Histories.{Table, Rise, beside, rows_of, change_view, history_view, kept, AreFlagged}
 use Rattle.hv_state.proofs.RowLemmas.{below_itself, contains_cases, contains_none}
 
 -- the rows of histories
-pub rows_are : (hs : List History) → rows_of (map history_view hs) ≡ map (λ h. h.row.numbers.items) hs
+abbrev pub numbers : History → List ℕ
+numbers h = h.row.numbers.items
+
+pub rows_are : (hs : List History) → rows_of (map history_view hs) ≡ map numbers hs
 rows_are [] = refl
-rows_are (h ∷ hs) = ap (λ rows. h.row.numbers.items ∷ rows) (rows_are hs)
+rows_are (h ∷ hs) = ap (λ rows. numbers h ∷ rows) (rows_are hs)
+
+pub found_in : (hs : List History) (row : List ℕ) (i : ℕ) → IsPlace (map numbers hs) row (Ok i) → IsPlace (rows_of (map history_view hs)) row (Ok i)
+found_in hs row i = subst (λ rows. IsPlace rows row (Ok i)) (sym (rows_are hs))
+
+pub not_found_in : (hs : List History) (row : List ℕ) → (Contains (map numbers hs) row → ⊥) → Contains (rows_of (map history_view hs)) row → ⊥
+not_found_in hs row = subst (λ rows. Contains rows row → ⊥) (sym (rows_are hs))
 
 -- indices rise, as the code has them
 pub from_rises : (cs : List code.Change) → Rise (map change_view cs) → IsNonDecreasingBy (λ c. c.from) cs
@@ -104,13 +113,12 @@ nothing_beside (x ∷ es) row out =
     if_false (bytes_eq row x.0) x.1 (beside es row) (no_row row x.0 (λ same. out 0 (omega arith) (sym same)))
     ∙ nothing_beside es row (λ k lt e. out (suc k) (omega (arith, lt)) e)
 
--- a row with a gap stands nowhere
-pub gap_is_none : (rows : List (List ℕ)) (row : List ℕ) (i : ℕ) → IsGap rows row i → (k : ℕ) → k < length rows → get_or rows k [] ≡ row → ⊥
-gap_is_none rows row i gap k lt e = by (cases_lt k i)
+-- nor beside a row that stands nowhere
+pub lacking_beside : (t : Table) (row : List ℕ) → (Contains (rows_of t) row → ⊥) → beside t row ≡ []
+lacking_beside t row lacks = nothing_beside t row (λ k lt e. lacks (k, within k lt, get_or_default (rows_of t) k row [] (within k lt) ∙ e))
   where
-    by : (k < i) ⊎ (i ≤ k) → ⊥
-    by (inl before) = below_itself row (subst (λ x. IsBelow x row) e (gap.1 k before))
-    by (inr behind) = below_itself row (subst (IsBelow row) e (gap.2 k behind lt))
+    within : (k : ℕ) → k < length t → k < length (rows_of t)
+    within k lt = omega (arith, lt, length-map t (λ (e : List ℕ × List Change). e.0))
 
 -- the history at a place
 module _ (hs : List History) (row : List ℕ) (i : ℕ) (h : History) (ascend : Ascend (rows_of (map history_view hs))) (lt : i < length (rows_of (map history_view hs))) (at : get_or (rows_of (map history_view hs)) i [] ≡ row) (is : h ≡ get_or hs i h) where
@@ -126,15 +134,9 @@ module _ (hs : List History) (row : List ℕ) (i : ℕ) (h : History) (ascend : 
   pub list_rises : All (λ e. Rise e.1) (map history_view hs) → Rise (map change_view h.changes.items)
   list_rises all = subst (λ e. Rise e.1) entry (all i (history_view h) in_views)
 
-pub none_beside : (hs : List History) (row : List ℕ) (i : ℕ) → IsGap (rows_of (map history_view hs)) row i → beside (map history_view hs) row ≡ []
-none_beside hs row i gap = nothing_beside (map history_view hs) row (λ k lt e. gap_is_none (rows_of (map history_view hs)) row i gap k (omega (arith, lt, length-map (map history_view hs) (λ (e' : List ℕ × List Change). e'.0))) e)
-
 -- a predicate without its flag has no changes
 pub unflagged : (t : Table) (flags : List ℕ) → AreFlagged flags (rows_of t) → (g : GroundAtom) → (Has flags g.predicate → ⊥) → [] ≡ kept t g
-unflagged t flags all g out = sym (nothing_beside t (row_of g) (λ k lt e. out (all (row_of g) (k, within k lt, get_or_default (rows_of t) k (row_of g) [] (within k lt) ∙ e))))
-  where
-    within : (k : ℕ) → k < length t → k < length (rows_of t)
-    within k lt = omega (arith, lt, length-map t (λ (e : List ℕ × List Change). e.0))
+unflagged t flags all g out = sym (lacking_beside t (row_of g) (λ m. out (all (row_of g) m)))
 
 -- the rows but those that are left have their flags
 abbrev pub FlaggedBut : List ℕ → List (List ℕ) → List (List ℕ) → Type 0

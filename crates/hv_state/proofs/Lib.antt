@@ -18,4 +18,5 @@ pub mod DecisionLemmas
 pub mod WordLemmas
 pub mod BitLemmas
 pub mod LitLemmas
-mod TakeLemmas
+pub mod TakeLemmas
+pub mod GuessLemmas

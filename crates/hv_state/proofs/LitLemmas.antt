@@ -6,9 +6,9 @@ use Rattle.std.proofs.lemmas.List.{get_or_default, get_or-map, length-map, map_p
 use Rattle.std.proofs.lemmas.List.Elements.{Contains-append_left, Contains-append_right, Contains-append_cases, Contains-push, Contains-push_cases}
 use Rattle.hv_world.specs.Bindings.{GroundAtom}
 use Rattle.hv_state.specs.Atoms.{Same, After}
-use Rattle.hv_state.specs.inside.Rows.{row_of, rows_in, Ascend, HasSameRows, IsGap}
+use Rattle.hv_state.specs.inside.Rows.{row_of, rows_in, Ascend, HasSameRows}
 use Rattle.hv_state.specs.inside.Bits.{Has, Bits, Lit, Shown, Knows, AreBits, AreLit, AreDark, AreLacking, IsChanged}
-use Rattle.hv_state.proofs.RowLemmas.{gap_lacks, contains_cases, contains_none}
+use Rattle.hv_state.proofs.RowLemmas.{contains_cases, contains_none}
 use Rattle.hv_state.proofs.StateLemmas.{atom_listed, row_listed}
 use Rattle.hv_state.proofs.BitLemmas.{LitBelow, one_place, lit_more, dark_more}
 
@@ -124,9 +124,6 @@ pair_is rows rows' words words' e f = λ i. (e i, f i)
 pub if_ok : {T E : Type 0} (r : Result T E) (P Q : T → Type 0) → ((x : T) → P x → Q x) → IfOk r P → IfOk r Q
 if_ok (Ok x) P Q f p = f x p
 if_ok (Err e) P Q f p = tt
-
-pub lacking_dark : (rows : List (List ℕ)) (words : List ℕ) (row : List ℕ) (i : ℕ) → IsGap rows row i → Lit (rows, words) row → ⊥
-lacking_dark rows words row i gap l = gap_lacks rows i row gap l.0
 
 -- as sets of atoms
 pub shown_begun : (b : Bits) (rows : List (List ℕ)) (gs : List GroundAtom) → rows ≡ map row_of gs → ((r : List ℕ) → Lit b r ↔ Contains rows r) → Same (Shown b) (Contains gs)

@@ -1,14 +1,13 @@
 -- What effects make true or false, as it is found.
-use Rattle.std.proofs.Common.{◌≡◌, ◌<◌, ◌≤◌, ◌+◌, ◌++◌, ◌↔◌, ◌⊎◌, inl, inr, ℕ, Bool, true, false, true≢false, List, [], ◌∷◌, length, map, take, get_or, refl, sym, ap, ◌∙◌, subst}
+use Rattle.std.proofs.Common.{◌≡◌, ◌++◌, ◌↔◌, ◌⊎◌, inl, inr, ℕ, Bool, true, false, true≢false, List, [], ◌∷◌, map, refl, sym, ap, ◌∙◌, subst}
 use mathlib.Core.Bool.{beq}
 use Rattle.std.specs.List.{Contains}
 use Rattle.std.proofs.lemmas.List.{append-nil, append_assoc}
-use Rattle.std.proofs.lemmas.List.Elements.{Contains-append_left, Contains-push, Contains-push_cases}
-use Rattle.hv_world.specs.Bindings.{GroundAtom, atom_under}
+use Rattle.hv_world.specs.Bindings.{GroundAtom}
 use Rattle.hv_world.specs.Effects.{Makes, itself, for_objects, SomeMakes, first, later}
 use Rattle.hv_world.specs.Groundings.{AreOf}
 use Rattle.hv_world.specs.Types.{Typing}
-use Rattle.hv_world.specs.Values.{Atom, Effect, Effects, becomes, for_each, no_effects, more_effects, effects_of}
+use Rattle.hv_world.specs.Values.{Effect, Effects, becomes, for_each, no_effects, more_effects, effects_of}
 use Rattle.hv_world.specs.Views.{effect_view}
 use Rattle.hv_world.specs.declared.effect.Effect as code
 use Rattle.hv_state.specs.Atoms.{Atoms, Same}
@@ -16,7 +15,7 @@ use Rattle.hv_state.specs.Truth.{ForSome}
 use Rattle.hv_state.specs.inside.Makings.{IsMadeBy, IsMadeBySome}
 use Rattle.hv_state.specs.inside.Rows.{row_of, atom_of, IsRowOf}
 use Rattle.hv_state.proofs.RowLemmas.{contains_first, contains_later, contains_none}
-use Rattle.hv_state.proofs.SomeLemmas.{SomeOf, some_more, taken}
+use Rattle.hv_state.proofs.SomeLemmas.{SomeOf}
 use Rattle.hv_state.proofs.StateLemmas.{same_atom, atom_listed, row_listed}
 
 module _ (w : Typing) where

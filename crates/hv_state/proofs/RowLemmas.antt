@@ -33,6 +33,9 @@ same_rows [] (y ∷ ys) e = absurd cc
 same_rows (x ∷ xs) [] e = absurd cc
 same_rows (x ∷ xs) (y ∷ ys) e = same_step x y xs ys (nat_cmp x y) refl (same_rows xs ys) e
 
+pub row_compares : (x y : List ℕ) → x ≡ y → slice_cmp nat_cmp x y ≡ Equal
+row_compares x y e = subst (λ z. slice_cmp nat_cmp x z ≡ Equal) e (tied_itself nat_list_cmp_total x)
+
 at_most_two : (o : Ordering) → ordering_index o ≤ 2
 at_most_two Less = omega arith
 at_most_two Equal = omega arith

@@ -1,5 +1,5 @@
 -- Atoms taken one after another.
-use Rattle.std.proofs.Common.{◌≡◌, ◌<◌, ◌≤◌, ◌+◌, ◌++◌, ◌⊎◌, inl, inr, ℕ, Bool, List, [], ◌∷◌, length, map, take, get_or, refl, sym, ap, ◌∙◌, subst}
+use Rattle.std.proofs.Common.{◌≡◌, ◌<◌, ◌≤◌, ◌+◌, ◌++◌, ◌⊎◌, inl, inr, ℕ, Bool, List, [], ◌∷◌, length, map, take, get_or, sym, ap, ◌∙◌, subst}
 use Rattle.std.specs.Global.{Vec}
 use Rattle.std.specs.List.{Contains}
 use Rattle.std.proofs.lemmas.List.{append-nil, append_assoc}
@@ -17,7 +17,7 @@ use Rattle.hv_state.specs.inside.Takings.{TakenInTurn, no_more, one_more, HaveBe
 use Rattle.hv_state.proofs.NoteLemmas.{set_both, set_like, set_nothing}
 use Rattle.hv_state.proofs.RowLemmas.{contains_cases, contains_first, contains_later, contains_none}
 use Rattle.hv_state.proofs.SomeLemmas.{SomeOf, some_more, taken}
-use Rattle.hv_state.proofs.StateLemmas.{same_atom, row_listed}
+use Rattle.hv_state.proofs.StateLemmas.{row_listed}
 
 -- the first of a list, and the others
 pub first_or_later : (g : GroundAtom) (gs : List GroundAtom) → Same (λ h. (g ≡ h) ⊎ Contains gs h) (Contains (g ∷ gs))

@@ -6,3 +6,4 @@ pub mod Bits
 pub mod Makings
 pub mod Parts
 pub mod Takings
+pub mod Hashes

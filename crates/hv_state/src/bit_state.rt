@@ -7,12 +7,11 @@ ghost use Rattle.hv_state.specs.inside.Bits.{Lit, Shown, Knows, AreBits, IsChang
 
 use crate::atom::AtomView;
 use crate::bits::has_bit;
+use crate::find::{guesses_of, look_up};
 use crate::ground::GroundAtoms;
 use crate::guesses::Guesses;
 use crate::lit::{bright, clear_all, knows_all, lacking, lit_rows, set_all};
-use crate::rows::{
-    Row, copy_of, guesses_of, look_up, merge_distinct, push_copies, rows_of, sort_distinct,
-};
+use crate::rows::{Row, copy_of, merge_distinct, push_copies, rows_of, sort_distinct};
 use crate::state::State;
 use crate::touched::touched;
 use hv_text::Memory;
@@ -22,7 +21,7 @@ use std::marker::Model;
 use std::rc::Rc;
 
 /// A state as a row of bits: one for each atom of a table, which copies share. An atom is found at a
-/// guess or by halving, and one that the table lacks is false.
+/// guess, and one that the table lacks is false.
 #[derive(Drop)]
 pub struct BitState {
     table: Rc<Vec<Row>>,
@@ -34,12 +33,14 @@ impl Model for BitState {
     ghost use Rattle.std.specs.Prelude.{ℕ, List};
     ghost use Rattle.hv_state.specs.inside.Rows.{rows_in};
     ghost use Rattle.hv_state.specs.inside.Bits.{Bits, AreBits};
+    ghost use Rattle.hv_state.specs.inside.Hashes.{TellRows};
 
     ghost Value = { Bits };
 
     ghost view = { λ s. (rows_in s.table.value.items, s.words.items) };
 
-    ghost invariant = { λ s. AreBits (rows_in s.table.value.items) s.words.items };
+    ghost invariant = { λ s. AreBits (rows_in s.table.value.items) s.words.items
+        × TellRows s.guesses.value.buckets.items (rows_in s.table.value.items) };
 }
 
 // Clears the bits of rows, and then sets those of others.
@@ -130,8 +131,8 @@ impl State for BitState {
 
     fn holds(&self, atom: &AtomView<'_>) -> bool {
         match look_up(&self.table, &self.guesses, atom) {
-            Ok(number) => has_bit(&self.words, number),
-            Err(_) => false,
+            Some(number) => has_bit(&self.words, number),
+            None => false,
         }
     }
 

@@ -4,7 +4,7 @@ ghost use Rattle.std.specs.Prelude.{◌≡◌, ◌↔◌, ◌<◌, ◌+◌, ℕ,
 ghost use Rattle.std.specs.Prelude.{Ok, IsTrue, IfOk, OnOk, OnErr, All};
 ghost use Rattle.hv_world.specs.Bindings.{GroundAtom};
 ghost use Rattle.hv_state.specs.Atoms.{atom_read};
-ghost use Rattle.hv_state.specs.inside.Rows.{row_of, rows_in, Ascend, IsPlace};
+ghost use Rattle.hv_state.specs.inside.Rows.{rows_in, Ascend};
 ghost use Rattle.hv_state.specs.inside.Histories.{Rise, kept, IsNext, IsNextIn, IsLeast};
 ghost use Rattle.hv_state.specs.inside.Histories.{AreFlagged, change_view, history_view, rows_of};
 ghost use Rattle.hv_state.specs.inside.Notes.{Before, EndsAt, IsTurned, IsTurnedAt, IsSet};
@@ -13,13 +13,13 @@ ghost use Rattle.hv_state.specs.Changes.{told, Tells, TrueAfter};
 use crate::atom::AtomView;
 use crate::bits::{has_bit, raise};
 use crate::facts::Facts;
-use crate::guesses::{Guesses, hash_of};
-use crate::rows::{Row, compare, guesses_of};
+use crate::find::{HasRow, guesses_of, look_up};
+use crate::guesses::Guesses;
+use crate::rows::Row;
 use crate::state::State;
 use hv_text::Memory;
 use hv_world::PredicateId;
 use std::alloc::Global;
-use std::cmp::Ordering;
 use std::marker::Model;
 
 /// From an index on an atom is true, or false.
@@ -45,8 +45,17 @@ pub(crate) struct Changes {
     flags: Vec<u64>,
 }
 
+impl HasRow for History {
+    ghost numbers = { λ h. h.row.numbers.items };
+
+    fn row(&self) -> &[usize] {
+        self.row.numbers.as_slice()
+    }
+}
+
 impl Model for Changes {
     ghost use Rattle.std.specs.Prelude.{ℕ, Bool, List, map};
+    ghost use Rattle.hv_state.specs.inside.Hashes.{TellRows};
     ghost use Rattle.hv_state.specs.inside.Histories.{history_view, rows_of, IsTable, AreFlagged};
 
     ghost Value = { List (List ℕ × List (ℕ × Bool)) };
@@ -54,40 +63,8 @@ impl Model for Changes {
     ghost view = { λ c. map history_view c.list.items };
 
     ghost invariant = { λ c. IsTable (map history_view c.list.items)
-        × AreFlagged c.flags.items (rows_of (map history_view c.list.items)) };
-}
-
-// Where the history of an atom stands, or where it would: by halving.
-fn find_history(list: &[History], atom: &AtomView<'_>) -> Result<usize, usize>
-    requires { Ascend (rows_of (map history_view list.now)) }
-    ensures { IsPlace (rows_of (map history_view list.now)) (row_of (atom_read atom.now)) result }
-{
-    list.binary_search_by(|history| compare(history.row.as_slice(), atom))
-}
-
-// Whether the history of an atom stands at a place.
-fn is_history_at(list: &[History], place: usize, atom: &AtomView<'_>) -> bool
-    ensures { IsTrue result →
-        IsPlace (rows_of (map history_view list.now)) (row_of (atom_read atom.now)) (Ok place) }
-{
-    match list.get(place) {
-        Some(history) => matches!(compare(history.row.as_slice(), atom), Ordering::Equal),
-        None => false,
-    }
-}
-
-// Where the history of an atom stands, or where it would: at one of the guesses, or found by halving.
-fn look_up_history(list: &[History], guesses: &Guesses, atom: &AtomView<'_>) -> Result<usize, usize>
-    requires { Ascend (rows_of (map history_view list.now)) }
-    ensures { IsPlace (rows_of (map history_view list.now)) (row_of (atom_read atom.now)) result }
-{
-    for guess in guesses.of(hash_of(atom)) {
-        let place = *guess as usize;
-        if is_history_at(list, place, atom) {
-            return Ok(place);
-        }
-    }
-    find_history(list, atom)
+        × AreFlagged c.flags.items (rows_of (map history_view c.list.items))
+        × TellRows c.guesses.buckets.items (rows_of (map history_view c.list.items)) };
 }
 
 // What the last change up to an index says: by halving.
@@ -207,9 +184,9 @@ impl Changes {
         if !self.has_some_of(atom.predicate) {
             return &[];
         }
-        match look_up_history(&self.list, &self.guesses, atom) {
-            Ok(place) => &self.list[place].changes,
-            Err(_) => &[],
+        match look_up(&self.list, &self.guesses, atom) {
+            Some(place) => &self.list[place].changes,
+            None => &[],
         }
     }
 
@@ -254,7 +231,7 @@ impl Changes {
         ensures { IfOk result (λ _. IsSet (S.atoms first.now)
             (λ g. atom_read atom.now ≡ g) from is_true self.old self.new) }
     {
-        if let Ok(place) = look_up_history(&self.list, &self.guesses, atom) {
+        if let Some(place) = look_up(&self.list, &self.guesses, atom) {
             if says(&self.list[place].changes, first, atom) != is_true {
                 turn_at(&mut self.list, place, Change { from, is_true })?;
             }

@@ -1,58 +1,96 @@
-//! Where an atom, or an action, may stand in a list, guessed by a hash of its numbers.
+//! Where an atom, or an action, stands in a list, by a hash of its numbers.
+
+ghost use Rattle.std.specs.Prelude.{◌≡◌, ◌<◌, fold, [], length, slice_get, Some, MatchOption};
+ghost use Rattle.hv_world.specs.Bindings.{objects_in};
+ghost use Rattle.hv_state.specs.Atoms.{atom_read};
+ghost use Rattle.hv_state.specs.inside.Hashes.{mix, hash, bucket, HasRoom, IsPut, IsNoted};
+ghost use Rattle.hv_state.specs.inside.Rows.{row_of, objects_with};
 
 use crate::atom::{AtomView, Objects, object_of};
 use hv_text::Memory;
 use hv_world::{Binding, GroundAction, Term};
 use std::alloc::Global;
 
-/// Guesses of places in a list, a few for each hash. A guess is looked at before it is taken, and
-/// what has none is found in another way. So no answer hangs on a guess, and where a text makes hashes
-/// collide, no more than four of them are looked at.
+/// Numbers of places in a list, counted from 1, four at most for each hash; 0 stands where there is
+/// room for one more. A number is looked at before it is taken. What has none is not in the list
+/// where there is room, and else is looked for in another way: so nothing hangs on the hash, and where
+/// a text makes hashes collide, no more than four places are looked at for one.
 #[derive(Drop)]
 pub(crate) struct Guesses {
-    places: Vec<[u32; 4]>,
+    pub(crate) buckets: Vec<[u32; 4]>,
 }
 
-// No list has so many places.
-const NOWHERE: u32 = u32::MAX;
-
 impl Guesses {
-    /// No guesses yet, and room for those of so many places.
-    pub(crate) fn with_room(alloc: Global, count: usize) -> Result<Guesses, Memory> {
-        let mut places = Vec::new(alloc);
-        places.resize(count / 2 + 1, [NOWHERE; 4])?;
-        Ok(Guesses { places })
+    /// No numbers, and no room for any.
+    pub(crate) fn none(alloc: Global) -> Guesses
+        ensures { result.buckets.items ≡ [] }
+    {
+        Guesses {
+            buckets: Vec::new(alloc),
+        }
     }
 
-    /// The places where what has this hash may stand.
-    pub(crate) fn of(&self, hash: usize) -> &[u32] {
-        match self.places.get(hash % self.places.len().max(1)) {
-            Some(places) => places,
+    /// No numbers yet, and room for those of so many places.
+    pub(crate) fn with_room(alloc: Global, count: usize) -> Result<Guesses, Memory> {
+        let mut buckets = Vec::new(alloc);
+        buckets.resize(count / 2 + 1, [0; 4])?;
+        Ok(Guesses { buckets })
+    }
+
+    /// The numbers of the places where what has this hash may stand.
+    pub(crate) fn of(&self, hash: usize) -> &[u32]
+        ensures { result.now ≡ bucket self.now.buckets.items hash }
+    {
+        match self.buckets.get(hash % self.buckets.len().max(1)) {
+            Some(numbers) => numbers,
             None => &[],
         }
     }
 
-    /// Notes where something of this hash stands, if there is room for it.
-    pub(crate) fn note(&mut self, hash: usize, place: u32) {
-        let begin = hash % self.places.len().max(1);
-        if let Some(places) = self.places.get_mut(begin) {
-            for free in places {
-                if *free == NOWHERE {
-                    *free = place;
-                    return;
-                }
-            }
+    /// Notes the number of the place where something of this hash stands, if there is room for it.
+    pub(crate) fn note(&mut self, hash: usize, number: u32)
+        ensures { IsNoted self.old.buckets.items hash number self.new.buckets.items }
+    {
+        let turn = hash % self.buckets.len().max(1);
+        if let Some(numbers) = self.buckets.get_mut(turn) {
+            put(numbers, number);
         }
     }
 }
 
+// Where there is room for one more number.
+fn room_in(numbers: &[u32; 4]) -> Option<usize>
+    ensures { MatchOption result (HasRoom numbers.now → ⊥)
+        (λ i. (i < length numbers.now) × (slice_get numbers.now i ≡ Some 0)) }
+{
+    for (place, number) in numbers.iter().enumerate() {
+        if *number == 0 {
+            return Some(place);
+        }
+    }
+    None
+}
+
+// Puts a number where there is room.
+fn put(numbers: &mut [u32; 4], number: u32)
+    ensures { IsPut numbers.old number numbers.new }
+{
+    if let Some(room) = room_in(numbers) {
+        numbers[room] = number;
+    }
+}
+
 // Takes one more number into a hash.
-fn mixed(hash: u64, number: usize) -> u64 {
+fn mixed(hash: u64, number: usize) -> u64
+    ensures { result ≡ mix hash number }
+{
     (hash.rotate_left(5) ^ number as u64).wrapping_mul(0x9e37_79b9_7f4a_7c15)
 }
 
 // Takes numbers into a hash.
-fn mixed_all(hash: u64, numbers: &[usize]) -> u64 {
+fn mixed_all(hash: u64, numbers: &[usize]) -> u64
+    ensures { result ≡ fold mix hash numbers.now }
+{
     let mut mixed_so_far = hash;
     for number in numbers {
         mixed_so_far = mixed(mixed_so_far, *number);
@@ -61,7 +99,9 @@ fn mixed_all(hash: u64, numbers: &[usize]) -> u64 {
 }
 
 // Takes the objects of terms into a hash.
-fn mixed_terms(hash: u64, terms: &[Term], binding: &Binding<'_>) -> u64 {
+fn mixed_terms(hash: u64, terms: &[Term], binding: &Binding<'_>) -> u64
+    ensures { result ≡ fold mix hash (objects_with binding.now terms.now) }
+{
     let mut mixed_so_far = hash;
     for term in terms {
         mixed_so_far = mixed(mixed_so_far, object_of(binding, *term).0);
@@ -70,13 +110,22 @@ fn mixed_terms(hash: u64, terms: &[Term], binding: &Binding<'_>) -> u64 {
 }
 
 /// A hash of the numbers of an atom.
-pub(crate) fn hash_of(atom: &AtomView<'_>) -> usize {
+pub(crate) fn hash_of(atom: &AtomView<'_>) -> usize
+    ensures { result ≡ hash (row_of (atom_read atom.now)) }
+{
     let begun = mixed(0, atom.predicate.0);
     let hash = match atom.objects {
         Objects::OfTerms(terms, binding) => mixed_terms(begun, terms, binding),
         Objects::Given(numbers) => mixed_all(begun, numbers),
     };
     (hash >> 32) as usize
+}
+
+/// The same of a row.
+pub(crate) fn hash_of_row(row: &[usize]) -> usize
+    ensures { result ≡ hash row.now }
+{
+    (mixed_all(0, row) >> 32) as usize
 }
 
 /// A hash of the numbers of an action and its objects.

@@ -8,6 +8,7 @@ mod bits;
 mod changes;
 mod evaluate;
 mod facts;
+mod find;
 mod ground;
 mod guesses;
 mod lanes;

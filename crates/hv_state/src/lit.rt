@@ -7,7 +7,8 @@ ghost use Rattle.hv_state.specs.inside.Bits.{Has, Knows, AreBits, AreThoseLit};
 ghost use Rattle.hv_state.specs.inside.Bits.{IsLit, IsDark, AreLit, AreDark, AreLacking};
 
 use crate::bits::{clear_bit, has_bit, set_bit};
-use crate::rows::{Row, place};
+use crate::find::{HasRow, place};
+use crate::rows::Row;
 use hv_text::Memory;
 use std::alloc::Global;
 
@@ -29,7 +30,7 @@ pub(crate) fn lacking(alloc: Global, rows: &[Row], more: &[Row]) -> Result<Vec<R
 {
     let mut new = Vec::new(alloc);
     for row in more {
-        if !has_row(rows, row.as_slice()) {
+        if !has_row(rows, row.row()) {
             new.push(row.copy()?)?;
         }
     }
@@ -67,7 +68,7 @@ pub(crate) fn set_all(rows: &[Row], words: &mut Vec<u64>, more: &[Row])
     ensures len { length words.new.items ≡ length words.old.items }
 {
     for row in more {
-        set(rows, words, row.as_slice());
+        set(rows, words, row.row());
     }
 }
 
@@ -78,7 +79,7 @@ pub(crate) fn clear_all(rows: &[Row], words: &mut Vec<u64>, gone: &[Row])
     ensures len { length words.new.items ≡ length words.old.items }
 {
     for row in gone {
-        clear(rows, words, row.as_slice());
+        clear(rows, words, row.row());
     }
 }
 
@@ -109,7 +110,7 @@ pub(crate) fn knows_all(rows: &[Row], more: &[Row]) -> bool
     ensures { IsTrue result → Knows (rows_in rows.now) (rows_in more.now) }
 {
     for row in more {
-        if !has_row(rows, row.as_slice()) {
+        if !has_row(rows, row.row()) {
             return false;
         }
     }

@@ -1,15 +1,15 @@
 //! Sorted lists of atoms, each as a row of numbers: its predicate's, and then its objects'.
 
-ghost use Rattle.std.specs.Prelude.{◌≡◌, ◌++◌, ◌∷◌, Ok, IsTrue, IfOk};
+ghost use Rattle.std.specs.Prelude.{◌≡◌, ◌++◌, ◌∷◌, IfOk};
 ghost use Rattle.std.specs.Ordering.{nat_cmp};
 ghost use Rattle.std.specs.Cmp.Lexicographic.{slice_cmp};
 ghost use Rattle.hv_state.specs.Atoms.{objects_read, atom_read};
 ghost use Rattle.hv_state.specs.inside.Rows.{row_of, atom_of, rows_in, rows_with};
 ghost use Rattle.hv_state.specs.inside.Rows.{objects_with, HaveCome};
-ghost use Rattle.hv_state.specs.inside.Rows.{Ascend, IsPlace, HasSameRows};
+ghost use Rattle.hv_state.specs.inside.Rows.{Ascend, HasSameRows};
 
 use crate::atom::{AtomView, Objects, object_of};
-use crate::guesses::{Guesses, hash_of};
+use crate::find::HasRow;
 use hv_text::Memory;
 use hv_world::{Atom, Binding, PredicateId, Term};
 use smallvec::SmallVec;
@@ -22,19 +22,20 @@ pub(crate) struct Row {
     pub(crate) numbers: SmallVec<usize, 4>,
 }
 
+impl HasRow for Row {
+    ghost numbers = { λ r. r.numbers.items };
+
+    fn row(&self) -> &[usize] {
+        self.numbers.as_slice()
+    }
+}
+
 impl Row {
     /// The atom of the row.
     pub(crate) fn atom(&self) -> AtomView<'_>
         ensures { atom_read result ≡ atom_of self.now.numbers.items }
     {
         atom_in(self.numbers.as_slice())
-    }
-
-    /// The numbers of the row.
-    pub(crate) fn as_slice(&self) -> &[usize]
-        ensures { result.now ≡ self.now.numbers.items }
-    {
-        self.numbers.as_slice()
     }
 
     /// The same row once more.
@@ -104,58 +105,6 @@ pub(crate) fn compare(row: &[usize], atom: &AtomView<'_>) -> Ordering
             other => other,
         },
     }
-}
-
-// Where the row of an atom stands, or where it would: by halving.
-fn find(rows: &[Row], atom: &AtomView<'_>) -> Result<usize, usize>
-    requires { Ascend (rows_in rows.now) }
-    ensures { IsPlace (rows_in rows.now) (row_of (atom_read atom.now)) result }
-{
-    rows.binary_search_by(|row| compare(row.as_slice(), atom))
-}
-
-// Whether the row of an atom stands at a place.
-fn stands_at(rows: &[Row], place: usize, atom: &AtomView<'_>) -> bool
-    ensures { IsTrue result →
-        IsPlace (rows_in rows.now) (row_of (atom_read atom.now)) (Ok place) }
-{
-    match rows.get(place) {
-        Some(row) => matches!(compare(row.as_slice(), atom), Ordering::Equal),
-        None => false,
-    }
-}
-
-/// Where the row of an atom stands, or where it would: at one of the guesses, or found by halving.
-pub(crate) fn look_up(rows: &[Row], guesses: &Guesses, atom: &AtomView<'_>) -> Result<usize, usize>
-    requires { Ascend (rows_in rows.now) }
-    ensures { IsPlace (rows_in rows.now) (row_of (atom_read atom.now)) result }
-{
-    for guess in guesses.of(hash_of(atom)) {
-        let place = *guess as usize;
-        if stands_at(rows, place, atom) {
-            return Ok(place);
-        }
-    }
-    find(rows, atom)
-}
-
-/// Guesses of where the rows of a list stand.
-pub(crate) fn guesses_of(alloc: Global, rows: &[Row]) -> Result<Guesses, Memory> {
-    let mut guesses = Guesses::with_room(alloc, rows.len())?;
-    for (place, row) in rows.iter().enumerate() {
-        if let Ok(place) = u32::try_from(place) {
-            guesses.note(hash_of(&row.atom()), place);
-        }
-    }
-    Ok(guesses)
-}
-
-/// Where a row stands, or where it would.
-pub(crate) fn place(rows: &[Row], row: &[usize]) -> Result<usize, usize>
-    requires { Ascend (rows_in rows.now) }
-    ensures { IsPlace (rows_in rows.now) row.now result }
-{
-    rows.binary_search_by(|other| other.as_slice().cmp(&row))
 }
 
 // Puts the objects of terms behind other numbers.

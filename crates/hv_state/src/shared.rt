@@ -2,12 +2,11 @@
 
 ghost use Rattle.std.specs.Prelude.{◌≡◌, ◌+◌, ◌<◌, ◌≤◌, length, IfOk};
 ghost use Rattle.std.specs.Vec.{vec_len, vec_capacity};
-ghost use Rattle.hv_state.specs.Atoms.{atom_read};
-ghost use Rattle.hv_state.specs.inside.Rows.{row_of, rows_in, rows_shared, Ascend, IsPlace};
+ghost use Rattle.hv_state.specs.inside.Rows.{rows_in, rows_shared, shared_numbers, Ascend};
 ghost use Rattle.hv_state.specs.inside.Rows.{IsWithout, IsWith, IsWithoutAll, IsWithAll};
 
-use crate::atom::AtomView;
-use crate::rows::{Row, compare};
+use crate::find::{HasRow, place};
+use crate::rows::Row;
 use hv_text::Memory;
 use std::alloc::Global;
 use std::rc::Rc;
@@ -18,29 +17,12 @@ pub(crate) struct SharedRow {
     pub(crate) row: Rc<Row>,
 }
 
-impl SharedRow {
-    // The numbers of the row.
-    fn as_slice(&self) -> &[usize]
-        ensures { result.now ≡ self.now.row.value.numbers.items }
-    {
-        self.row.as_slice()
+impl HasRow for SharedRow {
+    ghost numbers = { shared_numbers };
+
+    fn row(&self) -> &[usize] {
+        self.row.numbers.as_slice()
     }
-}
-
-/// Where the row of an atom stands, or where it would: by halving.
-pub(crate) fn find_shared(rows: &[SharedRow], atom: &AtomView<'_>) -> Result<usize, usize>
-    requires { Ascend (rows_shared rows.now) }
-    ensures { IsPlace (rows_shared rows.now) (row_of (atom_read atom.now)) result }
-{
-    rows.binary_search_by(|row| compare(row.as_slice(), atom))
-}
-
-// Where a row stands, or where it would.
-fn place_shared(rows: &[SharedRow], row: &[usize]) -> Result<usize, usize>
-    requires { Ascend (rows_shared rows.now) }
-    ensures { IsPlace (rows_shared rows.now) row.now result }
-{
-    rows.binary_search_by(|other| other.as_slice().cmp(&row))
 }
 
 // Takes a row out.
@@ -51,7 +33,7 @@ fn remove(rows: &mut Vec<SharedRow>, row: &[usize])
     ensures fewer { vec_len rows.new ≤ vec_len rows.old }
     ensures capacity { vec_capacity rows.new ≡ vec_capacity rows.old }
 {
-    if let Ok(place) = place_shared(rows, row) {
+    if let Ok(place) = place(rows, row) {
         rows.remove(place);
     }
 }
@@ -66,7 +48,7 @@ pub(crate) fn remove_all(rows: &mut Vec<SharedRow>, gone: &[Row])
     ensures capacity { vec_capacity rows.new ≡ vec_capacity rows.old }
 {
     for row in gone {
-        remove(rows, row.as_slice());
+        remove(rows, row.row());
     }
 }
 
@@ -80,7 +62,7 @@ fn put(rows: &mut Vec<SharedRow>, row: SharedRow)
     ensures more { vec_len rows.new ≤ vec_len rows.old + 1 }
     ensures capacity { vec_capacity rows.old ≤ vec_capacity rows.new }
 {
-    if let Err(place) = place_shared(rows, row.as_slice()) {
+    if let Err(place) = place(rows, row.row()) {
         let _put = rows.insert(place, row);
     }
 }

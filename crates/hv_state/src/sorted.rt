@@ -4,9 +4,10 @@ ghost use Rattle.std.specs.Prelude.{ℕ, List};
 ghost use Rattle.hv_state.specs.inside.Rows.{rows_shared, Ascend, Listed};
 
 use crate::atom::AtomView;
+use crate::find::find;
 use crate::ground::GroundAtoms;
 use crate::rows::{rows_of, sort_distinct};
-use crate::shared::{SharedRow, find_shared, put_all, remove_all, share, shared_again};
+use crate::shared::{SharedRow, put_all, remove_all, share, shared_again};
 use crate::state::State;
 use hv_text::Memory;
 use hv_world::{Binding, World};
@@ -43,7 +44,7 @@ impl State for SortedState {
     }
 
     fn holds(&self, atom: &AtomView<'_>) -> bool {
-        find_shared(&self.rows, atom).is_ok()
+        find(&self.rows, atom).is_ok()
     }
 
     fn apply(&mut self, deletes: &GroundAtoms, adds: &GroundAtoms) -> Result<(), Memory> {

@@ -47,7 +47,7 @@ fn is_repeated(actions: &GroundActions, earlier: &[u32], place: usize) -> bool
 {
     let step = actions.at(place);
     for guess in earlier {
-        let before = *guess as usize;
+        let before = (*guess as usize).wrapping_sub(1);
         if before < place && is_same(&actions.at(before), &step) {
             return true;
         }
@@ -74,7 +74,7 @@ fn push_new(
         return Ok(());
     }
     if let Ok(number) = u32::try_from(place) {
-        guesses.note(hash, number);
+        guesses.note(hash, number.saturating_add(1));
     }
     push_touched(rows, world, &step)
 }

@@ -14,7 +14,7 @@ loop-row-preserved c =
     let row = c.row-item.result.numbers.items in
     let rest = rows_in (drop (c.loop-row.row-index + 1) c.args.gone.now) in
     let left = rows_left c.args.gone.now c.loop-row.row-index c.row-item.result c.loop-row-test.true c.row-item.is in
-    let one = subst (λ r. IsDark rows c.loop-row.words.items r c.clear.new.words.items) c.as_slice.ensures c.clear.ensures.dark in
+    let one = subst (λ r. IsDark rows c.loop-row.words.items r c.clear.new.words.items) c.row.ensures c.clear.ensures.dark in
     let before = subst (λ xs. (r : List ℕ) → (now r × (Contains xs r → ⊥)) ↔ Q r) left c.loop-row.invariant.1 in (
       c.clear.ensures.len ∙ c.loop-row.invariant.0,
       cleared_more now (Lit (rows, c.clear.new.words.items)) row rest Q one before,

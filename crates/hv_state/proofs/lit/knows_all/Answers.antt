@@ -12,7 +12,7 @@ loop-row-preserved c =
     let v = c.row-item.result in
     let rest = rows_in (drop (c.loop-row.row-index + 1) c.args.more.now) in
     let left = rows_left c.args.more.now c.loop-row.row-index v c.loop-row-test.true c.row-item.is in
-    let there = subst (Contains rows) c.as_slice.ensures (c.has_row.ensures.0 c.if-not-has_row.false) in
+    let there = subst (Contains rows) c.row.ensures (c.has_row.ensures.0 c.if-not-has_row.false) in
     λ known. c.loop-row.invariant (subst (Knows rows) (sym left) (knows_more rows v.numbers.items rest there known))
 
 pub returns : goal.returns

@@ -19,11 +19,11 @@ loop-row-preserved c =
     let before = subst (IsLackingUpTo rows more new) left c.loop-row.invariant in
     elim c.if-not-has_row.branch [
       | then-not-has_row+in_ok-copy+in_ok-push w ↦
-          let lacks : Contains rows v.numbers.items → ⊥ = λ m. true≢false (sym (c.has_row.ensures.1 (subst (Contains rows) (sym c.as_slice.ensures) m)) ∙ w.if-not-has_row.true) in
+          let lacks : Contains rows v.numbers.items → ⊥ = λ m. true≢false (sym (c.has_row.ensures.1 (subst (Contains rows) (sym c.row.ensures) m)) ∙ w.if-not-has_row.true) in
           let pushed = ap rows_in (ap (λ u. u.items) w.new-is ∙ w.in_ok-push.ensures.items) ∙ map_push (λ (u : Row). u.numbers.items) c.loop-row.new.items w.in_ok-copy.field-0 ∙ ap (λ r. new ++ r ∷ []) w.in_ok-copy.ensures in
           subst (λ xs. IsLackingUpTo rows more xs rest) (sym pushed) (lacks_one_more rows more new rest v.numbers.items before lacks)
       | else-not-has_row w ↦
-          let has = subst (Contains rows) c.as_slice.ensures (c.has_row.ensures.0 w.if-not-has_row.false) in
+          let has = subst (Contains rows) c.row.ensures (c.has_row.ensures.0 w.if-not-has_row.false) in
           let same = ap rows_in (ap (λ u. u.items) w.new-is) in
           subst (λ xs. IsLackingUpTo rows more xs rest) (sym same) (has_one_more rows more new rest v.numbers.items before has)
     ]

@@ -14,7 +14,7 @@ loop-row-preserved c =
     let row = c.row-item.result.numbers.items in
     let rest = rows_in (drop (c.loop-row.row-index + 1) c.args.more.now) in
     let left = rows_left c.args.more.now c.loop-row.row-index c.row-item.result c.loop-row-test.true c.row-item.is in
-    let one = subst (λ r. IsLit rows c.loop-row.words.items r c.set.new.words.items) c.as_slice.ensures c.set.ensures.lit in
+    let one = subst (λ r. IsLit rows c.loop-row.words.items r c.set.new.words.items) c.row.ensures c.set.ensures.lit in
     let before = subst (λ xs. (r : List ℕ) → (now r ⊎ Contains xs r) ↔ Q r) left c.loop-row.invariant.2 in (
       c.set.ensures.len ∙ c.loop-row.invariant.0,
       λ r m. c.loop-row.invariant.1 r (subst (λ xs. Contains xs r) (sym left) (contains_later r row rest m)),

@@ -1,4 +1,4 @@
-use Rattle.std.proofs.Common.{◌≡◌, ◌<◌, ◌+◌, ◌++◌, ◌∷◌, [], List, IfOk, map, get_or, sym, subst, ap, arith, rules, ◌∙◌}
+use Rattle.std.proofs.Common.{◌<◌, ◌+◌, ◌++◌, ◌∷◌, [], List, IfOk, map, get_or, sym, subst, ap, arith, rules, ◌∙◌}
 use Rattle.hv_world.specs.declared.id.TypeId.{TypeId}
 use Rattle.hv_world.specs.Bindings.{atom_under, objects_in}
 use Rattle.hv_world.specs.WorldViews.{world_view}

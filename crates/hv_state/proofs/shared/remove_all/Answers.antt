@@ -8,7 +8,7 @@ pub loop-row-preserved : goal.loop-row-preserved
 loop-row-preserved c =
     let now = rows_shared c.loop-row.rows.items in
     let Q = λ (r : List ℕ). Contains (rows_shared c.args.rows.now.items) r × (Contains (rows_in c.args.gone.now) r → ⊥) in
-    let without = subst (λ r. IsWithout now r (rows_shared c.remove.new.rows.items)) c.as_slice.ensures c.remove.ensures.exact in
+    let without = subst (λ r. IsWithout now r (rows_shared c.remove.new.rows.items)) c.row.ensures c.remove.ensures.exact in
     let before = subst (λ left. (r : List ℕ) → (Contains now r × (Contains left r → ⊥)) ↔ Q r) (rows_left c.args.gone.now c.loop-row.row-index c.row-item.result c.loop-row-test.true c.row-item.is) c.loop-row.invariant.3 in (
       c.remove.ensures.ascend,
       omega (arith, c.remove.ensures.fewer, c.loop-row.invariant.1),

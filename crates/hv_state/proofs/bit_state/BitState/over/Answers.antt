@@ -1,12 +1,26 @@
-use Rattle.std.proofs.Common.{rules, ◌≡◌, ◌++◌, ◌↔◌, List, ℕ, length, sym, subst, ap, ◌∙◌, arith}
+use Rattle.std.proofs.Common.{rules, ◌≡◌, ◌++◌, ◌↔◌, ◌≤◌, ◌*◌, List, ℕ, length, sym, subst, ap, ◌∙◌, arith}
 use Rattle.std.specs.List.{Contains}
 use Rattle.std.specs.Vec.{vec_len}
 use Rattle.std.proofs.lemmas.List.{length-map}
+use Rattle.hv_state.specs.declared.guesses.Guesses.{Guesses}
 use Rattle.hv_state.specs.declared.rows.Row.{Row}
 use Rattle.hv_state.specs.inside.Rows.{rows_in}
-use Rattle.hv_state.specs.inside.Bits.{Lit, Knows, AreDark, AreLacking}
+use Rattle.hv_state.specs.inside.Bits.{Lit, Knows, AreBits, AreDark, AreLacking}
+use Rattle.hv_state.specs.inside.Hashes.{TellRows}
 use Rattle.hv_state.proofs.LitLemmas.{knows_more_rows, lit_but}
 use Rattle.hv_state.proofs.bit_state.BitState.over.Goals as goal
+
+pub invariant_of-result : goal.invariant_of-result
+invariant_of-result c =
+    let rows = ap (λ v. rows_in v.items) c.in_ok-table.ensures.ok in
+    let told = subst (λ vs. TellRows c.in_ok-guesses_of.field-0.buckets.items (rows_in vs)) c.deref-5.ensures.value c.in_ok-guesses_of.ensures in
+    let sorted = rows_in c.merge_distinct.new.rows.items in
+    let words = c.clear_all.new.words.items in
+    let size : vec_len c.merge_distinct.new.rows ≡ length c.merge_distinct.new.rows.items = search rules in
+    let long = length-map c.merge_distinct.new.rows.items (λ (u : Row). u.numbers.items) in
+    let room : length sorted ≤ 64 * length words = omega (arith, c.in_ok-words.ensures.room, c.len.ensures, size, long, c.clear_all.ensures.len) in
+    let bits : AreBits sorted words = record { order = c.in_ok-merge_distinct.ensures.ascend; room = room } in
+    (subst (λ rs. AreBits rs words) (sym rows) bits, subst (λ (guesses : Guesses). TellRows guesses.buckets.items (rows_in c.in_ok-table.table.value.items)) (sym c.in_ok-guesses.ensures.ok) (subst (TellRows c.in_ok-guesses_of.field-0.buckets.items) (sym rows) told))
 
 pub returns-clause-known : goal.returns-clause-known
 returns-clause-known c =

@@ -2,6 +2,7 @@ use Rattle.std.proofs.Common.{rules, ◌≡◌, ◌∙◌, [], ap, sym, subst, m
 use Rattle.std.specs.Vec.{vec_len}
 use Rattle.std.proofs.lemmas.Iterator.Consumers.{YieldsList-end}
 use Rattle.std.proofs.lemmas.Iterator.Adapters.{YieldsList-from_vec}
+use Rattle.hv_state.specs.inside.Hashes.{TellRows}
 use Rattle.hv_state.specs.inside.Rows.{rows_in}
 use Rattle.hv_state.specs.inside.Histories.{AreFlagged, history_view, rows_of}
 use Rattle.hv_state.proofs.GrowLemmas.{empty_table, empty_rows, empty_more, map_self}
@@ -17,8 +18,11 @@ invariant_of-result c =
     let size : vec_len c.args.rows ≡ length c.args.rows.items = search rules in
     let all = sym (map_self c.loop-row.yielded) ∙ (YieldsList-end (YieldsList-from_vec {s = c.into_iter-row-iterator.result} c.args.rows.items given.0 (given.1 ∙ size)) c.loop-row.yielded c.loop-row.row-iterator c.loop-row.yielded_by c.next.result c.next.new.self c.in-None.is c.next.ensures.steps).0 in
     let table = c.loop-row.invariant ∙ ap (λ vs. map (λ row. (row, [])) (rows_in vs)) all in
-    let rows = sym (ap rows_of table ∙ empty_rows (rows_in c.args.rows.items)) in
-    (empty_table (rows_in c.args.rows.items) c.requires (map history_view c.loop-row.list.items) table, subst (AreFlagged c.in_ok-flags.flags.items) rows (subst (λ xs. AreFlagged c.in_ok-flags.flags.items (rows_in xs)) c.deref.ensures.value c.in_ok-flags.ensures))
+    let rows = sym (ap rows_of table ∙ empty_rows (rows_in c.args.rows.items)) in (
+      empty_table (rows_in c.args.rows.items) c.requires (map history_view c.loop-row.list.items) table,
+      subst (AreFlagged c.in_ok-flags.flags.items) rows (subst (λ xs. AreFlagged c.in_ok-flags.flags.items (rows_in xs)) c.deref.ensures.value c.in_ok-flags.ensures),
+      subst (TellRows c.in_ok-guesses.guesses.buckets.items) rows (subst (λ xs. TellRows c.in_ok-guesses.guesses.buckets.items (rows_in xs)) c.deref-2.ensures.value c.in_ok-guesses.ensures),
+    )
 
 pub returns : goal.returns
 returns c =

@@ -1,14 +1,21 @@
-use Rattle.std.proofs.Common.{◌≡◌, ◌<◌, ◌+◌, ◌↔◌, ℕ, [], map, length, get_or, sym, subst, ap, ◌∙◌, IsTrue}
+use Rattle.std.proofs.Common.{◌≡◌, ◌+◌, ◌↔◌, ℕ, Ok, map, sym, subst, ap, ◌∙◌, IsTrue}
+use Rattle.std.specs.List.{Contains}
 use Rattle.hv_state.specs.Atoms.{atom_read}
 use Rattle.hv_state.specs.Changes.{Change, Tells}
-use Rattle.hv_state.specs.inside.Rows.{row_of, IsGap}
-use Rattle.hv_state.specs.inside.Histories.{AreFlagged, change_view, history_view, rows_of}
+use Rattle.hv_state.specs.inside.Hashes.{TellRows}
+use Rattle.hv_state.specs.inside.Rows.{row_of, Ascend, IsPlace}
+use Rattle.hv_state.specs.inside.Histories.{IsTable, AreFlagged, change_view, history_view, rows_of}
 use Rattle.hv_state.specs.inside.Notes.{Before, IsSet}
-use Rattle.hv_state.proofs.RowLemmas.{gap_lacks}
-use Rattle.hv_state.proofs.HistoryLemmas.{changes_beside}
+use Rattle.hv_state.proofs.HistoryLemmas.{numbers, rows_are, found_in, not_found_in, changes_beside}
 use Rattle.hv_state.proofs.GrowLemmas.{turned_table, turned_rows, turned_here, turned_others}
 use Rattle.hv_state.proofs.NoteLemmas.{differ_if, agree_if, set_turned, set_same_atom, set_unknown}
 use Rattle.hv_state.proofs.changes.Changes.set.Goals as goal
+
+pub look_up-requires-clause-ascend : goal.look_up-requires-clause-ascend
+look_up-requires-clause-ascend g c = subst (λ hs. Ascend (map numbers hs)) (sym c.deref.ensures.value) (subst Ascend (rows_are c.self.inside.list.items) c.self.invariant.0.rows)
+
+pub look_up-requires-clause-told : goal.look_up-requires-clause-told
+look_up-requires-clause-told g c = subst (λ hs. TellRows c.self.inside.guesses.buckets.items (map numbers hs)) (sym c.deref.ensures.value) (subst (TellRows c.self.inside.guesses.buckets.items) (rows_are c.self.inside.list.items) c.self.invariant.2)
 
 pub invariant_of-self : goal.invariant_of-self
 invariant_of-self g c =
@@ -16,9 +23,16 @@ invariant_of-self g c =
     let row = row_of (atom_read c.args.atom.now) in
     let change : Change = (c.args.from, c.args.is_true) in
     let new = map history_view c.turn_at.new.list.items in
-    let found = subst (λ xs. (c.in-Ok.place < length (rows_of (map history_view xs))) × (get_or (rows_of (map history_view xs)) c.in-Ok.place [] ≡ row)) c.deref.ensures.value c.in-Ok.ensures in
+    let found = found_in hs row c.in-Some.place (subst (λ xs. IsPlace (map numbers xs) row (Ok c.in-Some.place)) c.deref.ensures.value c.in-Some.ensures) in
     let turned = c.in_ok-turn_at.ensures.ok in
-    (turned_table (map history_view hs) row c.in-Ok.place change new c.self.invariant.0 found.0 found.1 turned, subst (AreFlagged c.self.inside.flags.items) (sym (turned_rows (map history_view hs) row c.in-Ok.place change new c.self.invariant.0 found.0 found.1 turned)) c.self.invariant.1)
+    let rows = sym (turned_rows (map history_view hs) row c.in-Some.place change new c.self.invariant.0 found.0 found.1 turned) in
+    (turned_table (map history_view hs) row c.in-Some.place change new c.self.invariant.0 found.0 found.1 turned, subst (AreFlagged c.self.inside.flags.items) rows c.self.invariant.1, subst (TellRows c.self.inside.guesses.buckets.items) rows c.self.invariant.2)
+
+pub invariant_of-self-in_err-turn_at : goal.invariant_of-self-in_err-turn_at
+invariant_of-self-in_err-turn_at g c =
+    let flags = c.self.inside.flags.items in
+    let buckets = c.self.inside.guesses.buckets.items in
+    subst (λ t. IsTable t × AreFlagged flags (rows_of t) × TellRows buckets (rows_of t)) (sym c.in_err-turn_at.ensures.err) c.self.invariant
 
 pub returns-in_ok-turn_at : goal.returns-in_ok-turn_at
 returns-in_ok-turn_at g c =
@@ -29,13 +43,13 @@ returns-in_ok-turn_at g c =
     let start = g.S.State.atoms c.args.first.now in
     let change : Change = (c.args.from, c.args.is_true) in
     let new = map history_view c.turn_at.new.list.items in
-    let found = subst (λ xs. (c.in-Ok.place < length (rows_of (map history_view xs))) × (get_or (rows_of (map history_view xs)) c.in-Ok.place [] ≡ row)) c.deref.ensures.value c.in-Ok.ensures in
-    let list = ap (map change_view) c.deref-in-Ok.ensures.value ∙ sym (changes_beside hs row c.in-Ok.place c.index.result.now c.self.invariant.0.rows found.0 found.1 c.index.ensures) in
+    let found = found_in hs row c.in-Some.place (subst (λ xs. IsPlace (map numbers xs) row (Ok c.in-Some.place)) c.deref.ensures.value c.in-Some.ensures) in
+    let list = ap (map change_view) c.deref-in-Some.ensures.value ∙ sym (changes_beside hs row c.in-Some.place c.index.result.now c.self.invariant.0.rows found.0 found.1 c.index.ensures) in
     let said = subst (λ cs. (k : ℕ) → Before (k + 1) cs → IsTrue c.says.result ↔ Tells (start atom) k cs) list c.says.ensures in
     let turned = c.in_ok-turn_at.ensures.ok in
-    let rows = turned_rows t row c.in-Ok.place change new c.self.invariant.0 found.0 found.1 turned in
-    let others = turned_others t row c.in-Ok.place change new c.self.invariant.0 found.0 found.1 turned in
-    let here = turned_here t row c.in-Ok.place change new c.self.invariant.0 found.0 found.1 turned in
+    let rows = turned_rows t row c.in-Some.place change new c.self.invariant.0 found.0 found.1 turned in
+    let others = turned_others t row c.in-Some.place change new c.self.invariant.0 found.0 found.1 turned in
+    let here = turned_here t row c.in-Some.place change new c.self.invariant.0 found.0 found.1 turned in
     subst (λ x. IsSet start (λ h. atom ≡ h) c.args.from c.args.is_true x new) c.self.view_is (set_turned start c.args.from c.says.result c.args.is_true atom t new said (differ_if c.says.result c.args.is_true c.if-says-is_true.true) rows others here)
 
 pub returns-else-says-is_true : goal.returns-else-says-is_true
@@ -45,8 +59,8 @@ returns-else-says-is_true g c =
     let atom = atom_read c.args.atom.now in
     let row = row_of atom in
     let start = g.S.State.atoms c.args.first.now in
-    let found = subst (λ xs. (c.in-Ok.place < length (rows_of (map history_view xs))) × (get_or (rows_of (map history_view xs)) c.in-Ok.place [] ≡ row)) c.deref.ensures.value c.in-Ok.ensures in
-    let list = ap (map change_view) c.deref-in-Ok.ensures.value ∙ sym (changes_beside hs row c.in-Ok.place c.index.result.now c.self.invariant.0.rows found.0 found.1 c.index.ensures) in
+    let found = found_in hs row c.in-Some.place (subst (λ xs. IsPlace (map numbers xs) row (Ok c.in-Some.place)) c.deref.ensures.value c.in-Some.ensures) in
+    let list = ap (map change_view) c.deref-in-Some.ensures.value ∙ sym (changes_beside hs row c.in-Some.place c.index.result.now c.self.invariant.0.rows found.0 found.1 c.index.ensures) in
     let said = subst (λ cs. (k : ℕ) → Before (k + 1) cs → IsTrue c.says.result ↔ Tells (start atom) k cs) list c.says.ensures in
     subst (λ x. IsSet start (λ h. atom ≡ h) c.args.from c.args.is_true x x) c.self.view_is (set_same_atom start c.args.from c.says.result c.args.is_true atom t t said (agree_if c.says.result c.args.is_true c.if-says-is_true.false))
 
@@ -55,6 +69,5 @@ returns-in_default g c =
     let hs = c.self.inside.list.items in
     let t = map history_view hs in
     let atom = atom_read c.args.atom.now in
-    let row = row_of atom in
-    let gap = subst (λ xs. IsGap (rows_of (map history_view xs)) row c.in_default.field-0) c.deref.ensures.value c.in_default.ensures in
-    subst (λ x. IsSet (g.S.State.atoms c.args.first.now) (λ h. atom ≡ h) c.args.from c.args.is_true x x) c.self.view_is (set_unknown (g.S.State.atoms c.args.first.now) c.args.from c.args.is_true atom t (gap_lacks (rows_of t) c.in_default.field-0 row gap))
+    let lacks = not_found_in hs (row_of atom) (subst (λ xs. Contains (map numbers xs) (row_of atom) → ⊥) c.deref.ensures.value c.in_default.ensures) in
+    subst (λ x. IsSet (g.S.State.atoms c.args.first.now) (λ h. atom ≡ h) c.args.from c.args.is_true x x) c.self.view_is (set_unknown (g.S.State.atoms c.args.first.now) c.args.from c.args.is_true atom t lacks)

@@ -9,4 +9,4 @@ pub returns : goal.returns
 returns c =
     let row = row_of (atom_read c.args.atom.now) in
     let was : rows_shared c.deref.result.now ≡ c.args.self.now = ap rows_shared c.deref.ensures.value ∙ c.self.view_is in
-    rw (c.is_ok.ensures.value) (subst (λ rows. (is_ok c.find_shared.result ≡ true) ↔ Contains rows row) was (place_tells (rows_shared c.deref.result.now) row c.find_shared.result c.find_shared.ensures))
+    rw (c.is_ok.ensures.value) (subst (λ rows. (is_ok c.find.result ≡ true) ↔ Contains rows row) was (place_tells (rows_shared c.deref.result.now) row c.find.result c.find.ensures))

@@ -1,0 +1,94 @@
+//! Where the row of an atom stands in a list.
+
+ghost use Rattle.std.specs.Prelude.{◌≡◌, ◌↔◌, ℕ, List, Ok, IsTrue, map, MatchOption, IfOk};
+ghost use Rattle.std.specs.List.{Contains};
+ghost use Rattle.hv_state.specs.Atoms.{atom_read};
+ghost use Rattle.hv_state.specs.inside.Hashes.{TellRows};
+ghost use Rattle.hv_state.specs.inside.Rows.{row_of, Ascend, IsPlace};
+
+use crate::atom::AtomView;
+use crate::guesses::{Guesses, hash_of, hash_of_row};
+use crate::rows::compare;
+use hv_text::Memory;
+use std::alloc::Global;
+use std::cmp::Ordering;
+
+/// What has a row, by which lists of it are in order.
+pub(crate) trait HasRow {
+    ghost numbers: { Self → List ℕ };
+
+    /// The numbers of the row.
+    fn row(&self) -> &[usize]
+        ensures { result.now ≡ numbers self.now };
+}
+
+/// Where the row of an atom stands, or where it would: by halving.
+pub(crate) fn find<T: HasRow>(list: &[T], atom: &AtomView<'_>) -> Result<usize, usize>
+    requires { Ascend (map T.numbers list.now) }
+    ensures { IsPlace (map T.numbers list.now) (row_of (atom_read atom.now)) result }
+{
+    list.binary_search_by(|it| compare(it.row(), atom))
+}
+
+/// Where a row stands, or where it would: by halving.
+pub(crate) fn place<T: HasRow>(list: &[T], row: &[usize]) -> Result<usize, usize>
+    requires { Ascend (map T.numbers list.now) }
+    ensures { IsPlace (map T.numbers list.now) row.now result }
+{
+    list.binary_search_by(|it| it.row().cmp(&row))
+}
+
+// Whether the row of an atom stands at a place.
+fn stands_at<T: HasRow>(list: &[T], place: usize, atom: &AtomView<'_>) -> bool
+    ensures { IsTrue result
+        ↔ IsPlace (map T.numbers list.now) (row_of (atom_read atom.now)) (Ok place) }
+{
+    match list.get(place) {
+        Some(it) => matches!(compare(it.row(), atom), Ordering::Equal),
+        None => false,
+    }
+}
+
+/// Where the row of an atom stands, if it does: at one of the guesses; else, where there was no room
+/// for all of them, by halving.
+pub(crate) fn look_up<T: HasRow>(
+    list: &[T],
+    guesses: &Guesses,
+    atom: &AtomView<'_>,
+) -> Option<usize>
+    requires ascend { Ascend (map T.numbers list.now) }
+    requires told { TellRows guesses.now.buckets.items (map T.numbers list.now) }
+    ensures { MatchOption result
+        (Contains (map T.numbers list.now) (row_of (atom_read atom.now)) → ⊥)
+        (λ place. IsPlace (map T.numbers list.now) (row_of (atom_read atom.now)) (Ok place)) }
+{
+    let guessed = guesses.of(hash_of(atom));
+    for number in guessed {
+        let place = (*number as usize).wrapping_sub(1);
+        if stands_at(list, place, atom) {
+            return Some(place);
+        }
+    }
+    match guessed.last() {
+        Some(0) => None,
+        _ => find(list, atom).ok(),
+    }
+}
+
+/// Guesses of where the rows of a list stand.
+///
+/// # Errors
+///
+/// `Memory` where a growth was refused.
+pub(crate) fn guesses_of<T: HasRow>(alloc: Global, list: &[T]) -> Result<Guesses, Memory>
+    ensures { IfOk result (λ g. TellRows g.buckets.items (map T.numbers list.now)) }
+{
+    let mut guesses = Guesses::with_room(alloc, list.len())?;
+    for (place, it) in list.iter().enumerate() {
+        match u32::try_from(place + 1) {
+            Ok(number) => guesses.note(hash_of_row(it.row()), number),
+            Err(_) => return Ok(Guesses::none(alloc)),
+        }
+    }
+    Ok(guesses)
+}
