@@ -215,10 +215,10 @@ def end_of(program, words, folder, watch):
         return (status, read.read()), seconds
 
 
-def kind_of(end, other, seconds, others):
+def kind_of(end, other, seconds, others, longest):
     """What is said of a case: what it is kept for, or how it ended."""
-    if end[0] == "no end" and other[0] == "no end":
-        return "no end of both"
+    if "no end" in (end[0], other[0]) and min(seconds, others) > longest / 10:
+        return "no end of both, or nearly so"
     if isinstance(end[0], int) and end[0] < 0:
         return "SIGNAL"
     if end != other:
@@ -243,7 +243,7 @@ def judge(task):
             out.write(text)
     end, seconds = end_of(arguments.program, [*words, *files], judge.folder, judge.watch)
     other, others = end_of(arguments.other, [*words, *files], judge.folder, judge.watch)
-    kind = kind_of(end, other, seconds, others)
+    kind = kind_of(end, other, seconds, others, arguments.longest)
     if kind.isupper():
         keep(arguments.keep, number, texts, words, [f"{kind} {seconds:.2f} s {others:.2f} s", repr(end), repr(other)])
     return number, kind

@@ -59,7 +59,7 @@ def main():
             for words in (["judge", *files], ["judge", "--explain", *files], ["print-problem", files[1]], ["print-plan", files[2]]):
                 ends, wrong, limit = climb(words)
                 full = to_full_device(words)
-                print(kind, *words[:-3], *(f"{n} {end}" for end, n in sorted(ends.items())), f"answered within {limit // MEGABYTE} MB", sep=", ", flush=True)
+                print(kind, *(it for it in words if it not in files), *(f"{n} {end}" for end, n in sorted(ends.items())), f"answered within {limit // MEGABYTE} MB", sep=", ", flush=True)
                 for it in wrong:
                     print(f"  under {it[0]} MB: {it[1:]}")
                 if full != CANNOT_WRITE:
