@@ -1,36 +1,37 @@
 -- Histories with one change more.
 use Rattle.std.proofs.Common.{◌≡◌, ◌<◌, ◌≤◌, ◌+◌, ◌-◌, ◌++◌, ◌↔◌, ◌⊎◌, inl, inr, ℕ, zero, suc, Bool, true, false, true≢false, bytes_eq, nat_eq, nat_le, List, [], ◌∷◌, length, map, set, get_or, slice_get, Option, Some, None, if◌then◌else◌, refl, sym, ap, ◌∙◌, subst, arith}
 use Rattle.std.specs.Option.{IsSome, option_to_list}
-use Rattle.std.specs.List.{All}
+use Rattle.std.specs.List.{All, Contains}
 use Rattle.std.specs.Cmp.Lexicographic.{bytes_decides}
 use Rattle.std.proofs.lemmas.Bool.{cases_lt}
 use Rattle.std.proofs.lemmas.List.{get_or-map, length-map, length-append, map_push}
+use Rattle.std.proofs.lemmas.List.Elements.{Contains-append_left, Contains-push, Contains-push_cases}
 use Rattle.std.proofs.lemmas.List.Quantifiers.{all_pairs_push}
-use Rattle.hv_state.specs.declared.changes.Change as code
-use Rattle.hv_state.specs.declared.changes.History.{History}
+use Rattle.hv_state.specs.declared.history.Change as code
+use Rattle.hv_state.specs.declared.history.History.{History}
 use Rattle.hv_state.specs.declared.rows.Row.{Row}
 use Rattle.hv_state.specs.inside.Rows.{rows_in, IsBelow, Ascend}
 use Rattle.hv_state.specs.Changes.{Change, told}
-use Rattle.hv_state.specs.inside.Histories.{Table, Rise, IsTable, beside, rows_of, change_view, history_view}
+use Rattle.hv_state.specs.inside.Histories.{Table, Rise, IsTable, beside, rows_of, change_view, in_order, changes_of, history_view, IsNextIn, IsLeast}
 use Rattle.hv_state.specs.inside.Notes.{Before, EndsAt, IsTurned, IsTurnedAt, replaced}
 use Rattle.hv_state.proofs.RowLemmas.{below_itself}
 use Rattle.hv_state.proofs.PlanLemmas.{read_there}
-use Rattle.hv_state.proofs.ChangeLemmas.{is_from}
+use Rattle.hv_state.proofs.ChangeLemmas.{is_from, told_push}
 use Rattle.hv_state.proofs.HistoryLemmas.{if_true, if_false, is_row, no_row, tail_ascends, beside_at, last_is}
 
 -- one of the code's histories
-pub set_replaces : (hs : List History) (i : ℕ) (h new : History) → i < length hs → h ≡ get_or hs i h → new.row ≡ h.row → map history_view (set hs i new) ≡ replaced (map history_view hs) i (map change_view new.changes.items)
+pub set_replaces : (hs : List History) (i : ℕ) (h new : History) → i < length hs → h ≡ get_or hs i h → new.row ≡ h.row → map history_view (set hs i new) ≡ replaced (map history_view hs) i (changes_of new)
 set_replaces [] i h new lt is row = absurd (omega (arith, lt))
 set_replaces (x ∷ hs) zero h new lt is row =
     let rows : new.row.numbers.items ≡ x.row.numbers.items = ap (λ r. r.numbers.items) row ∙ ap (λ (y : History). y.row.numbers.items) is in
-    λ j. (rows j, map change_view new.changes.items) ∷ map history_view hs
+    λ j. (rows j, changes_of new) ∷ map history_view hs
 set_replaces (x ∷ hs) (suc i) h new lt is row = ap (λ es. history_view x ∷ es) (set_replaces hs i h new (omega (arith, lt)) is row)
 
-pub set_same : (hs : List History) (i : ℕ) (h new : History) → i < length hs → h ≡ get_or hs i h → new.row ≡ h.row → map change_view new.changes.items ≡ map change_view h.changes.items → map history_view (set hs i new) ≡ map history_view hs
+pub set_same : (hs : List History) (i : ℕ) (h new : History) → i < length hs → h ≡ get_or hs i h → new.row ≡ h.row → changes_of new ≡ changes_of h → map history_view (set hs i new) ≡ map history_view hs
 set_same [] i h new lt is row e = absurd (omega (arith, lt))
 set_same (x ∷ hs) zero h new lt is row e =
     let rows : new.row.numbers.items ≡ x.row.numbers.items = ap (λ r. r.numbers.items) row ∙ ap (λ (y : History). y.row.numbers.items) is in
-    let lists : map change_view new.changes.items ≡ map change_view x.changes.items = e ∙ ap (λ (y : History). map change_view y.changes.items) is in
+    let lists : changes_of new ≡ changes_of x = e ∙ ap changes_of is in
     λ j. (rows j, lists j) ∷ map history_view hs
 set_same (x ∷ hs) (suc i) h new lt is row e = ap (λ es. history_view x ∷ es) (set_same hs i h new (omega (arith, lt)) is row e)
 
@@ -112,6 +113,52 @@ front_rises cs c rise i j d lt within =
     front_at (y ∷ xs) x zero e h = refl
     front_at (y ∷ xs) x (suc n) e h = front_at xs x n e (omega (arith, h))
 
+is_late : (n k : ℕ) → k < n → nat_le n k ≡ false
+is_late n k lt = grind arith
+
+-- the changes of a history: those before the last one, and the last one
+module _ (h : History) (c : code.Change) (is : h.last ≡ Some c) where
+  abbrev early : List Change
+  early = map change_view h.earlier.items
+
+  pub with_last : changes_of h ≡ early ++ change_view c ∷ []
+  with_last = ap (λ o. map change_view (h.earlier.items ++ option_to_list o)) is ∙ map_push change_view h.earlier.items c
+
+  pub earlier_rises : Rise (changes_of h) → Rise early
+  earlier_rises rise = front_rises early (change_view c) (subst Rise with_last rise)
+
+  pub told_is_last : (k : ℕ) → c.from ≤ k → Some c.is_true ≡ told k (changes_of h)
+  told_is_last k up_to = sym (ap (told k) with_last ∙ told_push None k early (change_view c) ∙ if_true (nat_le c.from k) (Some c.is_true) (told k early) (is_from c.from k up_to))
+
+  pub told_is_earlier : (k : ℕ) → k < c.from → told k early ≡ told k (changes_of h)
+  told_is_earlier k past = sym (ap (told k) with_last ∙ told_push None k early (change_view c) ∙ if_false (nat_le c.from k) (Some c.is_true) (told k early) (is_late c.from k past))
+
+  pub next_is_earlier : (k end j : ℕ) → c.from ≤ k → IsNextIn early k end j → IsNextIn (changes_of h) k end j
+  next_is_earlier k end j up_to next = subst (λ cs. IsNextIn cs k end j) (sym with_last)
+      record {
+        after = next.after;
+        within = next.within;
+        quiet = λ d m past. elim (Contains-push_cases early (change_view c) d m) [ inl l ↦ next.quiet d l past | inr e ↦ (let here = ap (λ (x : Change). x.0) e in absurd (omega (arith, here, up_to, past))) ];
+        change = λ lt. (let (d, m, at) = next.change lt in (d, Contains-append_left early (change_view c ∷ []) d m, at));
+      }
+
+  pub next_is_last : (k end until j : ℕ) → IsLeast c.from end until → IsNextIn early k until j → IsNextIn (changes_of h) k end j
+  next_is_last k end until j (le, le', one) next = subst (λ cs. IsNextIn cs k end j) (sym with_last)
+      record {
+        after = next.after;
+        within = omega (arith, le', next.within);
+        quiet = λ d m past. elim (Contains-push_cases early (change_view c) d m) [ inl l ↦ next.quiet d l past | inr e ↦ (let here = ap (λ (x : Change). x.0) e in let within = next.within in omega (arith, here, le, within)) ];
+        change = λ lt. by lt (cases_lt j until);
+      }
+    where
+      by : j < end → (j < until) ⊎ (until ≤ j) → (d : Change) × Contains (early ++ change_view c ∷ []) d × (d.0 ≡ j)
+      by lt (inl before) = let (d, m, at) = next.change before in (d, Contains-append_left early (change_view c ∷ []) d m, at)
+      by lt (inr behind) = let within = next.within in (change_view c, Contains-push early (change_view c), which lt (omega (arith, behind, within)) one)
+        where
+          which : j < end → j ≡ until → (until ≡ c.from) ⊎ (until ≡ end) → c.from ≡ j
+          which less here (inl e) = omega (arith, here, e)
+          which less here (inr e) = absurd (omega (arith, less, here, e))
+
 -- a change behind those before it
 pub turned_behind : (old new : List Change) (c : Change) → Rise old → Before c.0 old → new ≡ old ++ c ∷ [] → IsTurned c old new
 turned_behind old new c rise room is =
@@ -175,11 +222,11 @@ turned_popped old new n c None long rise (ds, b, is) cut some =
 pub entry_at : (hs : List History) (i : ℕ) (h : History) → i < length hs → h ≡ get_or hs i h → (d : List ℕ × List Change) → get_or (map history_view hs) i d ≡ history_view h
 entry_at hs i h lt is d = get_or-map history_view hs i h d lt ∙ ap history_view (sym is)
 
-pub rises_at : (hs : List History) (i : ℕ) (h : History) → i < length hs → h ≡ get_or hs i h → All (λ e. Rise e.1) (map history_view hs) → Rise (map change_view h.changes.items)
+pub rises_at : (hs : List History) (i : ℕ) (h : History) → i < length hs → h ≡ get_or hs i h → All (λ e. Rise e.1) (map history_view hs) → Rise (changes_of h)
 rises_at hs i h lt is all = subst (λ (e : List ℕ × List Change). Rise e.1) (entry_at hs i h lt is (history_view h)) (all i (history_view h) (omega (arith, lt, length-map hs history_view)))
 
-pub turned_at : (hs : List History) (i : ℕ) (h new : History) (c : Change) → i < length hs → h ≡ get_or hs i h → new.row ≡ h.row → IsTurned c (map change_view h.changes.items) (map change_view new.changes.items) → IsTurnedAt (map history_view hs) i c (map history_view (set hs i new))
-turned_at hs i h new c lt is row turned = (map change_view new.changes.items, set_replaces hs i h new lt is row, λ d. subst (λ (e : List ℕ × List Change). IsTurned c e.1 (map change_view new.changes.items)) (sym (entry_at hs i h lt is d)) turned)
+pub turned_at : (hs : List History) (i : ℕ) (h new : History) (c : Change) → i < length hs → h ≡ get_or hs i h → new.row ≡ h.row → IsTurned c (changes_of h) (changes_of new) → IsTurnedAt (map history_view hs) i c (map history_view (set hs i new))
+turned_at hs i h new c lt is row turned = (changes_of new, set_replaces hs i h new lt is row, λ d. subst (λ (e : List ℕ × List Change). IsTurned c e.1 (changes_of new)) (sym (entry_at hs i h lt is d)) turned)
 
 pub empty_ends : (k : ℕ) → EndsAt k [] → ⊥
 empty_ends k (ds, b, e) = let h : 0 ≡ length (ds ++ (k, b) ∷ []) = ap length e in omega (arith, h, snoc_length ds (k, b))
@@ -250,7 +297,7 @@ pub empty_table : (rows : List (List ℕ)) → Ascend rows → (t : Table) → t
 empty_table rows ascend t e = subst IsTable (sym e) (record { rows = subst Ascend (sym (empty_rows rows)) ascend; lists = λ i d lt. subst Rise (sym (empty_lists rows i d lt)) (λ a b f before inside. absurd (omega (arith, inside))) })
 
 -- one history more, without changes
-pub empty_more : (hs : List History) (vs : List Row) (h : History) → map history_view hs ≡ map (λ r. (r, [])) (rows_in vs) → h.changes.items ≡ [] → map history_view (hs ++ h ∷ []) ≡ map (λ r. (r, [])) (rows_in (vs ++ h.row ∷ []))
+pub empty_more : (hs : List History) (vs : List Row) (h : History) → map history_view hs ≡ map (λ r. (r, [])) (rows_in vs) → in_order h ≡ [] → map history_view (hs ++ h ∷ []) ≡ map (λ r. (r, [])) (rows_in (vs ++ h.row ∷ []))
 empty_more hs vs h e none =
     let row = h.row.numbers.items in
     map_push history_view hs h ∙ (λ j. e j ++ (row, ap (map change_view) none j) ∷ []) ∙ sym (ap (map (λ r. (r, []))) (map_push (λ (v : Row). v.numbers.items) vs h.row) ∙ map_push (λ r. (r, [])) (rows_in vs) row)

@@ -5,13 +5,13 @@ use Rattle.std.specs.List.Sorted.{IsNonDecreasingBy, IsPartitionPoint}
 use Rattle.std.specs.Cmp.Lexicographic.{bytes_decides}
 use Rattle.std.proofs.lemmas.Bool.{cases_lt}
 use Rattle.std.proofs.lemmas.List.{get_or-map, get_or_default, length-map}
-use Rattle.hv_state.specs.declared.changes.Change as code
-use Rattle.hv_state.specs.declared.changes.History.{History}
+use Rattle.hv_state.specs.declared.history.Change as code
+use Rattle.hv_state.specs.declared.history.History.{History}
 use Rattle.hv_world.specs.Bindings.{GroundAtom}
 use Rattle.hv_state.specs.inside.Bits.{Has}
 use Rattle.hv_state.specs.inside.Rows.{row_of, atom_of, IsBelow, Ascend, IsPlace}
 use Rattle.hv_state.specs.Changes.{Change, told_from, told}
-use Rattle.hv_state.specs.inside.Histories.{Table, Rise, beside, rows_of, change_view, history_view, kept, AreFlagged}
+use Rattle.hv_state.specs.inside.Histories.{Table, Rise, beside, rows_of, change_view, changes_of, history_view, kept, AreFlagged}
 use Rattle.hv_state.proofs.RowLemmas.{below_itself, contains_cases, contains_none}
 
 -- the rows of histories
@@ -128,10 +128,10 @@ module _ (hs : List History) (row : List ℕ) (i : ℕ) (h : History) (ascend : 
   pub entry : get_or (map history_view hs) i (history_view h) ≡ history_view h
   entry = get_or-map history_view hs i h (history_view h) (omega (arith, in_views, length-map hs history_view)) ∙ ap history_view (sym is)
 
-  pub changes_beside : beside (map history_view hs) row ≡ map change_view h.changes.items
+  pub changes_beside : beside (map history_view hs) row ≡ changes_of h
   changes_beside = beside_at (map history_view hs) row i (history_view h) ascend in_views at ∙ ap (λ e. e.1) entry
 
-  pub list_rises : All (λ e. Rise e.1) (map history_view hs) → Rise (map change_view h.changes.items)
+  pub list_rises : All (λ e. Rise e.1) (map history_view hs) → Rise (changes_of h)
   list_rises all = subst (λ e. Rise e.1) entry (all i (history_view h) in_views)
 
 -- a predicate without its flag has no changes

@@ -10,7 +10,7 @@ use Rattle.hv_world.specs.Bindings.{GroundAtom}
 use Rattle.hv_world.specs.Types.{Typing}
 use Rattle.hv_world.specs.Values.{formulas_of}
 use Rattle.hv_world.specs.Views.{formula_view}
-use Rattle.hv_state.specs.declared.changes.Change as code
+use Rattle.hv_state.specs.declared.history.Change as code
 use Rattle.hv_state.specs.Atoms.{Atoms}
 use Rattle.hv_state.specs.Truth.{True}
 use Rattle.hv_state.specs.Plans.{Plan, StateAt}

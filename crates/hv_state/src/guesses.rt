@@ -30,10 +30,11 @@ impl Guesses {
         }
     }
 
-    /// No numbers yet, and room for those of so many places.
+    /// No numbers yet, and room for those of so many places: on the average twice as much. What has
+    /// every second hash, or every third, fifth or seventh, spreads as well as what has each.
     pub(crate) fn with_room(alloc: Global, count: usize) -> Result<Guesses, Memory> {
         let mut buckets = Vec::new(alloc);
-        buckets.resize(count / 2 + 1, [0; 4])?;
+        buckets.resize(count / 420 * 210 + 211, [0; 4])?;
         Ok(Guesses { buckets })
     }
 
@@ -80,11 +81,13 @@ fn put(numbers: &mut [u32; 4], number: u32)
     }
 }
 
-// Takes one more number into a hash.
+// Takes one more number into a hash. It is added to what the numbers before it are scattered to, so
+// that atoms which differ in their last object alone, and are asked for one after another in the
+// order of these objects, have their guesses side by side.
 fn mixed(hash: u64, number: usize) -> u64
     ensures { result ≡ mix hash number }
 {
-    (hash.rotate_left(5) ^ number as u64).wrapping_mul(0x9e37_79b9_7f4a_7c15)
+    (hash.wrapping_mul(0x9e37_79b9_7f4a_7c15) >> 32).wrapping_add(number as u64)
 }
 
 // Takes numbers into a hash.
@@ -118,14 +121,14 @@ pub(crate) fn hash_of(atom: &AtomView<'_>) -> usize
         Objects::OfTerms(terms, binding) => mixed_terms(begun, terms, binding),
         Objects::Given(numbers) => mixed_all(begun, numbers),
     };
-    (hash >> 32) as usize
+    hash as usize
 }
 
 /// The same of a row.
 pub(crate) fn hash_of_row(row: &[usize]) -> usize
     ensures { result ≡ hash row.now }
 {
-    (mixed_all(0, row) >> 32) as usize
+    mixed_all(0, row) as usize
 }
 
 /// A hash of the numbers of an action and its objects.
@@ -134,5 +137,5 @@ pub(crate) fn hash_of_action(step: &GroundAction<'_>) -> usize {
     for object in step.objects() {
         hash = mixed(hash, object.0);
     }
-    (hash >> 32) as usize
+    hash as usize
 }

@@ -11,6 +11,7 @@ mod facts;
 mod find;
 mod ground;
 mod guesses;
+mod history;
 mod lanes;
 mod laws;
 mod lit;

@@ -7,7 +7,8 @@ ghost use Rattle.hv_state.specs.inside.Parts.{IsStill, AreStill};
 ghost use Rattle.hv_state.specs.inside.Histories.{IsNext};
 
 use crate::atom::AtomView;
-use crate::changes::{Changes, least};
+use crate::changes::Changes;
+use crate::history::least;
 use hv_world::{Binding, Formula, TypeId, World};
 
 // Whether an action may touch an atom that a formula speaks of: one of a predicate in it. No object

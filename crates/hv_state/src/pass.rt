@@ -20,7 +20,7 @@ use hv_world::{Binding, GroundAction, World};
 #[derive(Clone, Copy)]
 struct Note<'a, S: State> {
     first: &'a S,
-    from: usize,
+    from: u32,
     is_true: bool,
 }
 
@@ -37,6 +37,11 @@ impl<S: State> Take for Note<'_, S> {
 
 /// Does an action where it is applicable, notes what it changes from an index on, and says whether
 /// it was. What is true before it is what the changes so far tell.
+///
+/// # Errors
+///
+/// `Memory` where a growth was refused, or the index does not fit into 32 bits: changes at so many
+/// indices are not kept.
 pub(crate) fn pass<S: State>(
     world: &World<'_>,
     step: &GroundAction<'_>,
@@ -65,6 +70,9 @@ pub(crate) fn pass<S: State>(
     if !evaluate(world, &before, action.precondition(), &objects) {
         return Ok(false);
     }
+    let Ok(from) = u32::try_from(from) else {
+        return Err(Memory);
+    };
     let gone = Note {
         first,
         from,

@@ -1,14 +1,13 @@
 -- Where rows stand in a list, by hashes of them.
-use Rattle.std.specs.Prelude.{ℕ, suc, ◌<◌, ◌*◌, ◌/◌, ◌%◌, ◌^◌, max, bit_xor, fold, List, [], length, slice_get, slice_index_or, Some, None}
-use Rattle.std.specs.Int.{w64, rotate_left}
+use Rattle.std.specs.Prelude.{ℕ, suc, ◌<◌, ◌+◌, ◌*◌, ◌/◌, ◌%◌, ◌^◌, max, fold, List, [], length, slice_get, slice_index_or, Some, None}
 use Rattle.std.specs.List.{Contains}
 
 -- one more number taken into a hash, and the hash of numbers
 abbrev pub mix : ℕ → ℕ → ℕ
-mix h n = (bit_xor (rotate_left w64 h 5) n * 11400714819323198485) % 2 ^ 64
+mix h n = ((h * 11400714819323198485) % 2 ^ 64 / 2 ^ 32 + n) % 2 ^ 64
 
 abbrev pub hash : List ℕ → ℕ
-hash ns = fold mix 0 ns / 2 ^ 32
+hash ns = fold mix 0 ns
 
 -- which of the lists belongs to a hash, and what stands there
 abbrev pub turn_of : List (List ℕ) → ℕ → ℕ

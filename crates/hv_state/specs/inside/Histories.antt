@@ -1,12 +1,12 @@
 -- The changes of atoms as the code keeps them, and the next of them.
-use Rattle.std.specs.Prelude.{◌≡◌, ℕ, ◌<◌, ◌≤◌, ◌⊎◌, List, [], ◌∷◌, map, bytes_eq, AllPairs, All, if◌then◌else◌}
+use Rattle.std.specs.Prelude.{◌≡◌, ℕ, ◌<◌, ◌≤◌, ◌⊎◌, List, [], ◌∷◌, ◌++◌, map, bytes_eq, option_to_list, AllPairs, All, if◌then◌else◌}
 use Rattle.std.specs.List.{Contains}
 use Rattle.hv_world.specs.Bindings.{GroundAtom}
 use Rattle.hv_state.specs.Changes.{Change}
 use Rattle.hv_state.specs.inside.Bits.{Has}
 use Rattle.hv_state.specs.inside.Rows.{row_of, atom_of, Ascend}
-use Rattle.hv_state.specs.declared.changes.Change as code_change
-use Rattle.hv_state.specs.declared.changes.History as code_history
+use Rattle.hv_state.specs.declared.history.Change as code_change
+use Rattle.hv_state.specs.declared.history.History as code_history
 
 -- the rows of atoms, and beside each the changes of its atom
 abbrev pub Table : Type 0
@@ -34,8 +34,15 @@ pub record IsTable (t : Table) : Type 0 where
 abbrev pub change_view : code_change.Change → Change
 change_view c = (c.from, c.is_true)
 
+-- the changes of a history: the last one stands behind those before it
+abbrev pub in_order : code_history.History → List code_change.Change
+in_order h = h.earlier.items ++ option_to_list h.last
+
+abbrev pub changes_of : code_history.History → List Change
+changes_of h = map change_view (in_order h)
+
 abbrev pub history_view : code_history.History → List ℕ × List Change
-history_view h = (h.row.numbers.items, map change_view h.changes.items)
+history_view h = (h.row.numbers.items, changes_of h)
 
 -- each predicate of these rows has its bit
 abbrev pub AreFlagged : List ℕ → List (List ℕ) → Type 0

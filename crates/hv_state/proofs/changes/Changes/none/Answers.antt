@@ -1,4 +1,4 @@
-use Rattle.std.proofs.Common.{rules, ◌≡◌, ◌∙◌, [], ap, sym, subst, map, length}
+use Rattle.std.proofs.Common.{rules, ◌≡◌, ◌∙◌, ◌++◌, [], ap, sym, subst, map, length}
 use Rattle.std.specs.Vec.{vec_len}
 use Rattle.std.proofs.lemmas.Iterator.Consumers.{YieldsList-end}
 use Rattle.std.proofs.lemmas.Iterator.Adapters.{YieldsList-from_vec}
@@ -10,7 +10,7 @@ use Rattle.hv_state.proofs.changes.Changes.none.Goals as goal
 
 pub loop-row-preserved : goal.loop-row-preserved
 loop-row-preserved c =
-    ap (map history_view) c.in_ok-push.ensures.items ∙ empty_more c.loop-row.list.items c.loop-row.yielded _ c.loop-row.invariant (ap (λ v. v) c.new.ensures.items)
+    ap (map history_view) c.in_ok-push.ensures.items ∙ empty_more c.loop-row.list.items c.loop-row.yielded _ c.loop-row.invariant (ap (λ v. v ++ []) c.new.ensures.items)
 
 pub invariant_of-result : goal.invariant_of-result
 invariant_of-result c =

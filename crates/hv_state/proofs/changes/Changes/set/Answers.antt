@@ -1,10 +1,10 @@
-use Rattle.std.proofs.Common.{◌≡◌, ◌+◌, ◌↔◌, ℕ, Ok, map, sym, subst, ap, ◌∙◌, IsTrue}
+use Rattle.std.proofs.Common.{◌≡◌, ◌+◌, ◌↔◌, ℕ, Ok, map, sym, subst, IsTrue}
 use Rattle.std.specs.List.{Contains}
 use Rattle.hv_state.specs.Atoms.{atom_read}
 use Rattle.hv_state.specs.Changes.{Change, Tells}
 use Rattle.hv_state.specs.inside.Hashes.{TellRows}
 use Rattle.hv_state.specs.inside.Rows.{row_of, Ascend, IsPlace}
-use Rattle.hv_state.specs.inside.Histories.{IsTable, AreFlagged, change_view, history_view, rows_of}
+use Rattle.hv_state.specs.inside.Histories.{IsTable, AreFlagged, history_view, rows_of}
 use Rattle.hv_state.specs.inside.Notes.{Before, IsSet}
 use Rattle.hv_state.proofs.HistoryLemmas.{numbers, rows_are, found_in, not_found_in, changes_beside}
 use Rattle.hv_state.proofs.GrowLemmas.{turned_table, turned_rows, turned_here, turned_others}
@@ -44,7 +44,7 @@ returns-in_ok-turn_at g c =
     let change : Change = (c.args.from, c.args.is_true) in
     let new = map history_view c.turn_at.new.list.items in
     let found = found_in hs row c.in-Some.place (subst (λ xs. IsPlace (map numbers xs) row (Ok c.in-Some.place)) c.deref.ensures.value c.in-Some.ensures) in
-    let list = ap (map change_view) c.deref-in-Some.ensures.value ∙ sym (changes_beside hs row c.in-Some.place c.index.result.now c.self.invariant.0.rows found.0 found.1 c.index.ensures) in
+    let list = sym (changes_beside hs row c.in-Some.place c.index.result.now c.self.invariant.0.rows found.0 found.1 c.index.ensures) in
     let said = subst (λ cs. (k : ℕ) → Before (k + 1) cs → IsTrue c.says.result ↔ Tells (start atom) k cs) list c.says.ensures in
     let turned = c.in_ok-turn_at.ensures.ok in
     let rows = turned_rows t row c.in-Some.place change new c.self.invariant.0 found.0 found.1 turned in
@@ -60,7 +60,7 @@ returns-else-says-is_true g c =
     let row = row_of atom in
     let start = g.S.State.atoms c.args.first.now in
     let found = found_in hs row c.in-Some.place (subst (λ xs. IsPlace (map numbers xs) row (Ok c.in-Some.place)) c.deref.ensures.value c.in-Some.ensures) in
-    let list = ap (map change_view) c.deref-in-Some.ensures.value ∙ sym (changes_beside hs row c.in-Some.place c.index.result.now c.self.invariant.0.rows found.0 found.1 c.index.ensures) in
+    let list = sym (changes_beside hs row c.in-Some.place c.index.result.now c.self.invariant.0.rows found.0 found.1 c.index.ensures) in
     let said = subst (λ cs. (k : ℕ) → Before (k + 1) cs → IsTrue c.says.result ↔ Tells (start atom) k cs) list c.says.ensures in
     subst (λ x. IsSet start (λ h. atom ≡ h) c.args.from c.args.is_true x x) c.self.view_is (set_same_atom start c.args.from c.says.result c.args.is_true atom t t said (agree_if c.says.result c.args.is_true c.if-says-is_true.false))
 

@@ -1,9 +1,9 @@
 use Rattle.std.proofs.Common.{rules, arith, ◌≡◌, nat_le, false}
 use Rattle.std.proofs.lemmas.List.Sorted.{IsPartitionedBy-leb}
 use Rattle.std.proofs.lemmas.Fn.{answers_by}
-use Rattle.hv_state.specs.declared.changes.Change.{Change}
+use Rattle.hv_state.specs.declared.history.Change.{Change}
 use Rattle.hv_state.proofs.HistoryLemmas.{from_rises, none_up_to, last_is}
-use Rattle.hv_state.proofs.changes.last_up_to.Goals as goal
+use Rattle.hv_state.proofs.history.last_up_to.Goals as goal
 
 pub returns-then-past-eq0 : goal.returns-then-past-eq0
 returns-then-past-eq0 c =

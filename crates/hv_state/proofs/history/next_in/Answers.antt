@@ -1,10 +1,10 @@
 use Rattle.std.proofs.Common.{rules, ◌≡◌, nat_le}
 use Rattle.std.proofs.lemmas.List.Sorted.{IsPartitionedBy-leb}
 use Rattle.std.proofs.lemmas.Fn.{answers_by}
-use Rattle.hv_state.specs.declared.changes.Change.{Change}
+use Rattle.hv_state.specs.declared.history.Change.{Change}
 use Rattle.hv_state.proofs.HistoryLemmas.{from_rises}
 use Rattle.hv_state.proofs.NextLemmas.{next_in_some, next_in_none}
-use Rattle.hv_state.proofs.changes.next_in.Goals as goal
+use Rattle.hv_state.proofs.history.next_in.Goals as goal
 
 pub returns-in-Some : goal.returns-in-Some
 returns-in-Some c =

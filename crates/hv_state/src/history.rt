@@ -1,0 +1,199 @@
+//! The changes of one atom's truth, in order.
+
+ghost use Rattle.std.specs.Prelude.{◌≡◌, ◌↔◌, ◌<◌, ◌+◌, ◌-◌, ℕ, ◌∷◌, [], ◌++◌, length, map};
+ghost use Rattle.std.specs.Prelude.{slice_get, option_to_list, IsSome, IsTrue, OnOk, OnErr};
+ghost use Rattle.hv_state.specs.Atoms.{atom_read};
+ghost use Rattle.hv_state.specs.Changes.{told, Tells};
+ghost use Rattle.hv_state.specs.inside.Histories.{Rise, IsNextIn, IsLeast};
+ghost use Rattle.hv_state.specs.inside.Histories.{change_view, in_order, changes_of};
+ghost use Rattle.hv_state.specs.inside.Notes.{Before, EndsAt, IsTurned};
+
+use crate::atom::AtomView;
+use crate::find::HasRow;
+use crate::rows::Row;
+use crate::state::State;
+use hv_text::Memory;
+
+/// From an index on an atom is true, or false.
+#[derive(Clone, Copy)]
+pub(crate) struct Change {
+    pub(crate) from: u32,
+    pub(crate) is_true: bool,
+}
+
+/// An atom, and the changes of its truth in order. The last of them stands beside the list of those
+/// before it, so that to note one more reads nothing of that list, which is far away.
+#[derive(Drop)]
+pub(crate) struct History {
+    pub(crate) row: Row,
+    pub(crate) earlier: Vec<Change>,
+    pub(crate) last: Option<Change>,
+}
+
+impl HasRow for History {
+    ghost numbers = { λ h. h.row.numbers.items };
+
+    fn row(&self) -> &[usize] {
+        self.row.numbers.as_slice()
+    }
+}
+
+// What the last change up to an index says: by halving.
+fn last_up_to(list: &[Change], k: usize) -> Option<bool>
+    requires { Rise (map change_view list.now) }
+    ensures { result ≡ told k (map change_view list.now) }
+{
+    let past = list.partition_point(|change| change.from as usize <= k);
+    if past == 0 {
+        None
+    } else {
+        Some(list[past - 1].is_true)
+    }
+}
+
+/// The one of two numbers that is not above the other.
+pub(crate) fn least(a: usize, b: usize) -> usize
+    ensures { IsLeast a b result }
+{
+    if a < b { a } else { b }
+}
+
+// The index of the first change after another index, or else the end: by halving.
+fn next_in(list: &[Change], k: usize, end: usize) -> usize
+    requires rise { Rise (map change_view list.now) }
+    requires before { k < end }
+    ensures { IsNextIn (map change_view list.now) k end result }
+{
+    match list.get(list.partition_point(|change| change.from as usize <= k)) {
+        Some(next) => least(next.from as usize, end),
+        None => end,
+    }
+}
+
+impl History {
+    // The last change.
+    fn last(&self) -> Option<Change>
+        ensures { result ≡ slice_get (in_order self.now) (length (in_order self.now) - 1) }
+    {
+        match self.last {
+            Some(last) => Some(last),
+            None => self.earlier.last().copied(),
+        }
+    }
+
+    // Whether all changes are before an index: the last one is.
+    fn is_before(&self, index: usize) -> bool
+        requires { Rise (changes_of self.now) }
+        ensures { IsTrue result ↔ Before index (changes_of self.now) }
+    {
+        match self.last() {
+            Some(last) => (last.from as usize) < index,
+            None => true,
+        }
+    }
+
+    // Whether the last change is at an index.
+    fn ends_at(&self, index: usize) -> bool
+        ensures { IsTrue result ↔ EndsAt index (changes_of self.now) }
+    {
+        match self.last() {
+            Some(last) => last.from as usize == index,
+            None => false,
+        }
+    }
+
+    // Puts a change behind the others.
+    fn push(&mut self, change: Change) -> Result<(), Memory>
+        ensures ok { OnOk result (in_order self.new ≡ in_order self.old ++ change ∷ []) }
+        ensures err { OnErr result (in_order self.new ≡ in_order self.old) }
+        ensures row { self.new.row ≡ self.old.row }
+    {
+        if let Some(last) = self.last {
+            self.earlier.push(last)?;
+        }
+        self.last = Some(change);
+        Ok(())
+    }
+
+    // Takes the last change off.
+    fn pop(&mut self) -> Option<Change>
+        ensures items { in_order self.old ≡ in_order self.new ++ option_to_list result }
+        ensures some { IsSome result ↔ (0 < length (in_order self.old)) }
+        ensures row { self.new.row ≡ self.old.row }
+    {
+        match self.last {
+            Some(last) => {
+                self.last = None;
+                Some(last)
+            }
+            None => self.earlier.pop(),
+        }
+    }
+
+    /// What the changes say at last, or else the first state.
+    pub(crate) fn says<S: State>(&self, first: &S, atom: &AtomView<'_>) -> bool
+        ensures { (k : ℕ) → Before (k + 1) (changes_of self.now) → IsTrue result
+            ↔ Tells (S.atoms first.now (atom_read atom.now)) k (changes_of self.now) }
+    {
+        match self.last() {
+            Some(last) => last.is_true,
+            None => first.holds(atom),
+        }
+    }
+
+    /// Puts a change behind the others. Where the last of them is at the same index, that one is
+    /// undone.
+    ///
+    /// # Errors
+    ///
+    /// `Memory` where a growth was refused.
+    pub(crate) fn turn(&mut self, change: Change) -> Result<(), Memory>
+        requires { Rise (changes_of self.old) }
+        ensures ok { OnOk result
+            (IsTurned (change_view change) (changes_of self.old) (changes_of self.new)) }
+        ensures err { OnErr result (changes_of self.new ≡ changes_of self.old) }
+        ensures row { self.new.row ≡ self.old.row }
+    {
+        if self.is_before(change.from as usize) {
+            self.push(change)?;
+        } else if self.ends_at(change.from as usize) {
+            let _undone = self.pop();
+        }
+        Ok(())
+    }
+
+    /// What the last change up to an index says.
+    pub(crate) fn told(&self, k: usize) -> Option<bool>
+        requires { Rise (changes_of self.now) }
+        ensures { result ≡ told k (changes_of self.now) }
+    {
+        match self.last {
+            None => last_up_to(&self.earlier, k),
+            Some(last) => {
+                if last.from as usize <= k {
+                    Some(last.is_true)
+                } else {
+                    last_up_to(&self.earlier, k)
+                }
+            }
+        }
+    }
+
+    /// The index of the first change after another index, or else the end.
+    pub(crate) fn next(&self, k: usize, end: usize) -> usize
+        requires rise { Rise (changes_of self.now) }
+        requires before { k < end }
+        ensures { IsNextIn (changes_of self.now) k end result }
+    {
+        match self.last {
+            None => next_in(&self.earlier, k, end),
+            Some(last) => {
+                if last.from as usize <= k {
+                    next_in(&self.earlier, k, end)
+                } else {
+                    next_in(&self.earlier, k, least(last.from as usize, end))
+                }
+            }
+        }
+    }
+}
