@@ -34,7 +34,10 @@ impl<'a> AtomView<'a> {
         }
     }
 
-    /// The same, with the objects of up to three terms looked up once and put down in `numbers`.
+    /// The same, with the objects of up to three terms looked up once and put down in `numbers`. It is
+    /// written out where it is called, since what it answers is large, and a copy of it would wait for
+    /// all that was written before.
+    #[inline(always)]
     pub(crate) fn resolved(
         atom: &'a Atom,
         binding: &'a Binding<'a>,
@@ -50,6 +53,7 @@ impl<'a> AtomView<'a> {
 }
 
 // The objects of terms: those of up to three in `numbers`.
+#[inline(always)]
 fn resolve<'a>(
     terms: &'a [Term],
     binding: &'a Binding<'a>,
