@@ -1,7 +1,9 @@
 -- What the bytes of a text are, and what a name means.
-use Rattle.std.specs.Prelude.{◌==◌, ◌&&◌, ◌||◌, ℕ, Bool, false, not, List, [], ◌∷◌, nat_le, map}
+use Rattle.std.specs.Prelude.{◌==◌, ◌&&◌, ◌||◌, ◌-◌, ◌*◌, ◌/◌, ℕ, Bool, false, not, List, [], ◌∷◌, ◌++◌, nat_le, map, length, drop, replicate}
 use Rattle.std.specs.List.{list_all}
 use Rattle.std.specs.Char.{to_ascii_lowercase}
+use Rattle.std.specs.Hash.{HashWrites}
+use Rattle.std.specs.Simd.{first_chunks}
 
 -- white space: 9 to 13, and 32
 abbrev pub is_blank : ℕ → Bool
@@ -23,3 +25,11 @@ is_word (b ∷ bs) = is_word_byte b && list_all is_word_byte bs
 -- what a name means: its bytes in lower case
 abbrev pub lower : List ℕ → List ℕ
 lower bs = map to_ascii_lowercase bs
+
+-- fewer bytes than eight, and zeros behind them
+abbrev pub filled : List ℕ → List ℕ
+filled bs = bs ++ replicate (8 - length bs) 0
+
+-- bytes, eight by eight; the last word is filled, and so has a zero, which no name has
+abbrev pub words_of : List ℕ → HashWrites
+words_of bs = first_chunks 8 (length bs / 8) bs ++ filled (drop (length bs / 8 * 8) bs) ∷ []

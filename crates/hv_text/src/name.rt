@@ -1,12 +1,11 @@
 //! Names, in which the case of ASCII letters does not matter.
 
-ghost use Rattle.std.specs.Prelude.{◌≡◌, ◌++◌, ◌<◌, ℕ, IsTrue, IfSome, IfNone, ◌↔◌, IsSome, map, length, fold};
-ghost use Rattle.std.specs.List.{list_all, flat_map};
-ghost use Rattle.std.specs.Hash as fed;
+ghost use Rattle.std.specs.Prelude.{◌≡◌, ◌++◌, ◌<◌, ◌≤◌, ℕ, IsTrue, IfSome, IfNone, ◌↔◌, IsSome, map, length, fold};
+ghost use Rattle.std.specs.List.{list_all};
 ghost use Rattle.std.specs.Str.{bytes_eq};
 ghost use Rattle.std.specs.Cmp.Lexicographic.{slice_cmp};
 ghost use Rattle.std.specs.Ordering.{nat_cmp};
-ghost use Rattle.hv_text.specs.Bytes.{is_word_byte, is_word, lower};
+ghost use Rattle.hv_text.specs.Bytes.{is_word_byte, is_word, lower, filled, words_of};
 
 use std::cmp::Ordering;
 use std::hash::{Hash, Hasher};
@@ -65,13 +64,28 @@ fn cmp_lower(a: &[u8], b: &[u8]) -> Ordering
     }
 }
 
-// Feeds each byte in lower case.
+// Feeds bytes in lower case, eight by eight: a hasher takes a whole word as fast as a byte.
 fn hash_lower<H: Hasher>(bytes: &[u8], state: &mut H)
-    ensures { state.new ≡ fold H.write state.old (flat_map fed.u8 (lower bytes.now)) }
+    ensures { state.new ≡ fold H.write state.old (words_of (lower bytes.now)) }
 {
-    for b in bytes {
-        state.write_u8(b.to_ascii_lowercase());
+    let (words, rest) = bytes.as_chunks::<8>();
+    for word in words {
+        state.write(&lower_word(word));
     }
+    state.write(&lower_word(rest));
+}
+
+// Eight bytes in lower case, or fewer, and zeros behind them. It is inlined, as whole words have no loop then.
+#[inline(always)]
+fn lower_word(bytes: &[u8]) -> [u8; 8]
+    requires { length bytes.now ≤ 8 }
+    ensures { result ≡ filled (lower bytes.now) }
+{
+    let mut word = [0; 8];
+    for (i, byte) in bytes.iter().enumerate() {
+        word[i] = byte.to_ascii_lowercase();
+    }
+    word
 }
 
 impl<'s> Name<'s> {
@@ -179,7 +193,6 @@ impl Hash for Name<'_> {
     ghost respects_eq = { same_hash.fed };
 
     fn hash<H: Hasher>(&self, state: &mut H) {
-        state.write_usize(self.bytes.len());
         hash_lower(self.bytes, state);
     }
 }

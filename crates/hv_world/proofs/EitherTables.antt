@@ -12,7 +12,8 @@ use Rattle.hv_text.specs.Names.{text_of}
 use Rattle.hv_text.specs.declared.name.Name.{Name}
 use Rattle.hv_world.specs.Eithers.{are_same, is_listed, with_lists, either_place}
 use Rattle.hv_world.specs.inside.Tables.{names_in}
-use Rattle.hv_world.specs.inside.Seeds.{name_writes, with_taken_in}
+use Rattle.hv_text.specs.Bytes.{words_of}
+use Rattle.hv_world.specs.inside.Seeds.{with_taken_in}
 use Rattle.hv_world.specs.Known.{Known}
 use Rattle.hv_world.specs.Worlds.{either_pairs, eithers_pairs}
 use Rattle.hv_world.proofs.GatherLemmas.{with_list}
@@ -73,7 +74,7 @@ module _ (k : Known) (t : ℕ) (list : List (Vec Name)) (i : ℕ) where
 -- names taken in, list by list
 taken_append : (s : DefaultHasher) (xs ys : List (List ℕ)) → with_taken_in s (xs ++ ys) ≡ with_taken_in (with_taken_in s xs) ys
 taken_append s [] ys = refl
-taken_append s (x ∷ xs) ys = taken_append (fold sip.write s (name_writes x)) xs ys
+taken_append s (x ∷ xs) ys = taken_append (fold sip.write s (words_of x)) xs ys
 
 pub taken_next : (list : List (Vec Name)) (i : ℕ) (x : Vec Name) (old new all : DefaultHasher) → i < length list → x ≡ get_or list i x → new ≡ with_taken_in old (names_in x)
     → with_taken_in old (flat_map names_in (drop i list)) ≡ all → with_taken_in new (flat_map names_in (drop (i + 1) list)) ≡ all

@@ -3,16 +3,17 @@
 ghost use Rattle.std.specs.Prelude.{◌≡◌, map, fold};
 ghost use Rattle.std.specs.List.{flat_map};
 ghost use Rattle.std.specs.Hash.DefaultHasher as sip;
+ghost use Rattle.hv_text.specs.Bytes.{words_of};
 ghost use Rattle.hv_text.specs.Names.{text_of};
 ghost use Rattle.hv_syntax.specs.Views.{word_view, typed_view, variable_view};
 ghost use Rattle.hv_world.specs.Names.{names};
 ghost use Rattle.hv_world.specs.Known.{variables};
-ghost use Rattle.hv_world.specs.inside.Seeds.{name_writes, with_taken_in, written_names};
+ghost use Rattle.hv_world.specs.inside.Seeds.{with_taken_in, written_names};
 ghost use Rattle.hv_world.specs.inside.Tables.{names_in};
 
 use hv_syntax::{Placed, TypeText, TypedText, VariableText};
 use hv_text::Name;
-use std::hash::{BuildHasher, DefaultHasher, Hash, Hasher};
+use std::hash::{BuildHasher, DefaultHasher, Hash};
 
 /// The hasher of a table of names. Its start has taken in every name of the table, so that whoever
 /// wants names that collide has to find them under a start that each of them changes.
@@ -90,13 +91,12 @@ impl Seeded {
         seed
     }
 
-    // No word holds a space: it ends each name.
+    // The last word that a name feeds has a zero, so no two lists of names feed the same.
     fn take_in(&mut self, name: Name<'_>)
         ensures { self.new.start
-            ≡ fold sip.write self.old.start (name_writes (text_of name.entry)) }
+            ≡ fold sip.write self.old.start (words_of (text_of name.entry)) }
     {
         name.hash(&mut self.start);
-        self.start.write_u8(b' ');
     }
 }
 

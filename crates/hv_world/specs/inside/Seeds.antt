@@ -1,18 +1,14 @@
 -- What a table of names is hashed from: a start that has taken in each of its names.
-use Rattle.std.specs.Prelude.{ℕ, List, [], ◌∷◌, ◌++◌, fold}
-use Rattle.std.specs.Hash as fed
+use Rattle.std.specs.Prelude.{ℕ, List, [], ◌∷◌, fold}
 use Rattle.std.specs.Hash.DefaultHasher as sip
 use Rattle.std.specs.declared.hash.DefaultHasher.{DefaultHasher}
+use Rattle.hv_text.specs.Bytes.{words_of}
 use Rattle.hv_syntax.specs.Values.{TypeOf, no_type, of_type, Typed}
-
--- a name is fed with a space behind it, which no name has
-abbrev pub name_writes : List ℕ → fed.HashWrites
-name_writes n = fed.slice fed.u8 n ++ fed.u8 32
 
 -- what a hasher has become when it has taken in these names
 abbrev pub with_taken_in : DefaultHasher → List (List ℕ) → DefaultHasher
 with_taken_in s [] = s
-with_taken_in s (n ∷ ns) = with_taken_in (fold sip.write s (name_writes n)) ns
+with_taken_in s (n ∷ ns) = with_taken_in (fold sip.write s (words_of n)) ns
 
 -- the start that these names make
 abbrev pub start_of : List (List ℕ) → DefaultHasher
