@@ -71,7 +71,7 @@ pub(crate) fn read_term<'s>(e: &Sexp<'s>) -> Result<TermText<'s>, Refusal>
 pub(crate) fn read_terms<'s>(alloc: Global, es: &[Sexp<'s>]) -> Result<Vec<TermText<'s>>, Refusal>
     ensures { Gives (λ v. map term_view v.items) result (every term_of (trees es.now)) }
 {
-    let mut terms = Vec::new(alloc);
+    let mut terms = Vec::with_capacity(alloc, es.len())?;
     for e in es {
         terms.push(read_term(e)?)?;
     }
