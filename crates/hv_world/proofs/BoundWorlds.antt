@@ -12,12 +12,12 @@ use Rattle.hv_text.specs.declared.span.Span.{Span}
 use Rattle.hv_world.specs.declared.fault.StaticKind.TheVariants as kinds
 use Rattle.hv_world.specs.declared.fault.Side.{Side}
 use Rattle.hv_world.specs.declared.fault.Side.TheVariants as sides
-use Rattle.hv_world.specs.Values.{Formula, TaskName, compound, primitive}
+use Rattle.hv_world.specs.Values.{TaskName, compound, primitive}
 use Rattle.hv_world.specs.Names.{names, place_in}
 use Rattle.hv_world.specs.Known.{Known, Declaration, declaration, task_declarations, action_declarations, those_before, by_place, declarations, declared_words, at_place, known_in, variables}
 use Rattle.hv_world.specs.Scopes.{Scope, parameters, size}
 use Rattle.hv_world.specs.StaticRules.{at_word_if, head_faults, declared_arity, arity_of_task, variable_faults, atom_faults, literals_faults, term_faults, task_faults, subtask_faults, network_faults, method_faults, action_faults, htn_faults, goal_faults, IsStatic}
-use Rattle.hv_world.specs.Worlds.{World, world_of, variable_type, types_of, term_in, terms_in, atom_in, formula_in, task_of, task_in, constraint_in, network_in, method_in, top_in, task_by, action_in, effects_in, added}
+use Rattle.hv_world.specs.Worlds.{World, world_of, variable_type, types_of, term_in, terms_in, atom_in, formula_in, task_of, task_in, constraint_in, network_in, method_in, top_in, task_by, action_in, effects_in}
 use Rattle.hv_world.specs.Bounds.{IsType, IsBoundAtom, IsBoundFormula, AreBoundEffects, TaskTakes, ActionTakes, Takes, IsBoundSubtask, IsBoundConstraint, IsBoundNetwork, IsBoundTask, IsBoundMethod, IsBoundAction, IsBoundGoal, IsBound}
 use Rattle.hv_world.proofs.NoFaults.{first_none, last_none, none_of_each, no_fault}
 use Rattle.hv_world.proofs.BoundLemmas.{IsScope, parameters_scope, got_within, terms_bound, term_bound, atom_bound, types_bound, as_many, formula_bound, effects_bound}

@@ -1,15 +1,15 @@
 -- Where there is no static fault, each type that several names make is above types that are declared.
-use Rattle.std.proofs.Common.{◌≡◌, ℕ, suc, ◌+◌, ◌<◌, ◌≤◌, Bool, true, false, List, [], ◌∷◌, ◌++◌, map, filter, length, Option, Some, None, if◌then◌else◌, All, refl, ap, sym, subst, ◌∙◌, arith}
+use Rattle.std.proofs.Common.{◌≡◌, ℕ, suc, ◌+◌, ◌<◌, ◌≤◌, Bool, true, false, List, [], ◌∷◌, ◌++◌, map, length, Option, Some, None, if◌then◌else◌, All, arith}
 use Rattle.std.specs.List.{flat_map}
-use Rattle.std.proofs.lemmas.List.Elements.{All-cons, All-nil, All-head, All-tail, All-weaker, All-map, All-append, All-filter, All-push}
+use Rattle.std.proofs.lemmas.List.Elements.{All-nil, All-head, All-tail, All-weaker, All-map, All-append, All-filter, All-push}
 use Rattle.hv_syntax.specs.Values as text
 use Rattle.hv_syntax.specs.Values.{WordAt, Variable, Domain, Problem}
 use Rattle.hv_world.specs.declared.fault.StaticKind.TheVariants as kinds
 use Rattle.hv_world.specs.declared.fault.Side.{Side}
 use Rattle.hv_world.specs.declared.fault.Side.TheVariants as sides
 use Rattle.hv_world.specs.Names.{names, is_among, number_in}
-use Rattle.hv_world.specs.Known.{Known, known_in, variables, type_names}
-use Rattle.hv_world.specs.Eithers.{formula_variables, formulas_variables, effect_variables, item_variables, method_variables, action_variables, goal_variables, domain_variables, problem_variables, all_variables, is_either, is_listed, with_lists, either_lists, either_types}
+use Rattle.hv_world.specs.Known.{Known, known_in, variables}
+use Rattle.hv_world.specs.Eithers.{formula_variables, formulas_variables, effect_variables, item_variables, method_variables, action_variables, goal_variables, domain_variables, problem_variables, all_variables, is_either, is_listed, with_lists, either_lists}
 use Rattle.hv_world.specs.Scopes.{Scope, parameters, inside}
 use Rattle.hv_world.specs.StaticRules.{types_faults, type_word_faults, variable_types_faults, variable_faults, formula_faults, all_formula_faults, effect_faults, item_faults, method_faults, action_faults, htn_faults, goal_faults, IsStatic}
 use Rattle.hv_world.specs.Worlds.{either_pairs, eithers_pairs}

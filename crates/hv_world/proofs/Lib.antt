@@ -5,6 +5,7 @@ pub mod CycleLemmas
 pub mod FaultLemmas
 pub mod InternLemmas
 pub mod LabelLemmas
+pub mod LiteralLemmas
 pub mod NameLemmas
 pub mod OrderLists
 pub mod OrderMeanings

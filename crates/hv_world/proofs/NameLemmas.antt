@@ -155,3 +155,17 @@ places_next f xs i x name old new lt is said so_far added =
 
 pub no_places : (es : List (Name × ℕ)) → es ≡ [] → place_beside es ≡ place_in []
 no_places es e = ap place_beside e ∙ fun_ext (λ q. refl)
+
+-- a name stands somewhere where it is among the names
+pub somewhere : (ns : List (List ℕ)) (n : List ℕ) → is_some (place_in ns n) ≡ is_among ns n
+somewhere [] n = refl
+somewhere (m ∷ ms) n = here_or (bytes_eq n m) (further (place_in ms n) ∙ somewhere ms n)
+  where
+    further : (o : Option ℕ) → is_some (option_map suc o) ≡ is_some o
+    further None = refl
+    further (Some i) = refl
+
+    here_or : (b : Bool) → is_some (option_map suc (place_in ms n)) ≡ is_among ms n
+        → is_some (if b then Some 0 else option_map suc (place_in ms n)) ≡ (b || is_among ms n)
+    here_or true rest = refl
+    here_or false rest = rest

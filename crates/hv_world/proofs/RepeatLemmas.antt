@@ -3,7 +3,6 @@ use Rattle.std.proofs.Common.{◌≡◌, ℕ, ◌+◌, ◌<◌, nat_eq, Bool, tr
 use Rattle.std.specs.Option.{option_eq}
 use Rattle.std.proofs.lemmas.List.{length-map, length-take-le, take-append-drop, map-append, take_more, drop_more, drop_all}
 use Rattle.std.proofs.lemmas.Simd.{map-map}
-use Rattle.hv_text.specs.Names.{text_of}
 use Rattle.hv_syntax.specs.declared.word.Placed.{Placed}
 use Rattle.hv_syntax.specs.declared.variable.VariableText.{VariableText}
 use Rattle.hv_syntax.specs.Views.{word_view, variable_view}

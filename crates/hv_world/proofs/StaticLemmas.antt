@@ -1,29 +1,27 @@
 -- What a domain and a problem without static faults say.
-use Rattle.std.proofs.Common.{◌≡◌, ℕ, suc, ◌+◌, ◌<◌, Bool, true, false, not, ◌||◌, List, [], ◌∷◌, ◌++◌, map, length, get_or, Some, option_map, bytes_eq, codes, if◌then◌else◌, All, refl, ap, sym, subst, ◌∙◌, arith}
+use Rattle.std.proofs.Common.{◌≡◌, ℕ, ◌+◌, ◌<◌, Bool, true, false, List, [], ◌∷◌, ◌++◌, map, length, get_or, bytes_eq, codes, if◌then◌else◌, All, refl, ap, sym, subst, ◌∙◌, arith}
 use Rattle.std.specs.List.{flat_map}
-use Rattle.std.specs.Cmp.Lexicographic.{bytes_decides}
 use Rattle.std.proofs.lemmas.List.Elements.{All-cons, All-nil, All-weaker, All-map, All-append}
 use Rattle.hv_text.specs.declared.span.Span.{Span}
-use Rattle.hv_syntax.specs.Values.{WordAt, TypeOf, no_type, of_type, type_name, Typed, Network, Method, Htn, Domain, Problem}
-use Rattle.hv_world.specs.declared.fault.StaticKind.{StaticKind}
+use Rattle.hv_syntax.specs.Values.{TypeOf, no_type, of_type, type_name, Typed, Network, Method, Htn, Domain, Problem}
 use Rattle.hv_world.specs.declared.fault.StaticKind.TheVariants as kinds
 use Rattle.hv_world.specs.declared.fault.Side.{Side}
 use Rattle.hv_world.specs.declared.fault.Side.TheVariants as sides
 use Rattle.hv_world.specs.declared.fault.StaticFault.{StaticFault}
 use Rattle.hv_world.specs.Faults.{fault_on}
-use Rattle.hv_world.specs.Names.{is_among, place_in, with_names, by_sight, number_or, number_in}
+use Rattle.hv_world.specs.Names.{is_among}
 use Rattle.hv_world.specs.Known.{Known, known_in, variables, both_types, type_names}
 use Rattle.hv_world.specs.Networks.{written_by, IsArrangeable}
 use Rattle.hv_world.specs.Cycles.{is_cyclic}
 use Rattle.hv_world.specs.Orders.{IsCyclic}
 use Rattle.hv_world.specs.Types.{IsInRange}
-use Rattle.hv_world.specs.StaticRules.{at_word_if, type_faults, typed_faults, label_faults, order_faults, method_faults, htn_faults, IsStatic}
+use Rattle.hv_world.specs.StaticRules.{type_faults, typed_faults, label_faults, order_faults, method_faults, htn_faults, IsStatic}
 use Rattle.hv_world.specs.Worlds.{type_pair, object_pair, eithers_pairs, typing_by}
 use Rattle.hv_world.proofs.WithinLemmas.{sound_within}
 use Rattle.hv_world.proofs.CycleLemmas.{cycle_found, cycle_there}
 use Rattle.hv_world.proofs.NoFaults.{first_none, last_none, none_of_each, no_fault}
-use Rattle.hv_world.proofs.AmongLemmas.{or_right, among_left, among_right, among_self, by_sight_has, number_within, some_within}
-use Rattle.hv_world.proofs.EitherLemmas.{AreNames, eithers_declared, eithers_pairs_below}
+use Rattle.hv_world.proofs.AmongLemmas.{or_right, among_right, among_self, by_sight_has, number_within, some_within}
+use Rattle.hv_world.proofs.EitherLemmas.{eithers_declared, eithers_pairs_below}
 
 clash : (b : Bool) → b ≡ true → b ≡ false → ⊥
 clash b e g = absurd (cc)

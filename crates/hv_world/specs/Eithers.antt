@@ -1,8 +1,8 @@
 -- The types of variables that several names make. Each list of names is a type of its own, above those that it names.
-use Rattle.std.specs.Prelude.{ℕ, Bool, true, false, not, List, [], ◌∷◌, ◌++◌, map, filter, position, Option, Some, None, bytes_eq, codes, if◌then◌else◌}
+use Rattle.std.specs.Prelude.{ℕ, Bool, false, not, List, [], ◌∷◌, ◌++◌, map, filter, position, Option, Some, None, bytes_eq, codes, if◌then◌else◌}
 use Rattle.std.specs.List.{list_any, flat_map}
 use Rattle.std.specs.Cmp.Lexicographic.{pointwise}
-use Rattle.hv_syntax.specs.Values.{Variable, Formula, Formulas, holds, and, or, imply, forall, exists, equal, no_formulas, more_formulas, Effect, no_items, more_items, Item, becomes, for_each, Method, Action, Domain, Htn, Problem}
+use Rattle.hv_syntax.specs.Values.{Variable, Formula, Formulas, holds, and, or, imply, forall, exists, equal, no_formulas, more_formulas, Effect, no_items, more_items, Item, becomes, for_each, Method, Action, Domain, Problem}
 use Rattle.hv_syntax.specs.Values.{not as negation}
 use Rattle.hv_world.specs.Names.{names, is_among}
 

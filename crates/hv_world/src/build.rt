@@ -185,8 +185,11 @@ fn start_in<'s>(
     alloc: Global,
     tables: &Tables<'s>,
     problem: &ProblemText<'s>,
+    init: Vec<Atom>,
 ) -> Result<Start<'s>, Memory>
-    requires { IsArrangeable (written_by (problem_view problem.now).htn.network) }
+    requires arrangeable { IsArrangeable (written_by (problem_view problem.now).htn.network) }
+    requires init { map atom_view init.items
+        ≡ added (known_by tables.now) (parameters []) (problem_view problem.now).init }
     ensures init { IfOk result
         (λ s. map atom_view s.init.items
         ≡ added (known_by tables.now) (parameters []) (problem_view problem.now).init) }
@@ -197,7 +200,6 @@ fn start_in<'s>(
     ensures top { IfOk result
         (λ s. method_view s.top ≡ top_in (known_by tables.now) (problem_view problem.now).htn) }
 {
-    let init = init_in(alloc, tables, problem.init())?;
     let goal = goal_in(alloc, tables, problem.goal())?;
     let top = top_in(alloc, tables, problem.htn())?;
     Ok(Start { init, goal, top })
@@ -216,17 +218,20 @@ fn parts_in<'s>(
     tables: &Tables<'s>,
     domain: &DomainText<'s>,
     problem: &ProblemText<'s>,
+    init: Vec<Atom>,
 ) -> Result<Parts<'s>, Memory>
     requires known { known_by tables.now
         ≡ known_in (domain_view domain.now) (problem_view problem.now) }
     requires sound { IsStatic (domain_view domain.now) (problem_view problem.now) }
+    requires init { map atom_view init.items
+        ≡ added (known_by tables.now) (parameters []) (problem_view problem.now).init }
     ensures { IfOk result
         (λ p. world_of_parts tables.now p
         ≡ world_by (known_by tables.now) (domain_view domain.now) (problem_view problem.now)) }
 {
     let kinds = kinds_in(alloc, tables, domain, problem)?;
     let sections = sections_in(alloc, tables, domain)?;
-    let start = start_in(alloc, tables, problem)?;
+    let start = start_in(alloc, tables, problem, init)?;
     Ok(Parts {
         kinds,
         sections,
@@ -288,13 +293,15 @@ impl<'s> World<'s> {
             ⊎ (first_fault (domain_view domain.now) (problem_view problem.now) ≡ Some f)) }
     {
         let tables = Tables::of(alloc, domain, problem)?;
-        match first_fault(alloc, &tables, domain, problem)? {
+        let init = init_in(alloc, &tables, problem.init())?;
+        match first_fault(alloc, &tables, domain, problem, init.fault)? {
             Some(fault) => Err(fault),
-            None => Ok(World::of_tables(alloc, tables, domain, problem)?),
+            None => Ok(World::of_tables(alloc, tables, domain, problem, init.value)?),
         }
     }
 
-    /// The world of a domain and a problem that have no static fault, by the tables of their names.
+    /// The world of a domain and a problem that have no static fault, by the tables of their names and
+    /// the atoms that are true at the start.
     ///
     /// # Errors
     ///
@@ -304,14 +311,17 @@ impl<'s> World<'s> {
         tables: Tables<'s>,
         domain: &DomainText<'s>,
         problem: &ProblemText<'s>,
+        init: Vec<Atom>,
     ) -> Result<World<'s>, Memory>
         requires known { known_by tables
             ≡ known_in (domain_view domain.now) (problem_view problem.now) }
         requires sound { IsStatic (domain_view domain.now) (problem_view problem.now) }
+        requires init { map atom_view init.items
+            ≡ added (known_by tables) (parameters []) (problem_view problem.now).init }
         ensures { IfOk result
             (λ w. world_view w ≡ world_of (domain_view domain.now) (problem_view problem.now)) }
     {
-        let parts = parts_in(alloc, &tables, domain, problem)?;
+        let parts = parts_in(alloc, &tables, domain, problem, init)?;
         let places = places_of(alloc, domain)?;
         Ok(World::of_parts(tables, parts, places))
     }

@@ -1,6 +1,7 @@
 //! What a domain and a problem declare.
 
 ghost use Rattle.std.specs.Prelude.{◌≡◌, ◌+◌, length, map, option_map, IfOk};
+ghost use Rattle.std.specs.Option.{is_some};
 ghost use Rattle.hv_text.specs.Names.{text_of};
 ghost use Rattle.hv_syntax.specs.DeclarationViews.{predicate_view};
 ghost use Rattle.hv_syntax.specs.DomainViews.{domain_view};
@@ -206,6 +207,14 @@ impl<'s> Tables<'s> {
         ensures { result ≡ is_among (known_by self.now).objects (text_of name.entry) }
     {
         self.objects.contains(&name)
+    }
+
+    /// The number of a constant or an object, where it is declared.
+    pub(crate) fn object(&self, name: Name<'s>) -> Option<usize>
+        ensures place { result ≡ place_in (known_by self.now).objects (text_of name.entry) }
+        ensures known { is_some result ≡ is_among (known_by self.now).objects (text_of name.entry) }
+    {
+        self.objects.get_index_of(&name)
     }
 
     /// The number of a constant or an object; of one that is not declared, the number behind the last.

@@ -14,7 +14,7 @@ ghost use Rattle.hv_world.specs.inside.Tables.{known_by};
 use crate::check::effects::effect_fault;
 use crate::check::formulas::formula_fault;
 use crate::check::networks::network_fault;
-use crate::check::terms::{literals_fault, task_fault};
+use crate::check::terms::task_fault;
 use crate::check::types::parameter_fault;
 use crate::fault::{Side, StaticFault, earlier};
 use crate::names::Names;
@@ -173,21 +173,6 @@ pub(crate) fn htn_fault<'s>(
     let parameters = parameter_fault(tables, &names, side, list);
     let network = network_fault(alloc, tables, &scope, side, htn.span(), htn.network())?;
     Ok(earlier(parameters, network))
-}
-
-/// The first fault of the initial state.
-pub(crate) fn init_fault<'s>(
-    alloc: Global,
-    tables: &Tables<'s>,
-    literals: &[LiteralText<'s>],
-) -> Option<StaticFault>
-    ensures { result
-        ≡ least (literals_faults (known_by tables.now) sides.Problem (parameters [])
-        (map literal_view literals.now)) }
-{
-    let names = Names::none(alloc);
-    let scope = Scope::Parameters(&names, 0);
-    literals_fault(tables, &scope, Side::Problem, literals)
 }
 
 /// The first fault of a goal: no variable is bound around it.

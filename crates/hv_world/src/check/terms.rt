@@ -2,20 +2,20 @@
 
 ghost use Rattle.std.specs.Prelude.{◌≡◌, ◌++◌, length, map};
 ghost use Rattle.hv_text.specs.Names.{text_of};
-ghost use Rattle.hv_syntax.specs.Views.{word_view, term_view, atom_view, literal_view};
+ghost use Rattle.hv_syntax.specs.Views.{word_view, term_view, atom_view};
 ghost use Rattle.hv_world.specs.Faults.{least};
-ghost use Rattle.hv_world.specs.StaticRules.{head_faults, signature_arity, declared_arity, arity_of_task, term_faults, terms_faults, atom_faults, task_faults, literals_faults};
+ghost use Rattle.hv_world.specs.StaticRules.{head_faults, signature_arity, declared_arity, arity_of_task, term_faults, terms_faults, atom_faults, task_faults};
 ghost use Rattle.hv_world.specs.inside.Tables.{known_by, scope_view};
 
 use crate::fault::{Side, StaticFault, StaticKind, earlier, fault_if};
 use crate::id::TaskName;
 use crate::scope::Scope;
 use crate::tables::Tables;
-use hv_syntax::{AtomText, LiteralText, Placed, TermText};
+use hv_syntax::{AtomText, Placed, TermText};
 use hv_text::Name;
 
-// The fault of a term.
-fn term_fault<'s>(
+/// The fault of a term.
+pub(crate) fn term_fault<'s>(
     tables: &Tables<'s>,
     scope: &Scope<'_, 's>,
     side: Side,
@@ -74,8 +74,8 @@ pub(crate) fn equality_fault<'s>(
     earlier(left, right)
 }
 
-// The fault of a name that takes this number of terms where it is known, and has that number.
-fn head_fault(
+/// The fault of a name that takes this number of terms where it is known, and has that number.
+pub(crate) fn head_fault(
     kind: StaticKind,
     side: Side,
     word: Placed<'_>,
@@ -158,25 +158,6 @@ pub(crate) fn atom_fault<'s>(
     let arity = predicate_arity(tables, atom.symbol().name());
     let kind = StaticKind::UnknownPredicate;
     application_fault(tables, scope, side, kind, arity, atom)
-}
-
-/// The first fault of literals.
-pub(crate) fn literals_fault<'s>(
-    tables: &Tables<'s>,
-    scope: &Scope<'_, 's>,
-    side: Side,
-    literals: &[LiteralText<'s>],
-) -> Option<StaticFault>
-    ensures { result
-        ≡ least (literals_faults (known_by tables.now) side (scope_view scope.now)
-        (map literal_view literals.now)) }
-{
-    let mut found = None;
-    for literal in literals {
-        let fault = atom_fault(tables, scope, side, literal.atom());
-        found = earlier(found, fault);
-    }
-    found
 }
 
 /// The first fault of the task that a method is for.

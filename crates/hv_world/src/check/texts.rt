@@ -1,6 +1,6 @@
 //! Faults of a domain and of a problem.
 
-ghost use Rattle.std.specs.Prelude.{◌≡◌, map, IfOk};
+ghost use Rattle.std.specs.Prelude.{◌≡◌, [], map, IfOk};
 ghost use Rattle.hv_syntax.specs.Views.{word_view};
 ghost use Rattle.hv_syntax.specs.DomainViews.{domain_view};
 ghost use Rattle.hv_syntax.specs.ProblemViews.{problem_view};
@@ -8,11 +8,12 @@ ghost use Rattle.hv_world.specs.declared.fault.StaticKind.TheVariants as kinds;
 ghost use Rattle.hv_world.specs.declared.fault.Side.TheVariants as sides;
 ghost use Rattle.hv_world.specs.Names.{repeated};
 ghost use Rattle.hv_world.specs.Faults.{faults_at, least};
-ghost use Rattle.hv_world.specs.StaticRules.{duplicate_faults, domain_faults_by, problem_faults_by};
+ghost use Rattle.hv_world.specs.Scopes.{parameters};
+ghost use Rattle.hv_world.specs.StaticRules.{duplicate_faults, domain_faults_by, problem_faults_by, literals_faults};
 ghost use Rattle.hv_world.specs.inside.Tables.{known_by};
 
 use crate::check::sections::{
-    actions_fault, compounds_fault, goal_fault, htn_fault, init_fault, methods_fault,
+    actions_fault, compounds_fault, goal_fault, htn_fault, methods_fault,
 };
 use crate::check::types::typed_fault;
 use crate::fault::{Side, StaticFault, StaticKind, earlier};
@@ -74,7 +75,8 @@ pub(crate) fn domain_fault<'s>(
     Ok(earlier(methods, action))
 }
 
-/// The first fault of a problem, by the names that these tables have.
+/// The first fault of a problem, by the names that these tables have, where this is the first of its
+/// initial state.
 ///
 /// # Errors
 ///
@@ -83,13 +85,16 @@ pub(crate) fn problem_fault<'s>(
     alloc: Global,
     tables: &Tables<'s>,
     problem: &ProblemText<'s>,
+    literal: Option<StaticFault>,
 ) -> Result<Option<StaticFault>, Memory>
+    requires { literal
+        ≡ least (literals_faults (known_by tables.now) sides.Problem (parameters [])
+        (problem_view problem.now).init) }
     ensures { IfOk result
         (λ o. o ≡ least (problem_faults_by (known_by tables.now) (problem_view problem.now))) }
 {
     let object = typed_fault(tables, Side::Problem, problem.objects());
     let htn = htn_fault(alloc, tables, problem.htn())?;
-    let literal = init_fault(alloc, tables, problem.init());
     let goal = goal_fault(alloc, tables, problem.goal());
     let front = earlier(object, htn);
     let state = earlier(front, literal);

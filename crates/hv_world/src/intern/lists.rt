@@ -6,6 +6,9 @@ ghost use Rattle.hv_syntax.specs.Views.{typed_view, formula_view as said_formula
 ghost use Rattle.hv_syntax.specs.DeclarationViews.{predicate_view as said_predicate, task_view as said_task, method_view as said_method, action_view as said_action};
 ghost use Rattle.hv_world.specs.Networks.{written_by, IsArrangeable};
 ghost use Rattle.hv_world.specs.Scopes.{parameters};
+ghost use Rattle.hv_world.specs.declared.fault.Side.TheVariants as sides;
+ghost use Rattle.hv_world.specs.Faults.{least};
+ghost use Rattle.hv_world.specs.StaticRules.{literals_faults};
 ghost use Rattle.hv_world.specs.inside.Tables.{known_by};
 ghost use Rattle.hv_world.specs.Views.{atom_view, formula_view};
 ghost use Rattle.hv_world.specs.MethodViews.{method_view};
@@ -13,10 +16,11 @@ ghost use Rattle.hv_world.specs.SectionViews.{task_view, action_view};
 ghost use Rattle.hv_world.specs.Worlds.{type_pair, object_pair, either_pairs, eithers_pairs, added, formula_in, method_in, task_by, action_in};
 
 use crate::action::Action;
+use crate::fault::Side;
 use crate::formula::{Atom, Formula};
 use crate::id::{ObjectId, TypeId};
 use crate::intern::formulas::formula_in;
-use crate::intern::literals::added;
+use crate::intern::literals::{Checked, checked_literals};
 use crate::intern::sections::{action_in, method_in, task_by};
 use crate::intern::terms::type_of;
 use crate::method::Method;
@@ -168,18 +172,23 @@ pub(crate) fn actions_in<'s>(
     Ok(numbered)
 }
 
-/// The atoms that an initial state makes true.
+/// The atoms that an initial state makes true, and its first fault.
 pub(crate) fn init_in<'s>(
     alloc: Global,
     tables: &Tables<'s>,
     literals: &[LiteralText<'s>],
-) -> Result<Vec<Atom>, Memory>
-    ensures { IfOk result
-        (λ v. map atom_view v.items
+) -> Result<Checked<Vec<Atom>>, Memory>
+    ensures value { IfOk result
+        (λ c. map atom_view c.value.items
         ≡ added (known_by tables.now) (parameters []) (map said_literal literals.now)) }
+    ensures fault { IfOk result
+        (λ c. c.fault
+        ≡ least (literals_faults (known_by tables.now) sides.Problem (parameters [])
+        (map said_literal literals.now))) }
 {
     let names = Names::none(alloc);
-    added(alloc, tables, &Scope::Parameters(&names, 0), literals)
+    let scope = Scope::Parameters(&names, 0);
+    checked_literals(alloc, tables, &scope, Side::Problem, literals)
 }
 
 /// The goal, where there is one.

@@ -115,7 +115,7 @@ pub(crate) fn terms_in<'s>(
         (λ v. map term_view v.items
         ≡ terms_in (known_by tables.now) (scope_view scope.now) (map said_term terms.now)) }
 {
-    let mut numbered = Vec::new(alloc);
+    let mut numbered = Vec::with_capacity(alloc, terms.len())?;
     for term in terms {
         numbered.push(term_in(tables, scope, *term)?)?;
     }

@@ -20,7 +20,8 @@ pub sections_in-requires : goal.sections_in-requires
 sections_in-requires c = methods_arrangeable (domain_view c.args.domain.now) (problem_view c.args.problem.now) c.requires.sound
 
 pub start_in-requires : goal.start_in-requires
-start_in-requires c = top_arrangeable (domain_view c.args.domain.now) (problem_view c.args.problem.now) c.requires.sound
+start_in-requires c =
+    record { arrangeable = top_arrangeable (domain_view c.args.domain.now) (problem_view c.args.problem.now) c.requires.sound; init = c.requires.init }
 
 pub returns : goal.returns
 returns c =

@@ -3,4 +3,4 @@ use Rattle.hv_world.specs.Networks.{written_by, IsArrangeable}
 use Rattle.hv_world.proofs.build.start_in.Goals as goal
 
 pub top_in-requires : goal.top_in-requires
-top_in-requires c = subst (λ h. IsArrangeable (written_by h.network)) (sym c.htn.ensures) c.requires
+top_in-requires c = subst (λ h. IsArrangeable (written_by h.network)) (sym c.htn.ensures) c.requires.arrangeable

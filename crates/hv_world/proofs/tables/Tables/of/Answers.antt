@@ -1,10 +1,9 @@
-use Rattle.std.proofs.Common.{◌∷◌, ◌++◌, codes, length, map, ap, ◌∙◌}
-use Rattle.std.specs.List.{flat_map}
+use Rattle.std.proofs.Common.{◌++◌, length, map, ap, ◌∙◌}
 use Rattle.hv_text.specs.Names.{text_of}
 use Rattle.hv_syntax.specs.DomainViews.{domain_view}
 use Rattle.hv_syntax.specs.ProblemViews.{problem_view}
 use Rattle.hv_world.specs.Names.{names, place_in, by_sight}
-use Rattle.hv_world.specs.Known.{both_types, variables, predicate_words}
+use Rattle.hv_world.specs.Known.{variables, predicate_words}
 use Rattle.hv_world.specs.inside.Tables.{names_in, places_by, declaration_view}
 use Rattle.hv_world.proofs.TableLemmas.{known_is}
 use Rattle.hv_world.proofs.tables.Tables.of.Goals as goal

@@ -1,4 +1,4 @@
-use Rattle.std.proofs.Common.{arith, ap, ◌∙◌}
+use Rattle.std.proofs.Common.{arith, ◌∙◌}
 use Rattle.hv_world.proofs.EitherTables.{lists_next}
 use Rattle.hv_world.proofs.tables.eithers.add_lists.Goals as goal
 
