@@ -13,8 +13,8 @@ ghost use Rattle.hv_state.specs.Changes.{told, TrueAfter};
 use crate::atom::AtomView;
 use crate::bits::{has_bit, raise};
 use crate::facts::Facts;
-use crate::find::{guesses_of, look_up};
-use crate::guesses::Guesses;
+use crate::find::{guesses_of, look_up, look_up_at};
+use crate::guesses::{Guesses, Stride};
 use crate::history::{Change, History};
 use crate::rows::Row;
 use crate::state::State;
@@ -24,11 +24,13 @@ use std::alloc::Global;
 use std::marker::Model;
 
 /// The atoms that a plan's actions touch, in order, each with its changes; guesses of where an atom
-/// stands; and for each predicate a bit, which is set where an atom of it stands there.
+/// stands, and where those stood that changed last; and for each predicate a bit, which is set where
+/// an atom of it stands there.
 #[derive(Drop)]
 pub(crate) struct Changes {
     list: Vec<History>,
     guesses: Guesses,
+    stride: Stride,
     flags: Vec<u64>,
 }
 
@@ -120,6 +122,7 @@ impl Changes {
         Ok(Changes {
             list,
             guesses,
+            stride: Stride::start(),
             flags,
         })
     }
@@ -136,7 +139,9 @@ impl Changes {
         ensures { IfOk result (λ _. IsSet (S.atoms first.now)
             (λ g. atom_read atom.now ≡ g) from is_true self.old self.new) }
     {
-        if let Some(place) = look_up(&self.list, &self.guesses, atom) {
+        let likely = self.stride.next();
+        if let Some(place) = look_up_at(&self.list, &self.guesses, likely, atom) {
+            self.stride = self.stride.found(place);
             if self.list[place].says(first, atom) != is_true {
                 turn_at(&mut self.list, place, Change { from, is_true })?;
             }

@@ -8,10 +8,9 @@ ghost use Rattle.hv_state.specs.inside.Rows.{row_of, Ascend, IsPlace};
 
 use crate::atom::AtomView;
 use crate::guesses::{Guesses, hash_of, hash_of_row};
-use crate::rows::compare;
+use crate::rows::{compare, is_row};
 use hv_text::Memory;
 use std::alloc::Global;
-use std::cmp::Ordering;
 
 /// What has a row, by which lists of it are in order.
 pub(crate) trait HasRow {
@@ -44,7 +43,7 @@ fn stands_at<T: HasRow>(list: &[T], place: usize, atom: &AtomView<'_>) -> bool
         ↔ IsPlace (map T.numbers list.now) (row_of (atom_read atom.now)) (Ok place) }
 {
     match list.get(place) {
-        Some(it) => matches!(compare(it.row(), atom), Ordering::Equal),
+        Some(it) => is_row(it.row(), atom),
         None => false,
     }
 }
@@ -73,6 +72,25 @@ pub(crate) fn look_up<T: HasRow>(
         Some(0) => None,
         _ => find(list, atom).ok(),
     }
+}
+
+/// The same, where the row may well stand at this place.
+pub(crate) fn look_up_at<T: HasRow>(
+    list: &[T],
+    guesses: &Guesses,
+    likely: usize,
+    atom: &AtomView<'_>,
+) -> Option<usize>
+    requires ascend { Ascend (map T.numbers list.now) }
+    requires told { TellRows guesses.now.buckets.items (map T.numbers list.now) }
+    ensures { MatchOption result
+        (Contains (map T.numbers list.now) (row_of (atom_read atom.now)) → ⊥)
+        (λ place. IsPlace (map T.numbers list.now) (row_of (atom_read atom.now)) (Ok place)) }
+{
+    if stands_at(list, likely, atom) {
+        return Some(likely);
+    }
+    look_up(list, guesses, atom)
 }
 
 /// Guesses of where the rows of a list stand.

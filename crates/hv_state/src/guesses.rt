@@ -59,6 +59,34 @@ impl Guesses {
     }
 }
 
+/// Where atoms were found one after another. Those that an effect changes for all objects stand at
+/// equal distances, mostly, and so the next is looked for there first.
+#[derive(Clone, Copy)]
+pub(crate) struct Stride {
+    last: usize,
+    step: usize,
+}
+
+impl Stride {
+    /// Before any atom was found.
+    pub(crate) fn start() -> Stride {
+        Stride { last: 0, step: 1 }
+    }
+
+    /// As far behind the last place as that was behind the one before it.
+    pub(crate) fn next(self) -> usize {
+        self.last.wrapping_add(self.step)
+    }
+
+    /// The next atom was found at this place.
+    pub(crate) fn found(self, place: usize) -> Stride {
+        Stride {
+            last: place,
+            step: place.wrapping_sub(self.last),
+        }
+    }
+}
+
 // Where there is room for one more number.
 fn room_in(numbers: &[u32; 4]) -> Option<usize>
     ensures { MatchOption result (HasRoom numbers.now → ⊥)

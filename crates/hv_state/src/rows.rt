@@ -1,6 +1,6 @@
 //! Sorted lists of atoms, each as a row of numbers: its predicate's, and then its objects'.
 
-ghost use Rattle.std.specs.Prelude.{◌≡◌, ◌++◌, ◌∷◌, IfOk};
+ghost use Rattle.std.specs.Prelude.{◌≡◌, ◌↔◌, ◌++◌, ◌∷◌, IsTrue, IfOk};
 ghost use Rattle.std.specs.Ordering.{nat_cmp};
 ghost use Rattle.std.specs.Cmp.Lexicographic.{slice_cmp};
 ghost use Rattle.hv_state.specs.Atoms.{objects_read, atom_read};
@@ -104,6 +104,47 @@ pub(crate) fn compare(row: &[usize], atom: &AtomView<'_>) -> Ordering
             Ordering::Equal => compare_objects(objects, &atom.objects),
             other => other,
         },
+    }
+}
+
+// Whether objects are those of terms.
+fn are_of_terms(objects: &[usize], terms: &[Term], binding: &Binding<'_>) -> bool
+    ensures { IsTrue result ↔ (objects.now ≡ objects_with binding.now terms.now) }
+{
+    let mut left = terms;
+    for object in objects {
+        match left {
+            [] => return false,
+            [term, others @ ..] => {
+                if *object != object_of(binding, *term).0 {
+                    return false;
+                }
+                left = others;
+            }
+        }
+    }
+    left.is_empty()
+}
+
+// Whether objects are those of an atom.
+fn are_objects(objects: &[usize], others: &Objects<'_>) -> bool
+    ensures { IsTrue result ↔ (objects.now ≡ objects_read others.now) }
+{
+    match others {
+        Objects::OfTerms(terms, binding) => are_of_terms(objects, terms, binding),
+        Objects::Given(given) => objects == *given,
+    }
+}
+
+/// Whether a row is that of an atom.
+pub(crate) fn is_row(row: &[usize], atom: &AtomView<'_>) -> bool
+    ensures { IsTrue result ↔ (row.now ≡ row_of (atom_read atom.now)) }
+{
+    match row {
+        [] => false,
+        [predicate, objects @ ..] => {
+            *predicate == atom.predicate.0 && are_objects(objects, &atom.objects)
+        }
     }
 }
 

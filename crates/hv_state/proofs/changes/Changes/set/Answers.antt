@@ -11,11 +11,11 @@ use Rattle.hv_state.proofs.GrowLemmas.{turned_table, turned_rows, turned_here, t
 use Rattle.hv_state.proofs.NoteLemmas.{differ_if, agree_if, set_turned, set_same_atom, set_unknown}
 use Rattle.hv_state.proofs.changes.Changes.set.Goals as goal
 
-pub look_up-requires-clause-ascend : goal.look_up-requires-clause-ascend
-look_up-requires-clause-ascend g c = subst (λ hs. Ascend (map numbers hs)) (sym c.deref.ensures.value) (subst Ascend (rows_are c.self.inside.list.items) c.self.invariant.0.rows)
+pub look_up_at-requires-clause-ascend : goal.look_up_at-requires-clause-ascend
+look_up_at-requires-clause-ascend g c = subst (λ hs. Ascend (map numbers hs)) (sym c.deref.ensures.value) (subst Ascend (rows_are c.self.inside.list.items) c.self.invariant.0.rows)
 
-pub look_up-requires-clause-told : goal.look_up-requires-clause-told
-look_up-requires-clause-told g c = subst (λ hs. TellRows c.self.inside.guesses.buckets.items (map numbers hs)) (sym c.deref.ensures.value) (subst (TellRows c.self.inside.guesses.buckets.items) (rows_are c.self.inside.list.items) c.self.invariant.2)
+pub look_up_at-requires-clause-told : goal.look_up_at-requires-clause-told
+look_up_at-requires-clause-told g c = subst (λ hs. TellRows c.self.inside.guesses.buckets.items (map numbers hs)) (sym c.deref.ensures.value) (subst (TellRows c.self.inside.guesses.buckets.items) (rows_are c.self.inside.list.items) c.self.invariant.2)
 
 pub invariant_of-self : goal.invariant_of-self
 invariant_of-self g c =
@@ -62,7 +62,7 @@ returns-else-says-is_true g c =
     let found = found_in hs row c.in-Some.place (subst (λ xs. IsPlace (map numbers xs) row (Ok c.in-Some.place)) c.deref.ensures.value c.in-Some.ensures) in
     let list = sym (changes_beside hs row c.in-Some.place c.index.result.now c.self.invariant.0.rows found.0 found.1 c.index.ensures) in
     let said = subst (λ cs. (k : ℕ) → Before (k + 1) cs → IsTrue c.says.result ↔ Tells (start atom) k cs) list c.says.ensures in
-    subst (λ x. IsSet start (λ h. atom ≡ h) c.args.from c.args.is_true x x) c.self.view_is (set_same_atom start c.args.from c.says.result c.args.is_true atom t t said (agree_if c.says.result c.args.is_true c.if-says-is_true.false))
+    subst (λ x. IsSet start (λ h. atom ≡ h) c.args.from c.args.is_true x t) c.self.view_is (set_same_atom start c.args.from c.says.result c.args.is_true atom t t said (agree_if c.says.result c.args.is_true c.if-says-is_true.false))
 
 pub returns-in_default : goal.returns-in_default
 returns-in_default g c =
