@@ -22,6 +22,9 @@ pub rows_are : (hs : List History) → rows_of (map history_view hs) ≡ map num
 rows_are [] = refl
 rows_are (h ∷ hs) = ap (λ rows. numbers h ∷ rows) (rows_are hs)
 
+pub numbers_are : (hs : List History) (t : Table) → map history_view hs ≡ t → map numbers hs ≡ rows_of t
+numbers_are hs t view_is = sym (rows_are hs) ∙ ap rows_of view_is
+
 pub found_in : (hs : List History) (row : List ℕ) (i : ℕ) → IsPlace (map numbers hs) row (Ok i) → IsPlace (rows_of (map history_view hs)) row (Ok i)
 found_in hs row i = subst (λ rows. IsPlace rows row (Ok i)) (sym (rows_are hs))
 

@@ -1,11 +1,12 @@
 //! When the truth of atoms changes on the way of a plan.
 
-ghost use Rattle.std.specs.Prelude.{◌≡◌, ◌<◌, ℕ, Bool, List, [], length, map, false};
+ghost use Rattle.std.specs.Prelude.{◌≡◌, ◌<◌, ℕ, Bool, List, [], Ok, length, map, false};
 ghost use Rattle.std.specs.Prelude.{IfOk, OnOk, OnErr, MatchOption, All};
+ghost use Rattle.std.specs.List.{Contains};
 ghost use Rattle.hv_world.specs.Bindings.{GroundAtom};
 ghost use Rattle.hv_state.specs.Atoms.{atom_read};
-ghost use Rattle.hv_state.specs.inside.Rows.{rows_in, Ascend};
-ghost use Rattle.hv_state.specs.inside.Histories.{Rise, kept, IsNext, AreFlagged};
+ghost use Rattle.hv_state.specs.inside.Rows.{row_of, rows_in, Ascend, IsPlace};
+ghost use Rattle.hv_state.specs.inside.Histories.{Rise, kept, rows_of, IsNext, AreFlagged};
 ghost use Rattle.hv_state.specs.inside.Histories.{change_view, changes_of, history_view};
 ghost use Rattle.hv_state.specs.inside.Notes.{IsTurnedAt, IsSet};
 ghost use Rattle.hv_state.specs.Changes.{told, TrueAfter};
@@ -13,7 +14,7 @@ ghost use Rattle.hv_state.specs.Changes.{told, TrueAfter};
 use crate::atom::AtomView;
 use crate::bits::{has_bit, raise};
 use crate::facts::Facts;
-use crate::find::{guesses_of, look_up, look_up_at};
+use crate::find::{guesses_of, look_up_at};
 use crate::guesses::{Guesses, Stride};
 use crate::history::{Change, History};
 use crate::rows::Row;
@@ -21,6 +22,7 @@ use crate::state::State;
 use hv_text::Memory;
 use hv_world::PredicateId;
 use std::alloc::Global;
+use std::cell::Cell;
 use std::marker::Model;
 
 /// The atoms that a plan's actions touch, in order, each with its changes; guesses of where an atom
@@ -30,7 +32,7 @@ use std::marker::Model;
 pub(crate) struct Changes {
     list: Vec<History>,
     guesses: Guesses,
-    stride: Stride,
+    stride: Cell<Stride>,
     flags: Vec<u64>,
 }
 
@@ -79,6 +81,20 @@ impl Changes {
         has_bit(&self.flags, predicate.0)
     }
 
+    // Where the history of an atom stands, if an action touches it.
+    fn place_of(&self, atom: &AtomView<'_>) -> Option<usize>
+        ensures { MatchOption result
+            (Contains (rows_of self.now) (row_of (atom_read atom.now)) → ⊥)
+            (λ place. IsPlace (rows_of self.now) (row_of (atom_read atom.now)) (Ok place)) }
+    {
+        let stride = self.stride.get();
+        let found = look_up_at(&self.list, &self.guesses, stride.next(), atom);
+        if let Some(place) = found {
+            self.stride.set(stride.found(place));
+        }
+        found
+    }
+
     // The history of an atom; none where no action touches it.
     fn of(&self, atom: &AtomView<'_>) -> Option<&History>
         ensures { MatchOption result (kept self.now (atom_read atom.now) ≡ []) (λ h.
@@ -87,7 +103,7 @@ impl Changes {
         if !self.has_some_of(atom.predicate) {
             return None;
         }
-        match look_up(&self.list, &self.guesses, atom) {
+        match self.place_of(atom) {
             Some(place) => Some(&self.list[place]),
             None => None,
         }
@@ -122,7 +138,7 @@ impl Changes {
         Ok(Changes {
             list,
             guesses,
-            stride: Stride::start(),
+            stride: Cell::new(Stride::start()),
             flags,
         })
     }
@@ -139,9 +155,7 @@ impl Changes {
         ensures { IfOk result (λ _. IsSet (S.atoms first.now)
             (λ g. atom_read atom.now ≡ g) from is_true self.old self.new) }
     {
-        let likely = self.stride.next();
-        if let Some(place) = look_up_at(&self.list, &self.guesses, likely, atom) {
-            self.stride = self.stride.found(place);
+        if let Some(place) = self.place_of(atom) {
             if self.list[place].says(first, atom) != is_true {
                 turn_at(&mut self.list, place, Change { from, is_true })?;
             }

@@ -59,8 +59,11 @@ impl Guesses {
     }
 }
 
-/// Where atoms were found one after another. Those that an effect changes for all objects stand at
-/// equal distances, mostly, and so the next is looked for there first.
+// What stands so many places further is mostly at hand, and costs little where it is not wanted.
+const NEAR: usize = 4;
+
+/// Where atoms were found one after another. Those that an effect changes for all objects, or a
+/// quantifier asks for, stand at equal distances, mostly, and so the next is looked for there first.
 #[derive(Clone, Copy)]
 pub(crate) struct Stride {
     last: usize,
@@ -80,9 +83,10 @@ impl Stride {
 
     /// The next atom was found at this place.
     pub(crate) fn found(self, place: usize) -> Stride {
+        let step = place.wrapping_sub(self.last);
         Stride {
             last: place,
-            step: place.wrapping_sub(self.last),
+            step: if step <= NEAR { step } else { 1 },
         }
     }
 }

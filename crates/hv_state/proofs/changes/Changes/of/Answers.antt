@@ -1,26 +1,19 @@
 use Rattle.std.proofs.Common.{Ok, map, refl, sym, ap, ◌∙◌, subst}
 use Rattle.std.specs.List.{Contains}
 use Rattle.hv_state.specs.Atoms.{atom_read}
-use Rattle.hv_state.specs.inside.Hashes.{TellRows}
-use Rattle.hv_state.specs.inside.Rows.{row_of, Ascend, IsPlace}
+use Rattle.hv_state.specs.inside.Rows.{row_of, IsPlace}
 use Rattle.hv_state.specs.inside.Histories.{beside, history_view}
-use Rattle.hv_state.proofs.HistoryLemmas.{numbers, rows_are, found_in, not_found_in, changes_beside, list_rises, lacking_beside}
+use Rattle.hv_state.proofs.HistoryLemmas.{numbers_are, found_in, not_found_in, changes_beside, list_rises, lacking_beside}
 use Rattle.hv_state.proofs.changes.Changes.of.Goals as goal
 
 pub returns-then-not-has_some_of : goal.returns-then-not-has_some_of
 returns-then-not-has_some_of c = c.has_some_of.ensures c.if-not-has_some_of.true (atom_read c.args.atom.now) refl
 
-pub look_up-requires-clause-ascend : goal.look_up-requires-clause-ascend
-look_up-requires-clause-ascend c = subst (λ hs. Ascend (map numbers hs)) (sym c.deref.ensures.value) (subst Ascend (rows_are c.self.inside.list.items) c.self.invariant.0.rows)
-
-pub look_up-requires-clause-told : goal.look_up-requires-clause-told
-look_up-requires-clause-told c = subst (λ hs. TellRows c.self.inside.guesses.buckets.items (map numbers hs)) (sym c.deref.ensures.value) (subst (TellRows c.self.inside.guesses.buckets.items) (rows_are c.self.inside.list.items) c.self.invariant.2)
-
 pub returns-in-Some : goal.returns-in-Some
 returns-in-Some c =
     let hs = c.self.inside.list.items in
     let row = row_of (atom_read c.args.atom.now) in
-    let found = found_in hs row c.in-Some.place (subst (λ xs. IsPlace (map numbers xs) row (Ok c.in-Some.place)) c.deref.ensures.value c.in-Some.ensures) in
+    let found = found_in hs row c.in-Some.place (subst (λ rows. IsPlace rows row (Ok c.in-Some.place)) (sym (numbers_are hs c.args.self.now c.self.view_is)) c.in-Some.ensures) in
     let list = changes_beside hs row c.in-Some.place c.index.result.now c.self.invariant.0.rows found.0 found.1 c.index.ensures in
     (list_rises hs row c.in-Some.place c.index.result.now c.self.invariant.0.rows found.0 found.1 c.index.ensures c.self.invariant.0.lists, sym list ∙ ap (λ t. beside t row) c.self.view_is)
 
@@ -28,5 +21,5 @@ pub returns-in-None : goal.returns-in-None
 returns-in-None c =
     let hs = c.self.inside.list.items in
     let row = row_of (atom_read c.args.atom.now) in
-    let lacks = not_found_in hs row (subst (λ xs. Contains (map numbers xs) row → ⊥) c.deref.ensures.value c.in-None.ensures) in
+    let lacks = not_found_in hs row (subst (λ rows. Contains rows row → ⊥) (sym (numbers_are hs c.args.self.now c.self.view_is)) c.in-None.ensures) in
     sym (ap (λ t. beside t row) c.self.view_is) ∙ lacking_beside (map history_view hs) row lacks

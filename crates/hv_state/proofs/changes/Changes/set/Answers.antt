@@ -3,19 +3,13 @@ use Rattle.std.specs.List.{Contains}
 use Rattle.hv_state.specs.Atoms.{atom_read}
 use Rattle.hv_state.specs.Changes.{Change, Tells}
 use Rattle.hv_state.specs.inside.Hashes.{TellRows}
-use Rattle.hv_state.specs.inside.Rows.{row_of, Ascend, IsPlace}
+use Rattle.hv_state.specs.inside.Rows.{row_of, IsPlace}
 use Rattle.hv_state.specs.inside.Histories.{IsTable, AreFlagged, history_view, rows_of}
 use Rattle.hv_state.specs.inside.Notes.{Before, IsSet}
-use Rattle.hv_state.proofs.HistoryLemmas.{numbers, rows_are, found_in, not_found_in, changes_beside}
+use Rattle.hv_state.proofs.HistoryLemmas.{numbers_are, found_in, not_found_in, changes_beside}
 use Rattle.hv_state.proofs.GrowLemmas.{turned_table, turned_rows, turned_here, turned_others}
 use Rattle.hv_state.proofs.NoteLemmas.{differ_if, agree_if, set_turned, set_same_atom, set_unknown}
 use Rattle.hv_state.proofs.changes.Changes.set.Goals as goal
-
-pub look_up_at-requires-clause-ascend : goal.look_up_at-requires-clause-ascend
-look_up_at-requires-clause-ascend g c = subst (λ hs. Ascend (map numbers hs)) (sym c.deref.ensures.value) (subst Ascend (rows_are c.self.inside.list.items) c.self.invariant.0.rows)
-
-pub look_up_at-requires-clause-told : goal.look_up_at-requires-clause-told
-look_up_at-requires-clause-told g c = subst (λ hs. TellRows c.self.inside.guesses.buckets.items (map numbers hs)) (sym c.deref.ensures.value) (subst (TellRows c.self.inside.guesses.buckets.items) (rows_are c.self.inside.list.items) c.self.invariant.2)
 
 pub invariant_of-self : goal.invariant_of-self
 invariant_of-self g c =
@@ -23,7 +17,7 @@ invariant_of-self g c =
     let row = row_of (atom_read c.args.atom.now) in
     let change : Change = (c.args.from, c.args.is_true) in
     let new = map history_view c.turn_at.new.list.items in
-    let found = found_in hs row c.in-Some.place (subst (λ xs. IsPlace (map numbers xs) row (Ok c.in-Some.place)) c.deref.ensures.value c.in-Some.ensures) in
+    let found = found_in hs row c.in-Some.place (subst (λ rows. IsPlace rows row (Ok c.in-Some.place)) (sym (numbers_are hs c.args.self.now c.self.view_is)) c.in-Some.ensures) in
     let turned = c.in_ok-turn_at.ensures.ok in
     let rows = sym (turned_rows (map history_view hs) row c.in-Some.place change new c.self.invariant.0 found.0 found.1 turned) in
     (turned_table (map history_view hs) row c.in-Some.place change new c.self.invariant.0 found.0 found.1 turned, subst (AreFlagged c.self.inside.flags.items) rows c.self.invariant.1, subst (TellRows c.self.inside.guesses.buckets.items) rows c.self.invariant.2)
@@ -43,7 +37,7 @@ returns-in_ok-turn_at g c =
     let start = g.S.State.atoms c.args.first.now in
     let change : Change = (c.args.from, c.args.is_true) in
     let new = map history_view c.turn_at.new.list.items in
-    let found = found_in hs row c.in-Some.place (subst (λ xs. IsPlace (map numbers xs) row (Ok c.in-Some.place)) c.deref.ensures.value c.in-Some.ensures) in
+    let found = found_in hs row c.in-Some.place (subst (λ rows. IsPlace rows row (Ok c.in-Some.place)) (sym (numbers_are hs c.args.self.now c.self.view_is)) c.in-Some.ensures) in
     let list = sym (changes_beside hs row c.in-Some.place c.index.result.now c.self.invariant.0.rows found.0 found.1 c.index.ensures) in
     let said = subst (λ cs. (k : ℕ) → Before (k + 1) cs → IsTrue c.says.result ↔ Tells (start atom) k cs) list c.says.ensures in
     let turned = c.in_ok-turn_at.ensures.ok in
@@ -59,15 +53,15 @@ returns-else-says-is_true g c =
     let atom = atom_read c.args.atom.now in
     let row = row_of atom in
     let start = g.S.State.atoms c.args.first.now in
-    let found = found_in hs row c.in-Some.place (subst (λ xs. IsPlace (map numbers xs) row (Ok c.in-Some.place)) c.deref.ensures.value c.in-Some.ensures) in
+    let found = found_in hs row c.in-Some.place (subst (λ rows. IsPlace rows row (Ok c.in-Some.place)) (sym (numbers_are hs c.args.self.now c.self.view_is)) c.in-Some.ensures) in
     let list = sym (changes_beside hs row c.in-Some.place c.index.result.now c.self.invariant.0.rows found.0 found.1 c.index.ensures) in
     let said = subst (λ cs. (k : ℕ) → Before (k + 1) cs → IsTrue c.says.result ↔ Tells (start atom) k cs) list c.says.ensures in
-    subst (λ x. IsSet start (λ h. atom ≡ h) c.args.from c.args.is_true x t) c.self.view_is (set_same_atom start c.args.from c.says.result c.args.is_true atom t t said (agree_if c.says.result c.args.is_true c.if-says-is_true.false))
+    subst (λ x. IsSet start (λ h. atom ≡ h) c.args.from c.args.is_true x x) c.self.view_is (set_same_atom start c.args.from c.says.result c.args.is_true atom t t said (agree_if c.says.result c.args.is_true c.if-says-is_true.false))
 
 pub returns-in_default : goal.returns-in_default
 returns-in_default g c =
     let hs = c.self.inside.list.items in
     let t = map history_view hs in
     let atom = atom_read c.args.atom.now in
-    let lacks = not_found_in hs (row_of atom) (subst (λ xs. Contains (map numbers xs) (row_of atom) → ⊥) c.deref.ensures.value c.in_default.ensures) in
+    let lacks = not_found_in hs (row_of atom) (subst (λ rows. Contains rows (row_of atom) → ⊥) (sym (numbers_are hs c.args.self.now c.self.view_is)) c.in_default.ensures) in
     subst (λ x. IsSet (g.S.State.atoms c.args.first.now) (λ h. atom ≡ h) c.args.from c.args.is_true x x) c.self.view_is (set_unknown (g.S.State.atoms c.args.first.now) c.args.from c.args.is_true atom t lacks)
