@@ -7,9 +7,9 @@ ghost use Rattle.hv_state.specs.inside.Bits.{Lit, Shown, Knows, AreBits, IsChang
 
 use crate::atom::AtomView;
 use crate::bits::has_bit;
-use crate::find::{guesses_of, look_up};
+use crate::find::{guesses_of, look_up_at};
 use crate::ground::GroundAtoms;
-use crate::guesses::Guesses;
+use crate::guesses::{Guesses, Stride};
 use crate::lit::{bright, clear_all, knows_all, lacking, lit_rows, set_all};
 use crate::rows::{Row, copy_of, merge_distinct, push_copies, rows_of, sort_distinct};
 use crate::state::State;
@@ -17,6 +17,7 @@ use crate::touched::touched;
 use hv_text::Memory;
 use hv_world::{Binding, GroundActions, World};
 use std::alloc::Global;
+use std::cell::Cell;
 use std::marker::Model;
 use std::rc::Rc;
 
@@ -26,6 +27,8 @@ use std::rc::Rc;
 pub struct BitState {
     table: Rc<Vec<Row>>,
     guesses: Rc<Guesses>,
+    // Where atoms were found last.
+    stride: Cell<Stride>,
     words: Vec<u64>,
 }
 
@@ -73,6 +76,7 @@ impl BitState {
         Ok(BitState {
             table,
             guesses,
+            stride: Cell::new(Stride::start()),
             words,
         })
     }
@@ -125,13 +129,18 @@ impl State for BitState {
         Ok(BitState {
             table,
             guesses,
+            stride: Cell::new(Stride::start()),
             words,
         })
     }
 
     fn holds(&self, atom: &AtomView<'_>) -> bool {
-        match look_up(&self.table, &self.guesses, atom) {
-            Some(number) => has_bit(&self.words, number),
+        let stride = self.stride.get();
+        match look_up_at(&self.table, &self.guesses, stride.next(), atom) {
+            Some(number) => {
+                self.stride.set(stride.found(number));
+                has_bit(&self.words, number)
+            }
             None => false,
         }
     }

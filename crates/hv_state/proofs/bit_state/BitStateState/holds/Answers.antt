@@ -8,8 +8,8 @@ use Rattle.hv_state.specs.inside.Hashes.{TellRows}
 use Rattle.hv_state.proofs.LitLemmas.{found_lit, both_ways}
 use Rattle.hv_state.proofs.bit_state.BitStateState.holds.Goals as goal
 
-pub look_up-requires-clause-told : goal.look_up-requires-clause-told
-look_up-requires-clause-told c =
+pub look_up_at-requires-clause-told : goal.look_up_at-requires-clause-told
+look_up_at-requires-clause-told c =
     let was = ap rows_in (c.deref-2.ensures.value ∙ ap (λ v. v.items) c.deref.ensures) in
     subst (λ (guesses : Guesses). TellRows guesses.buckets.items (rows_in c.deref-2.result.now)) (sym c.deref-3.ensures) (subst (TellRows c.self.inside.guesses.value.buckets.items) (sym was) c.self.invariant.1)
 
