@@ -16,6 +16,7 @@ pub mod MadeLemmas
 pub mod NextLemmas
 pub mod DecisionLemmas
 pub mod WordLemmas
+pub mod BetweenLemmas
 pub mod BitLemmas
 pub mod LitLemmas
 pub mod TakeLemmas

@@ -3,6 +3,7 @@ use Rattle.std.specs.Prelude.{◌≡◌, ℕ, ◌<◌, ◌≤◌, ◌↔◌, ◌
 use Rattle.std.specs.List.{AllPairs, Contains}
 use Rattle.std.specs.Ordering.{nat_cmp}
 use Rattle.std.specs.Cmp.Lexicographic.{slice_cmp}
+use Rattle.std.specs.declared.cmp.Ordering.{Ordering}
 use Rattle.std.specs.declared.cmp.Ordering.TheVariants.{Less}
 use Rattle.hv_world.specs.Values.{Atom}
 use Rattle.hv_world.specs.Bindings.{GroundAtom, ground_atom, objects_in, object_of}
@@ -78,6 +79,10 @@ IsGap rows row i = (i ≤ length rows) × ((k : ℕ) → k < i → IsBelow (slic
 abbrev pub IsPlace : List (List ℕ) → List ℕ → Result ℕ ℕ → Type 0
 IsPlace rows row (Ok i) = (i < length rows) × (slice_index_or rows i [] ≡ row)
 IsPlace rows row (Err i) = IsGap rows row i
+
+-- how the row at a place stands to another
+abbrev pub IsComparedAt : List (List ℕ) → ℕ → List ℕ → Ordering → Type 0
+IsComparedAt rows i row o = (i < length rows) × (o ≡ slice_cmp nat_cmp (slice_index_or rows i []) row)
 
 -- the same rows, in whatever order and however often
 abbrev pub HasSameRows : List (List ℕ) → List (List ℕ) → Type 0

@@ -1,0 +1,13 @@
+use Rattle.std.proofs.Common.{sym, subst, ◌≡◌, ◌∙◌}
+use Rattle.std.specs.Ordering.{nat_cmp}
+use Rattle.std.specs.Cmp.Lexicographic.{slice_cmp}
+use Rattle.std.specs.declared.cmp.Ordering.TheVariants.{Less}
+use Rattle.hv_state.specs.Atoms.{atom_read}
+use Rattle.hv_state.specs.inside.Rows.{row_of}
+use Rattle.hv_state.proofs.GuessLemmas.{row_there}
+use Rattle.hv_state.proofs.find.is_before.Goals as goal
+
+pub returns-in-Less : goal.returns-in-Less
+returns-in-Less g c =
+    let (within, at) = row_there g.T.HasRow.numbers c.args.list.now c.args.place c.in-Some.it.now c.in-Some.ensures.lookup.3.0 c.in-Some.ensures.lookup.1 in
+    λ t. (within, subst (λ xs. Less ≡ slice_cmp nat_cmp xs (row_of (atom_read c.args.atom.now))) (c.row.ensures ∙ sym at) (sym c.in-Less.is ∙ c.compare.ensures))
