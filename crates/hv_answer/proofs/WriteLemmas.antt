@@ -7,7 +7,7 @@ use Rattle.std.specs.Io.KnownBytes.{Appends}
 use Rattle.std.specs.Char.{to_ascii_lowercase}
 use Rattle.hv_text.specs.Bytes.{lower}
 use Rattle.hv_text.specs.Io.{AppendsBeginning}
-pub use Rattle.hv_text.proofs.WriteLemmas.{longer, behind, item_fails, on_err}
+pub use Rattle.hv_text.proofs.Cited.{longer, behind, item_fails}
 
 -- a text that fails at its first part, which is what was handed on
 pub first_fails : (a b : Option (List ℕ)) (xs text ys : List ℕ) → text ≡ xs → AppendsBeginning a b text → AppendsBeginning a b (xs ++ ys)

@@ -5,6 +5,7 @@ use Rattle.std.proofs.lemmas.List.{length_push}
 use Rattle.std.proofs.lemmas.List.Concat.{flat_map-append}
 use Rattle.std.proofs.lemmas.List.Elements.{All-push}
 use Rattle.std.specs.List.{list_all}
+use Rattle.hv_lists.proofs.Bools.{both_true}
 use Rattle.hv_text.specs.declared.fault.TheConstants.{MOST_BYTES}
 use Rattle.hv_certificate.specs.Texts.{root_text, node_text, nodes_text}
 use Rattle.hv_certificate.specs.Forms.{HasIds, IsLine, with_byte, lines, IsOfForm, IsFirstOff, missing, off, later, IsCertFault}
@@ -13,7 +14,7 @@ use Rattle.hv_certificate.specs.inside.Reading.{NoFirst, NoRoot, NoNode, IsOff}
 use Rattle.hv_certificate.specs.declared.certificate.Choice.{Choice}
 use Rattle.hv_certificate.specs.declared.fault.CertFault.{CertFault}
 use Rattle.hv_certificate.specs.declared.fault.CertFault.TheVariants as faults
-use Rattle.hv_certificate.proofs.WordLemmas.{decimal_word, both_true}
+use Rattle.hv_certificate.proofs.WordLemmas.{decimal_word}
 use Rattle.hv_certificate.proofs.FormLemmas.{root_line, node_line, root_word, choice_are, node_are}
 
 -- a byte that ends no line

@@ -7,16 +7,13 @@ use Rattle.std.proofs.lemmas.Str.Parse.{digit_from_value}
 use Rattle.std.specs.List.{list_all, prefix_len}
 use Rattle.std.specs.Char.{to_ascii_lowercase, digit_value}
 use Rattle.std.specs.Str.Parse.{AllDigits}
+use Rattle.hv_lists.proofs.Bools.{both_true}
 use Rattle.hv_text.specs.Bytes.{is_word_byte, is_word, lower}
 use Rattle.hv_text.specs.Names.{text_of}
 use Rattle.hv_text.specs.declared.name.Name.{Name}
 use Rattle.hv_certificate.specs.Forms.{IsId}
 use Rattle.hv_certificate.specs.inside.Words.{is_name_byte, begins, goes_on, IsWord, AreWords, words_text, line_text}
 use Rattle.hv_certificate.specs.inside.Reading.{IsNoNumber}
-
-pub both_true : (a b : Bool) → (a && b) ≡ true → (a ≡ true) × (b ≡ true)
-both_true true b e = (refl, e)
-both_true false b e = absurd cc
 
 pub head_same : (a b : ℕ) (xs ys : List ℕ) → a ∷ xs ≡ b ∷ ys → (a ≡ b) × (xs ≡ ys)
 head_same a b xs ys e = (cc, cc)

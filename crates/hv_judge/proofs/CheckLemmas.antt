@@ -1,6 +1,7 @@
 -- What the check of a certificate answers of a plan in a world, and of three texts.
 use Rattle.std.proofs.Common.{◌≡◌, ◌<◌, ◌≤◌, ◌+◌, ℕ, Bool, true, false, List, Option, Some, None, length, sym, ◌∙◌, ap, subst, arith}
 use Rattle.std.specs.Prelude.{drop}
+use Rattle.hv_lists.proofs.Pairs.{same_length}
 use Rattle.hv_world.specs.Bindings.{GroundAction}
 use Rattle.hv_world.specs.Worlds.{World}
 use Rattle.hv_state.specs.Plans as states
@@ -9,7 +10,6 @@ use Rattle.hv_state.specs.declared.trace.Stop.{Stop}
 use Rattle.hv_state.specs.declared.trace.Stop.TheVariants as stops
 use Rattle.hv_plan.specs.Values.{Plan}
 use Rattle.hv_plan.specs.PlanTrees.{PlanTree, NodeIs, IsActionOf, IsNodeOf}
-use Rattle.hv_plan.proofs.FitLemmas.{same_length}
 use Rattle.hv_match.specs.Candidates.{Tells}
 use Rattle.hv_order.specs.Certified.{Certifies, CountsTo, line_numbers}
 use Rattle.hv_order.specs.Settings.{setting}

@@ -2,6 +2,7 @@
 use Rattle.std.proofs.Common.{◌≡◌, ℕ, Bool, true, false, List, [], ◌∷◌, Some, map, refl, sym, ◌∙◌, ap, subst}
 use Rattle.std.specs.Prelude.{drop}
 use Rattle.std.specs.List.{AllZip}
+use Rattle.hv_lists.proofs.Bools.{same_bools}
 use Rattle.hv_text.specs.Names.{text_of}
 use Rattle.hv_syntax.specs.Values.{Domain, Problem}
 use Rattle.hv_world.specs.Worlds.{World, world_of}
@@ -83,11 +84,6 @@ solves_alike w p c e same s = record {
   certified = certifies_alike (judged_in w s.tree) c e same s.certified;
 }
 
-same_bool : (a b : Bool) → (a ≡ true → b ≡ true) → (b ≡ true → a ≡ true) → a ≡ b
-same_bool true b there back = sym (there refl)
-same_bool false true there back = back refl
-same_bool false false there back = refl
-
 -- one text is that of one certificate, and three texts spell one plan in one world
 module _ (one : (c e : Certificate) → HasNumbers c → HasNumbers e → cert_text c ≡ cert_text e
     → certificate_view c ≡ certificate_view e) (spelling : OneSpellingLaw) where
@@ -100,7 +96,7 @@ module _ (one : (c e : Certificate) → HasNumbers c → HasNumbers e → cert_t
       → IsRecheckOf cert s w p → r.certified ≡ s.certified
   one_here cert w p r s this that =
       let same = same_text cert this.certificate that.certificate this.says that.says in
-      same_bool r.certified s.certified
+      same_bools r.certified s.certified
       (λ on. that.certified.1 (solves_alike w p this.certificate that.certificate same (this.certified.0 on)))
       (λ on. this.certified.1 (solves_alike w p that.certificate this.certificate (sym same) (that.certified.0 on)))
 

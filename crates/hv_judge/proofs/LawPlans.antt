@@ -3,7 +3,7 @@
 use Rattle.std.proofs.Common.{◌≡◌, ◌<◌, inl, inr, ℕ, Bool, true, false, Option, Some, None, MatchOption, refl, sym, ◌∙◌, ap, subst, arith}
 use Rattle.std.specs.List.{slice_get}
 use Rattle.std.proofs.lemmas.Option.{slice_get_within}
-use Rattle.hv_text.proofs.TextFaults.{Compared, less, equal, more, compare}
+use Rattle.hv_lists.proofs.Numbers.{Compared, less, equal, more, compare}
 use Rattle.hv_world.specs.Worlds.{World, Method}
 use Rattle.hv_state.specs.Plans.{CanRun, StopsAt, GoalHolds}
 use Rattle.hv_plan.specs.Values.{Action, Plan}

@@ -1,9 +1,9 @@
 -- The first node of a tree whose count is above a limit.
 use Rattle.std.proofs.Common.{◌≡◌, ◌<◌, ◌≤◌, ◌+◌, ℕ, Some, length, slice_get, sym, ap, inl, inr, ◌∙◌, arith}
+use Rattle.hv_lists.proofs.Numbers.{below_next}
+use Rattle.hv_lists.proofs.Contained.{place_of}
 use Rattle.hv_world.specs.Worlds.{World}
 use Rattle.hv_plan.specs.PlanTrees.{PlanTree, IsTreeIn}
-use Rattle.hv_plan.proofs.FitLemmas.{less_or_same}
-use Rattle.hv_match.proofs.Told.{place_of}
 use Rattle.hv_judge.specs.Causes.{IsCountWithin, IsFirstAbove, IsWithinLimit}
 use Rattle.hv_judge.specs.inside.Ends.{IsAboveAt, IsWithinAt}
 
@@ -30,7 +30,7 @@ module _ (w : World) (t : PlanTree) (limit : ℕ) where
       → IsWithinAt w t limit place
       → (i v : ℕ) → i < place + 1 → slice_get t.order i ≡ Some v → IsCountWithin w t limit v
   one_more place earlier here i v less at =
-      elim (less_or_same i place less) [
+      elim (below_next i place less) [
         | inl before ↦ earlier i v before at
         | inr same ↦ here v (sym (ap (slice_get t.order) same) ∙ at)
       ]

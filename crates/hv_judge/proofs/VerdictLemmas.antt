@@ -1,5 +1,7 @@
 -- What the judge answers of a plan in a world, from what its parts find.
 use Rattle.std.proofs.Common.{◌≡◌, ◌<◌, ◌↔◌, ℕ, Bool, List, true, false, IsTrue, IfOk, IfErr, Result, Ok, Err, Option, None, Some, option_map, length, slice_get, sym, subst, ap, ◌∙◌}
+use Rattle.hv_lists.proofs.Places.{member_at}
+use Rattle.hv_lists.proofs.Pairs.{same_length}
 use Rattle.hv_world.specs.Worlds.{World}
 use Rattle.hv_world.specs.Bindings.{GroundAction}
 use Rattle.hv_state.specs.Plans as states
@@ -13,7 +15,6 @@ use Rattle.hv_plan.specs.Fits.{FitWorld}
 use Rattle.hv_plan.specs.PlanTrees.{PlanTree, IsTreeOf, IsTreeIn, IsActionOf}
 use Rattle.hv_plan.specs.declared.cause.TreeFault.{TreeFault}
 use Rattle.hv_plan.specs.declared.cause.TreeFault.TheVariants as trees
-use Rattle.hv_plan.proofs.FitLemmas.{member_at, same_length}
 use Rattle.hv_order.specs.Certified.{Certifies, IsRowFault}
 use Rattle.hv_order.specs.Settings.{HasCandidate, HaveCandidates, IsFirstWithout, IsSolved}
 use Rattle.hv_certificate.specs.declared.certificate.Certificate.{Certificate}

@@ -4,11 +4,13 @@ use Rattle.std.proofs.lemmas.List.{append-nil}
 use Rattle.std.proofs.lemmas.List.Elements.{Contains-append_right, Contains-append_cases}
 use Rattle.std.proofs.Math.Nat.{mul-le-mul_right}
 use Rattle.std.specs.List.{flat_map}
-use Rattle.hv_text.specs.Lists.{Once}
+use Rattle.hv_lists.specs.Lists.{Once}
+use Rattle.hv_lists.proofs.Contained.{at_head, in_tail, none_in_empty}
+use Rattle.hv_lists.proofs.EachOnce.{once_head, once_tail, once_more}
 use Rattle.hv_match.specs.inside.Search.{IsPath, below, IsWanted}
 use Rattle.hv_world.specs.Alike.{Key, same_key, how_many}
 use Rattle.hv_match.specs.inside.Counting.{first_alike, IsMatching, tower}
-use Rattle.hv_match.proofs.Members.{at_most, all_there, at_head, in_tail, none_in_empty, once_head, once_tail, once_none, once_more}
+use Rattle.hv_match.proofs.Members.{at_most, all_there, once_none}
 use Rattle.hv_match.proofs.Listing.{found}
 use Rattle.hv_match.proofs.Factors.{key_same}
 

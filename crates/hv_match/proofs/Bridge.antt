@@ -2,12 +2,18 @@
 use Rattle.std.proofs.Common.{◌≡◌, ◌≢◌, ℕ, zero, suc, ◌+◌, ◌<◌, Bool, true, false, List, [], ◌∷◌, ◌++◌, length, map, take, drop, get_or, length-append, nat_eq, slice_index, refl, sym, ap, ◌∙◌, arith, subst, Option, Some, None, option_map, All, AllPairs, Contains, eqb-true, eq-eqb, slice_get}
 use Rattle.std.proofs.lemmas.List.Elements.{All-nil, All-cons, All-head, All-tail}
 use Rattle.std.specs.List.{AllZip}
+use Rattle.std.proofs.lemmas.List.{length-map}
+use Rattle.hv_lists.proofs.Places.{take_one, map_end}
+use Rattle.hv_lists.proofs.Pairs.{zip_end, same_length}
+use Rattle.hv_lists.proofs.Contained.{mem_map, map_mem, at_head, in_tail, none_in_empty}
+use Rattle.hv_lists.proofs.EachOnce.{once_head, once_tail, once_more}
+use Rattle.hv_lists.proofs.Bools.{both_true, and_both}
 use Rattle.hv_world.specs.Bindings.{object_of}
 use Rattle.hv_world.specs.Values.{Term, object, variable, Subtask, subtask, Constraint}
 use Rattle.hv_world.specs.Alike.{instance, subtask_instance}
 use Rattle.hv_world.specs.Types.{Typing, Of}
 use Rattle.hv_world.specs.Worlds.{World, Method}
-use Rattle.hv_text.specs.Lists.{Once}
+use Rattle.hv_lists.specs.Lists.{Once}
 use Rattle.hv_world.specs.Views.{type_number}
 use Rattle.hv_world.specs.declared.id.TypeId.{TypeId}
 use Rattle.hv_match.specs.inside.Search.{below}
@@ -18,15 +24,14 @@ use Rattle.hv_match.specs.inside.Ranges.{IsRange, AreRanges, as_subtask, IsPuzzl
 use Rattle.hv_match.specs.inside.PuzzleViews.{puzzle_view}
 use Rattle.hv_match.specs.declared.puzzle.Puzzle as code_puzzle
 use Rattle.hv_match.specs.declared.table.MethodTable.{MethodTable}
-use Rattle.hv_match.proofs.Members.{mem_map, map_mem, at_head, in_tail, none_in_empty, once_head, once_tail, once_none, once_more}
-use Rattle.hv_match.proofs.CountLemmas.{take_one, map_end, zip_end}
+use Rattle.hv_match.proofs.Members.{once_none}
 use Rattle.hv_match.proofs.Keys.{instances_are}
-use Rattle.hv_match.proofs.Fitting.{both, also, zip_len, good_match, match_good, match_parts}
+use Rattle.hv_match.proofs.Fitting.{good_match, match_good, match_parts}
 use Rattle.hv_match.proofs.Listing.{listing_to, listing_from, once_below}
 use Rattle.hv_match.proofs.Paths.{candidate_path}
 use Rattle.hv_match.proofs.Whole.{options_once}
 
--- one object under both readings
+-- one object under both_true readings
 one_object : (B : List ℕ) (t : Term) → instance (slice_index B) t ≡ object (object_of B t)
 one_object B (object o) = refl
 one_object B (variable v) = refl
@@ -123,11 +128,11 @@ held_from B c h = go (nat_eq (object_of B c.left) (object_of B c.right)) refl c.
 
 pub holds_to : (B : List ℕ) (cs : List Constraint) → all_hold B cs ≡ true → All (Holds B) cs
 holds_to B [] e = All-nil _
-holds_to B (c ∷ cs) e = let b = both (holds B c) (all_hold B cs) e in All-cons (Holds B) c cs (held_to B c b.0) (holds_to B cs b.1)
+holds_to B (c ∷ cs) e = let b = both_true (holds B c) (all_hold B cs) e in All-cons (Holds B) c cs (held_to B c b.0) (holds_to B cs b.1)
 
 pub holds_from : (B : List ℕ) (cs : List Constraint) → All (Holds B) cs → all_hold B cs ≡ true
 holds_from B [] a = refl
-holds_from B (c ∷ cs) a = also (holds B c) (all_hold B cs) (held_from B c (All-head (Holds B) c cs a)) (holds_from B cs (All-tail (Holds B) c cs a))
+holds_from B (c ∷ cs) a = and_both (holds B c) (all_hold B cs) (held_from B c (All-head (Holds B) c cs a)) (holds_from B cs (All-tail (Holds B) c cs a))
 
 pub within_to : (n : ℕ) (M : List ℕ) → ((x : ℕ) → Contains M x → x < n) → All (λ x. x < n) M
 within_to n [] h = All-nil _
@@ -138,13 +143,9 @@ within_from n [] a x m = absurd (none_in_empty x m)
 within_from n (y ∷ M) a x (zero, lt, e) = subst (λ z. z < n) e (All-head (λ x. x < n) y M a)
 within_from n (y ∷ M) a x (suc k, lt, e) = within_from n M (All-tail (λ x. x < n) y M a) x (k, omega (arith, lt), e)
 
-map_len : {X Y : Type 0} (f : X → Y) (xs : List X) → length (map f xs) ≡ length xs
-map_len f [] = refl
-map_len f (x ∷ xs) = ap suc (map_len f xs)
-
 module _ (w : World) (m : Method) (os : List ℕ) (cs : List (Option Subtask)) (p : Puzzle) (is : IsPuzzleOf w m os cs p) (M B : List ℕ) where
   as_many : length p.children ≡ length cs
-  as_many = sym (map_len (option_map as_subtask) p.children) ∙ ap length is.works
+  as_many = sym (length-map p.children (option_map as_subtask)) ∙ ap length is.works
 
   pub candidate_of : IsMatch p M B → IsCandidate w m os cs M B
   candidate_of c = record {
@@ -203,7 +204,7 @@ module _ (p : Puzzle) where
   pub match_listed : (M B : List ℕ) → IsMatch p M B → Contains (map (parts (length p.subtasks)) (below (options p) (is_good p) (levels p) [] 0)) (M, B)
   match_listed M B c =
       let l = below (options p) (is_good p) (levels p) [] 0 in
-      let size : length (M ++ B) ≡ levels p = omega (arith, length-append M B, zip_len (Done p.children B) M p.subtasks c.done, zip_len (λ (o : ℕ) (r : List ℕ). Contains r o) B p.ranges c.typed) in
+      let size : length (M ++ B) ≡ levels p = omega (arith, length-append M B, same_length (Done p.children B) M p.subtasks c.done, same_length (λ (o : ℕ) (r : List ℕ). Contains r o) B p.ranges c.typed) in
       let m : Contains l (M ++ B) = listing_from (options p) (is_good p) (levels p) (M ++ B) (record { whole = size; path = candidate_path p M B c; is_good = match_good p M B c }) in
       let q = match_parts p M B c in
       let e : parts (length p.subtasks) (M ++ B) ≡ (M, B) = rw (q.0, q.1) refl in

@@ -4,6 +4,8 @@ use Rattle.std.proofs.lemmas.List.{get_or-set_other, get_or-set_same, get_or_def
 use Rattle.std.proofs.lemmas.List.Elements.{All-nil, Contains-push, Contains-push_cases, Contains-append_left, All-push}
 use Rattle.std.proofs.lemmas.List.Quantifiers.{all_pairs_push}
 use Rattle.std.specs.List.{AllZip}
+use Rattle.hv_lists.proofs.Places.{take_one}
+use Rattle.hv_lists.proofs.Pairs.{zip_end}
 use Rattle.hv_world.specs.Bindings.{object_of}
 use Rattle.hv_world.specs.Values.{object, Subtask, subtask}
 use Rattle.hv_world.specs.Alike.{subtask_instance}
@@ -14,7 +16,6 @@ use Rattle.hv_match.specs.inside.Checks.{AreAllPlaces, AreMarked}
 use Rattle.hv_match.specs.inside.Puzzles.{Work, work, same_values, does, all_hold}
 use Rattle.hv_match.specs.inside.Ranges.{as_subtask}
 use Rattle.hv_match.proofs.Bridge.{same_objects, holds_to, holds_from}
-use Rattle.hv_match.proofs.CountLemmas.{take_one, zip_end}
 use Rattle.hv_match.proofs.Fitting.{values_from, values_to, does_from, does_to}
 use Rattle.hv_match.proofs.Keys.{instances_are}
 
@@ -99,12 +100,6 @@ zip_at R (x ∷ xs) (y ∷ ys) (suc i) d e a h = zip_at R xs ys i d e a.1 (omega
 
 pub zip_more : {X Y : Type 0} (R : X → Y → Type 0) (xs : List X) (ys : List Y) (i : ℕ) (d : X) (e : Y) → i < length xs → i < length ys → AllZip R (take i xs) (take i ys) → R (get_or xs i d) (get_or ys i e) → AllZip R (take (i + 1) xs) (take (i + 1) ys)
 zip_more R xs ys i d e h k a r = rw (take_one xs i d h, take_one ys i e k) (zip_end R (take i xs) (take i ys) (get_or xs i d) (get_or ys i e) a r)
-
-pub zip_len : {X Y : Type 0} (R : X → Y → Type 0) (xs : List X) (ys : List Y) → AllZip R xs ys → length xs ≡ length ys
-zip_len R [] [] a = refl
-zip_len R [] (y ∷ ys) a = absurd a
-zip_len R (x ∷ xs) [] a = absurd a
-zip_len R (x ∷ xs) (y ∷ ys) a = ap suc (zip_len R xs ys a.1)
 
 pub zip_to : {X Y A B : Type 0} (f : X → A) (g : Y → B) (R : A → B → Type 0) (xs : List X) (ys : List Y) → AllZip (λ x y. R (f x) (g y)) xs ys → AllZip R (map f xs) (map g ys)
 zip_to f g R [] [] a = tt

@@ -3,6 +3,8 @@ use Rattle.std.proofs.Common.{◌≡◌, ℕ, zero, suc, ◌+◌, ◌*◌, ◌^�
 use Rattle.std.proofs.lemmas.Bool.{ltb-true, ltb-false}
 use Rattle.std.proofs.lemmas.Bool.Decides.{nat_tests}
 use Rattle.std.specs.List.{AllZip, range_with_len}
+use Rattle.hv_lists.proofs.Places.{take_one, map_end}
+use Rattle.hv_lists.proofs.Pairs.{zip_end}
 use Rattle.hv_world.specs.Alike.{class_sizes}
 use Rattle.hv_world.specs.Worlds.{World, Method}
 use Rattle.hv_match.specs.Counts.{factorial, product, AreSoMany, AreChoices, free, IsCount}
@@ -30,26 +32,9 @@ past_from n e = go (nat_lt n (2 ^ 64)) refl e
     go false t e = ltb-false n (2 ^ 64) t
 
 -- one element more
-pub take_one : {X : Type 0} (xs : List X) (i : ℕ) (d : X) → i < length xs → take (i + 1) xs ≡ take i xs ++ get_or xs i d ∷ []
-take_one [] i d h = absurd (omega arith)
-take_one (x ∷ xs) zero d h = refl
-take_one {X} (x ∷ xs) (suc i) d h =
-    let e : suc i + 1 ≡ suc (i + 1) = omega arith in
-    rw e (ap (λ (l : List X). x ∷ l) (take_one xs i d (omega arith)))
-
 pub product_end : (ns : List ℕ) (n : ℕ) → product (ns ++ n ∷ []) ≡ product ns * n
 product_end [] n = omega arith
 product_end (m ∷ ns) n = rw (product_end ns n) (grind arith)
-
-pub map_end : {X Y : Type 0} (f : X → Y) (xs : List X) (x : X) → map f (xs ++ x ∷ []) ≡ map f xs ++ f x ∷ []
-map_end f [] x = refl
-map_end {X} {Y} f (y ∷ xs) x = ap (λ (l : List Y). f y ∷ l) (map_end f xs x)
-
-pub zip_end : {X Y : Type 0} (R : X → Y → Type 0) (xs : List X) (ys : List Y) (x : X) (y : Y) → AllZip R xs ys → R x y → AllZip R (xs ++ x ∷ []) (ys ++ y ∷ [])
-zip_end R [] [] x y a r = (r, tt)
-zip_end R [] (z ∷ ys) x y a r = absurd a
-zip_end R (w ∷ xs) [] x y a r = absurd a
-zip_end R (w ∷ xs) (z ∷ ys) x y a r = (a.0, zip_end R xs ys x y a.1 r)
 
 pub more_orders : (n k : ℕ) → n * factorial k * (k + 1) ≡ n * factorial (k + 1)
 more_orders n k = let e : k + 1 ≡ suc k = omega arith in rw e (grind arith)

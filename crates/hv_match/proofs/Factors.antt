@@ -2,16 +2,15 @@
 use Rattle.std.proofs.Common.{◌≡◌, ◌≢◌, ℕ, zero, suc, ◌+◌, ◌*◌, Bool, true, false, List, [], ◌∷◌, map, get_or, refl, sym, ap, ◌∙◌, arith, subst, if◌then◌else◌, ◌&&◌, All, AllPairs, Contains, eqb-true, eq-eqb}
 use Rattle.std.specs.Str.{bytes_eq}
 use Rattle.std.proofs.lemmas.Slice.Eq.{bytes_eq-Decides}
+use Rattle.hv_lists.proofs.Contained.{mem_map, map_mem, at_head, in_tail, none_in_empty}
+use Rattle.hv_lists.proofs.EachOnce.{once_head, once_tail, once_more}
+use Rattle.hv_lists.proofs.Bools.{both_true}
 use Rattle.hv_world.specs.Values.{TaskName, compound, primitive}
 use Rattle.hv_world.specs.Alike.{Key, key_with, same_name, same_key, how_many, classes}
-use Rattle.hv_text.specs.Lists.{Once}
+use Rattle.hv_lists.specs.Lists.{Once}
 use Rattle.hv_match.specs.Counts.{factorial, product}
 use Rattle.hv_match.specs.inside.Counting.{rising}
-use Rattle.hv_match.proofs.Members.{mem_map, map_mem, at_head, in_tail, none_in_empty, once_head, once_tail, once_none, once_more}
-
-both : (a b : Bool) → (a && b) ≡ true → (a ≡ true) × (b ≡ true)
-both true b e = (refl, e)
-both false b e = (e, absurd (let f : false ≡ true = e in cc))
+use Rattle.hv_match.proofs.Members.{once_none}
 
 pub name_is : (a b : TaskName) → same_name a b ≡ true → a ≡ b
 name_is (compound t) (compound u) e = ap compound (eqb-true t u e)
@@ -25,7 +24,7 @@ name_itself (primitive t) = eq-eqb t t refl
 
 pub key_is : (k j : Key) → same_key k j ≡ true → k ≡ j
 key_is k j e =
-    let r = both (same_name k.name j.name) (bytes_eq k.objects j.objects) e in
+    let r = both_true (same_name k.name j.name) (bytes_eq k.objects j.objects) e in
     ap (λ n. key_with n k.objects) (name_is k.name j.name r.0) ∙ ap (key_with j.name) ((bytes_eq-Decides k.objects j.objects).0 r.1)
 
 pub key_same : (k : Key) → same_key k k ≡ true

@@ -2,6 +2,7 @@
 use Rattle.std.proofs.Common.{◌≡◌, ◌≢◌, ℕ, zero, suc, ◌+◌, ◌<◌, ◌≤◌, Bool, true, false, List, [], ◌∷◌, ◌++◌, length, map, take, refl, ap, sym, subst, ◌∙◌, arith, append_assoc, All, if◌then◌else◌}
 use Rattle.std.specs.Prelude.{MatchBool}
 use Rattle.std.proofs.lemmas.List.{append-nil}
+use Rattle.hv_lists.proofs.Places.{first_none}
 use Rattle.hv_match.specs.inside.Parts.{parts, coming}
 use Rattle.hv_match.specs.inside.Puzzles.{Puzzle, options, levels, is_good}
 use Rattle.hv_match.specs.inside.Search.{below}
@@ -21,10 +22,6 @@ found_small p q n bound e h g =
     let m = good_match p q g in
     subst (λ (k : ℕ). All (λ x. x < bound) (take k q)) e (within_to bound (take (length p.subtasks) q) (λ x i. (let r = m.within x i in omega (arith, r, h))))
 
-no_front : {X : Type 0} (xs ys : List X) → xs ++ ys ≡ [] → xs ≡ []
-no_front [] ys e = refl
-no_front (x ∷ xs) ys e = cc
-
 nothing_seen : {X Y : Type 0} (f : X → Y) (xs : List X) → map f xs ≡ [] → xs ≡ []
 nothing_seen f [] e = refl
 nothing_seen f (x ∷ xs) e = cc
@@ -40,7 +37,7 @@ rest_some f good zero p (x ∷ xs) ns c s l g e = absurd (omega arith)
 rest_some f good (suc k) p (x ∷ xs) [] c s l g e = absurd (omega arith)
 rest_some f good (suc k) p (x ∷ xs) (n ∷ ns) c s l g e =
     rest_some f good k (p ++ x ∷ []) xs ns c (omega arith) (omega arith) (ap good (append_assoc p (x ∷ []) xs) ∙ g)
-    (no_front (rest f good k (p ++ x ∷ []) xs ns c) (below f good (suc k) p (n + 1)) e)
+    (first_none (rest f good k (p ++ x ∷ []) xs ns c) (below f good (suc k) p (n + 1)) e)
 
 -- something is to come just where something is found
 pub found_comes : (p : Puzzle) (at : State) (distinct width : ℕ) (b : Bool) → IsState (options p) (levels p) distinct width at

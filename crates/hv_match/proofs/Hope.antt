@@ -3,6 +3,8 @@ use Rattle.std.proofs.Common.{◌≡◌, ℕ, zero, suc, ◌+◌, ◌<◌, ◌�
 use Rattle.std.proofs.lemmas.List.{get_or_default}
 use Rattle.std.specs.Global.{Vec}
 use Rattle.std.specs.List.{AllZip}
+use Rattle.hv_lists.proofs.Contained.{none_in_empty}
+use Rattle.hv_lists.proofs.Pairs.{same_length}
 use Rattle.hv_world.specs.Bindings.{object_of}
 use Rattle.hv_world.specs.Values.{Subtask}
 use Rattle.hv_world.specs.Views.{subtask_view, constraint_view}
@@ -13,10 +15,9 @@ use Rattle.hv_match.specs.inside.States.{rest}
 use Rattle.hv_match.specs.inside.Puzzles.{Work, Puzzle, options, places, values, is_good, child_at, children_for, may_do, places_where, bound, has, Done, IsMatch, Agrees, GoesOn, CannotDo, CannotHold, holds, all_hold}
 use Rattle.hv_match.specs.inside.Tables.{subtask_key, number_of, size_for, AreKeys}
 use Rattle.hv_match.specs.declared.child_rows.RowKeys.{RowKeys}
-use Rattle.hv_match.proofs.Members.{none_in_empty}
 use Rattle.hv_match.proofs.Listing.{none_begins}
 use Rattle.hv_match.proofs.FirstPlaces.{agrees, get_left, get_taken}
-use Rattle.hv_match.proofs.Fitting.{good_match, mem_has, zip_len}
+use Rattle.hv_match.proofs.Fitting.{good_match, mem_has}
 use Rattle.hv_match.proofs.MayDo.{places_there, done_may}
 use Rattle.hv_match.proofs.Rows.{number_at}
 use Rattle.hv_match.proofs.Scarce.{no_more}
@@ -116,7 +117,7 @@ none_outside pz p {R} f rs v o d are lt b out k = none_goes_on pz p (λ B on hol
 
 -- children that are not as many as the subtasks
 pub none_uneven : (pz : Puzzle) → (length pz.children ≡ length pz.subtasks → ⊥) → (k : ℕ) → below (options pz) (is_good pz) k [] 0 ≡ []
-none_uneven pz uneven k = none_fits pz [] (λ q xs e m. uneven (sym m.all ∙ zip_len (Done pz.children (values pz q)) (places pz q) pz.subtasks m.done)) k
+none_uneven pz uneven k = none_fits pz [] (λ q xs e m. uneven (sym m.all ∙ same_length (Done pz.children (values pz q)) (places pz q) pz.subtasks m.done)) k
 
 -- a task with other objects
 pub none_given : (pz : Puzzle) → ((B : List ℕ) → Agrees pz [] B → map (object_of B) pz.task ≡ pz.objects → ⊥) → (k : ℕ) → below (options pz) (is_good pz) k [] 0 ≡ []
@@ -147,7 +148,7 @@ none_scarce pz ks j keys few k = none_fits pz [] (λ q xs e m. go q m (slice_get
     go q m (Some t) e few =
         let r = number_at ks.keys.keys pz.subtasks ks.row_of.items keys.numbers j t e in
         let size : size_for ks j ≡ get_or ks.sizes.items r.0 0 = ap (λ (o : Option ℕ). elim o [ None ↦ 0 | Some i ↦ get_or ks.sizes.items i 0 ]) r.1 in
-        let many : length ks.row_of.items ≡ length (places pz q) = as_many ks.keys.keys pz.subtasks ks.row_of.items keys.numbers ∙ sym (zip_len (Done pz.children (values pz q)) (places pz q) pz.subtasks m.done) in
+        let many : length ks.row_of.items ≡ length (places pz q) = as_many ks.keys.keys pz.subtasks ks.row_of.items keys.numbers ∙ sym (same_length (Done pz.children (values pz q)) (places pz q) pz.subtasks m.done) in
         let most = no_more pz.children (values pz q) ks.keys.keys r.0 ks.row_of.items (places pz q) pz.subtasks t m.once m.done keys.numbers many r.2 in
         omega (arith, few, size, most, keys.sizes r.0)
 

@@ -1,13 +1,15 @@
 -- A candidate is a matching of keys.
 use Rattle.std.proofs.Common.{◌≡◌, ℕ, suc, List, [], ◌∷◌, length, map, slice_index, refl, sym, ap, ◌∙◌, arith, Option, Some, None, Contains}
 use Rattle.std.specs.List.{AllZip}
+use Rattle.std.proofs.lemmas.List.{length-map}
+use Rattle.hv_lists.proofs.Contained.{at_head, in_tail}
+use Rattle.hv_lists.proofs.Pairs.{same_length}
 use Rattle.hv_world.specs.Bindings.{object_of}
 use Rattle.hv_world.specs.Values.{Term, object, variable, Subtask, subtask}
 use Rattle.hv_world.specs.Alike.{Key, key_with, key, keys, instance, subtask_instance}
 use Rattle.hv_world.specs.Values.{compound}
 use Rattle.hv_match.specs.inside.Counting.{IsMatching}
 use Rattle.hv_match.specs.inside.Puzzles.{Work, Puzzle, child_at, Done, IsMatch}
-use Rattle.hv_match.proofs.Members.{at_head, in_tail}
 
 work_key : List Subtask → Option Work → Key
 work_key ss None = key_with (compound 0) []
@@ -32,19 +34,19 @@ module _ (pz : Puzzle) (instances : (s : Subtask) (g : ℕ → ℕ) → Contains
   all_keys B (x ∷ M) [] i a = absurd a
   all_keys B (x ∷ M) (s ∷ ss) i a = rw (done_key B x s (i s (at_head s ss s refl)) a.0, all_keys B M ss (λ z n. i z (in_tail s ss z n)) a.1) refl
 
-  zip_len : {X Y : Type 0} (R : X → Y → Type 0) (xs : List X) (ys : List Y) → AllZip R xs ys → length xs ≡ length ys
-  zip_len R [] [] a = refl
-  zip_len R [] (y ∷ ys) a = absurd a
-  zip_len R (x ∷ xs) [] a = absurd a
-  zip_len R (x ∷ xs) (y ∷ ys) a = ap suc (zip_len R xs ys a.1)
+  same_length : {X Y : Type 0} (R : X → Y → Type 0) (xs : List X) (ys : List Y) → AllZip R xs ys → length xs ≡ length ys
+  same_length R [] [] a = refl
+  same_length R [] (y ∷ ys) a = absurd a
+  same_length R (x ∷ xs) [] a = absurd a
+  same_length R (x ∷ xs) (y ∷ ys) a = ap suc (same_length R xs ys a.1)
 
-  map_len : {X Y : Type 0} (f : X → Y) (xs : List X) → length (map f xs) ≡ length xs
-  map_len f [] = refl
-  map_len f (x ∷ xs) = ap suc (map_len f xs)
+  length-map {X Y : Type 0} : (f : X → Y) (xs : List X) → length (map f xs) ≡ length xs
+  length-map [] f = refl
+  length-map (x ∷ xs) f = ap suc (length-map xs f)
 
   pub matching : (M B : List ℕ) → IsMatch pz M B → IsMatching (child_key pz) (keys pz.subtasks) M
   matching M B c =
-      let l : length (keys pz.subtasks) ≡ length pz.children = map_len (key pz.subtasks) pz.subtasks ∙ sym (zip_len (Done pz.children B) M pz.subtasks c.done) ∙ c.all in
+      let l : length (keys pz.subtasks) ≡ length pz.children = length-map pz.subtasks (key pz.subtasks) ∙ sym (same_length (Done pz.children B) M pz.subtasks c.done) ∙ c.all in
       record {
         once = c.once;
         below = λ x n. omega (arith, l, c.within x n);

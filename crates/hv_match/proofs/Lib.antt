@@ -21,3 +21,4 @@ pub mod NodeLemmas
 pub mod NodeTables
 pub mod Checking
 pub mod Found
+pub mod Cited

@@ -1,9 +1,11 @@
 -- What a search finds: exactly what is wanted, each once, and how much at most.
 use Rattle.std.proofs.Common.{◌≡◌, ℕ, zero, suc, Bool, true, false, List, [], ◌∷◌, ◌++◌, length, refl, sym, ap, ◌∙◌, arith, append_assoc, subst, if◌then◌else◌, Contains, ◌<◌}
 use Rattle.std.proofs.lemmas.List.{append-nil}
-use Rattle.hv_text.specs.Lists.{Once}
+use Rattle.hv_lists.specs.Lists.{Once}
+use Rattle.hv_lists.proofs.Contained.{at_head, none_in_empty}
+use Rattle.hv_lists.proofs.EachOnce.{once_more}
 use Rattle.hv_match.specs.inside.Search.{IsPath, below, IsWanted}
-use Rattle.hv_match.proofs.Members.{mem_flat, flat_mem, once_flat, at_head, none_in_empty, once_none, once_more}
+use Rattle.hv_match.proofs.Members.{mem_flat, flat_mem, once_flat, once_none}
 
 same_next : (p xs ys : List ℕ) (x y : ℕ) → (p ++ x ∷ []) ++ xs ≡ (p ++ y ∷ []) ++ ys → x ≡ y
 same_next [] xs ys x y e = cc

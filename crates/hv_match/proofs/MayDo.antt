@@ -1,14 +1,16 @@
 -- The places of the children that may do a subtask.
 use Rattle.std.proofs.Common.{◌≡◌, ℕ, zero, suc, ◌+◌, ◌<◌, ◌≤◌, Bool, true, false, List, [], ◌∷◌, ◌++◌, length, map, nat_eq, eq-eqb, refl, sym, ap, ◌∙◌, append_assoc, arith, if◌then◌else◌, drop, Option, Some, None, MatchOption, IfSome, Contains}
 use Rattle.std.proofs.lemmas.List.{append-nil}
+use Rattle.hv_lists.proofs.Contained.{at_head, in_tail, none_in_empty}
+use Rattle.hv_lists.proofs.EachOnce.{once_more}
+use Rattle.hv_lists.proofs.Bools.{and_both}
 use Rattle.hv_world.specs.Bindings.{object_of}
 use Rattle.hv_world.specs.Alike.{same_name}
 use Rattle.hv_world.specs.Values.{Term, object, variable, Subtask}
-use Rattle.hv_text.specs.Lists.{Once}
+use Rattle.hv_lists.specs.Lists.{Once}
 use Rattle.hv_match.specs.inside.Puzzles.{Work, work, child_at, is_ground, same_values, may_do, places_where}
-use Rattle.hv_match.proofs.Members.{at_head, in_tail, none_in_empty, once_none, once_more}
+use Rattle.hv_match.proofs.Members.{once_none}
 use Rattle.hv_match.proofs.Factors.{name_itself}
-use Rattle.hv_match.proofs.Fitting.{also}
 use Rattle.hv_match.proofs.Turns.{mem_drop}
 
 module _ (test : Option Work → Bool) where
@@ -76,12 +78,12 @@ row_no test cs c before e =
 -- objects have the same values under all
 ground_values : (B : List ℕ) (ts : List Term) → is_ground ts ≡ true → same_values [] ts (map (object_of B) ts) ≡ true
 ground_values B [] e = refl
-ground_values B (object o ∷ ts) e = also (nat_eq o o) (same_values [] ts (map (object_of B) ts)) (eq-eqb o o refl) (ground_values B ts e)
+ground_values B (object o ∷ ts) e = and_both (nat_eq o o) (same_values [] ts (map (object_of B) ts)) (eq-eqb o o refl) (ground_values B ts e)
 ground_values B (variable v ∷ ts) e = cc
 
 -- what does a subtask may do it
 pub done_may : (s : Subtask) (B : List ℕ) → may_do s (Some (work s.name (map (object_of B) s.terms))) ≡ true
-done_may s B = also (same_name s.name s.name) _ (name_itself s.name) (go (is_ground s.terms) refl)
+done_may s B = and_both (same_name s.name s.name) _ (name_itself s.name) (go (is_ground s.terms) refl)
   where
     go : (b : Bool) → is_ground s.terms ≡ b → (if b then same_values [] s.terms (map (object_of B) s.terms) else true) ≡ true
     go true e = ground_values B s.terms e

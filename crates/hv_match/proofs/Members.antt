@@ -3,49 +3,15 @@ use Rattle.std.proofs.Common.{◌≡◌, ℕ, zero, suc, ◌+◌, ◌<◌, ◌�
 use Rattle.std.specs.List.{flat_map}
 use Rattle.std.proofs.lemmas.List.Elements.{Contains-append_left, Contains-append_right, Contains-append_cases, Contains-get_or}
 use Rattle.std.proofs.lemmas.List.Kept.{AllPairs-cons}
-use Rattle.hv_text.specs.Lists.{Once}
-
--- what a list contains: its head, what is in its tail, and nothing else
-pub at_head : {X : Type 0} (y : X) (ys : List X) (x : X) → x ≡ y → Contains (y ∷ ys) x
-at_head y ys x e = (0, omega arith, sym e)
-
-pub in_tail : {X : Type 0} (y : X) (ys : List X) (x : X) → Contains ys x → Contains (y ∷ ys) x
-in_tail y ys x h = (suc h.0, omega (arith, h.1), h.2)
-
-pub contains_cases : {X : Type 0} (y : X) (ys : List X) (x : X) → Contains (y ∷ ys) x → (x ≡ y) ⊎ Contains ys x
-contains_cases y ys x (zero, lt, e) = inl (sym e)
-contains_cases y ys x (suc k, lt, e) = inr (k, omega (arith, lt), e)
-
-pub none_in_empty : {X : Type 0} (x : X) → Contains [] x → ⊥
-none_in_empty x h = let lt : h.0 < 0 = h.1 in omega (arith, lt)
+use Rattle.hv_lists.specs.Lists.{Once}
+use Rattle.hv_lists.proofs.Contained.{at_head, in_tail, contains_cases, none_in_empty}
+use Rattle.hv_lists.proofs.EachOnce.{once_head, once_tail, once_more}
 
 -- a list with each once: its head is not in its tail, and the tail has each once
-pub once_head : {X : Type 0} (x : X) (xs : List X) → Once (x ∷ xs) → Contains xs x → ⊥
-once_head x xs once (k, lt, e) = once 0 (suc k) x (omega arith) (omega (arith, lt)) (sym e)
-
-pub once_tail : {X : Type 0} (x : X) (xs : List X) → Once (x ∷ xs) → Once xs
-once_tail x xs once = λ i j d less within. once (suc i) (suc j) d (omega (arith, less)) (omega (arith, within))
-
 pub once_none : {X : Type 0} → Once {X = X} []
 once_none {X} = λ i j d less within. absurd (let lt : j < 0 = within in omega (arith, lt))
 
-pub once_more : {X : Type 0} (x : X) (xs : List X) → (Contains xs x → ⊥) → Once xs → Once (x ∷ xs)
-once_more x xs absent once = AllPairs-cons ◌≢◌ x xs (λ i d lt e. absent (subst (Contains xs) (sym e) (Contains-get_or xs i d lt))) once
-
 -- what a mapped list contains
-pub mem_map : {X Y : Type 0} (f : X → Y) (xs : List X) (x : X) → Contains xs x → Contains (map f xs) (f x)
-mem_map f [] x m = absurd (none_in_empty x m)
-mem_map f (y ∷ xs) x (zero, lt, e) = at_head (f y) (map f xs) (f x) (ap f (sym e))
-mem_map f (y ∷ xs) x (suc k, lt, e) = in_tail (f y) (map f xs) (f x) (mem_map f xs x (k, omega (arith, lt), e))
-
-pub map_mem : {X Y : Type 0} (f : X → Y) (xs : List X) (y : Y) → Contains (map f xs) y → (x : X) × Contains xs x × (f x ≡ y)
-map_mem f [] y m = absurd (none_in_empty y m)
-map_mem f (x ∷ xs) y (zero, lt, e) = (x, at_head x xs x refl, e)
-map_mem f (x ∷ xs) y (suc k, lt, e) =
-    let within : suc k < suc (length (map f xs)) = lt in
-    let r = map_mem f xs y (k, omega (arith, within), e) in
-    (r.0, in_tail x xs r.0 r.1, r.2)
-
 pub mem_flat : {X Y : Type 0} (f : X → List Y) (xs : List X) (y : Y) → Contains (flat_map f xs) y → (x : X) × Contains xs x × Contains (f x) y
 mem_flat f [] y m = absurd (none_in_empty y m)
 mem_flat {X} {Y} f (x ∷ xs) y m = go (Contains-append_cases (f x) (flat_map f xs) y m) (λ b. mem_flat f xs y b)

@@ -4,7 +4,7 @@ use Rattle.hv_world.specs.Worlds.{World}
 use Rattle.hv_plan.specs.Values.{Decomposition, Root}
 use Rattle.hv_plan.specs.Fits.{FitsDecomposition}
 use Rattle.hv_plan.specs.PlanTrees.{Node, PlanTree, IsNodeOf, IsRootOf, IsTreeIn}
-use Rattle.hv_plan.proofs.NodeLaws.{line_of}
+use Rattle.hv_plan.proofs.Cited.{line_of}
 use Rattle.hv_match.specs.Candidates.{node_method, IsNode}
 
 module _ (w : World) (t : PlanTree) where

@@ -1,7 +1,9 @@
 -- What the table of a node's method says of the node.
 use Rattle.std.proofs.Common.{◌≡◌, ◌<◌, ◌+◌, ◌++◌, ℕ, zero, suc, List, [], ◌∷◌, length, map, refl, subst, Option, Some, None, option_map, slice_get, MatchOption, Bor, take, get_or}
 use Rattle.std.specs.List.{AllZip}
-use Rattle.hv_text.specs.Lists.{Once}
+use Rattle.hv_lists.specs.Lists.{Once}
+use Rattle.hv_lists.proofs.Places.{take_one, map_end}
+use Rattle.hv_lists.proofs.Pairs.{zip_end}
 use Rattle.hv_world.specs.Worlds.{World, Method}
 use Rattle.hv_world.specs.MethodViews.{method_view}
 use Rattle.hv_world.specs.declared.method.Method as code_method
@@ -11,7 +13,6 @@ use Rattle.hv_match.specs.Counts.{CountIsAt, IsInCountAt}
 use Rattle.hv_match.specs.inside.Numbers.{in_64_bits}
 use Rattle.hv_match.specs.inside.Parts.{IsWhole, IsWholeBy}
 use Rattle.hv_match.specs.inside.Ranges.{AreTablesOf, HasTable, IsTableAt, IsTableOf}
-use Rattle.hv_match.proofs.CountLemmas.{take_one, map_end, zip_end}
 use Rattle.hv_match.specs.declared.table.MethodTable.{MethodTable}
 
 -- a list of candidates by the table of the node's method

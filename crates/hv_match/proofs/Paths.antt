@@ -2,10 +2,11 @@
 use Rattle.std.proofs.Common.{◌≡◌, ℕ, zero, suc, ◌+◌, ◌-◌, ◌≤◌, true, List, [], ◌∷◌, ◌++◌, length, get_or, slice_get, refl, sym, ap, ◌∙◌, arith, subst, append_assoc, length-append, Option, Some, None, Contains}
 use Rattle.std.proofs.lemmas.List.{append-nil}
 use Rattle.std.specs.List.{AllZip}
+use Rattle.hv_lists.proofs.Contained.{at_head}
+use Rattle.hv_lists.proofs.Pairs.{same_length}
 use Rattle.hv_world.specs.Values.{Subtask}
 use Rattle.hv_match.specs.inside.Search.{IsPath}
 use Rattle.hv_match.specs.inside.Puzzles.{Work, Puzzle, child_at, bound, pick, may_do, places_where, options, Done, IsMatch}
-use Rattle.hv_match.proofs.Members.{at_head}
 use Rattle.hv_match.proofs.MayDo.{places_there, done_may}
 use Rattle.hv_match.proofs.FirstPlaces.{forced_bound}
 
@@ -51,17 +52,11 @@ zip_split R [] x zs (t ∷ ts) a = a.0
 zip_split R (u ∷ us) x zs [] a = absurd a
 zip_split R (u ∷ us) x zs (t ∷ ts) a = zip_split R us x zs ts a.1
 
-zip_len : {X Y : Type 0} (R : X → Y → Type 0) (xs : List X) (ys : List Y) → AllZip R xs ys → length xs ≡ length ys
-zip_len R [] [] a = refl
-zip_len R [] (y ∷ ys) a = absurd a
-zip_len R (x ∷ xs) [] a = absurd a
-zip_len R (x ∷ xs) (y ∷ ys) a = ap suc (zip_len R xs ys a.1)
-
 pub candidate_path : (pz : Puzzle) (M B : List ℕ) → IsMatch pz M B → IsPath (options pz) [] (M ++ B)
 candidate_path pz M B c = path_from (options pz) [] (M ++ B) (λ ys x zs e. go ys x zs e (slice_get pz.subtasks (length ys)) refl)
   where
     size : length M ≡ length pz.subtasks
-    size = zip_len (Done pz.children B) M pz.subtasks c.done
+    size = same_length (Done pz.children B) M pz.subtasks c.done
 
     param : (us : List ℕ) (x : ℕ) (zs : List ℕ) → B ≡ us ++ x ∷ zs → (i : ℕ) → i ≡ length us → (r : Option ℕ) → bound pz (M ++ us) i ≡ r → Contains (pick r (get_or pz.ranges i [])) x
     param us x zs e i j None b = let P : List ℕ → Type 0 = λ l. AllZip (λ (o : ℕ) (r : List ℕ). Contains r o) l pz.ranges in rw j (zip_split (λ o r. Contains r o) us x zs pz.ranges (subst P e c.typed))

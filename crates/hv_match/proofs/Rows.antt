@@ -9,6 +9,8 @@ use Rattle.std.specs.Global.{Vec}
 use Rattle.std.specs.Str.{bytes_eq}
 use Rattle.std.specs.List.{AllClonesOf, AllZip, position, position_or_len, list_any}
 use Rattle.indexmap.specs.IndexSet.{insert_key}
+use Rattle.hv_lists.proofs.Contained.{none_in_empty}
+use Rattle.hv_lists.proofs.Bools.{same_bools, both_true, and_both}
 use Rattle.hv_world.specs.Bindings.{object_of}
 use Rattle.hv_world.specs.Alike.{same_name}
 use Rattle.hv_world.specs.Values.{Term, TaskName, compound, primitive, Subtask}
@@ -16,9 +18,8 @@ use Rattle.hv_match.specs.inside.Puzzles.{Work, is_ground, same_values, may_do, 
 use Rattle.hv_match.specs.inside.Tables.{key_head, work_key, subtask_key, has_key, number_of, row_at, AreKeys, AreNamed, AreRows, HasPut, HasPutExact, row_for, AreChildRows}
 use Rattle.hv_match.specs.declared.child_rows.ChildRows.{ChildRows}
 use Rattle.hv_match.specs.declared.child_rows.RowKeys.{RowKeys}
-use Rattle.hv_match.proofs.Members.{none_in_empty}
 use Rattle.hv_match.proofs.Factors.{name_is, name_itself}
-use Rattle.hv_match.proofs.Fitting.{both, also, values_from, values_to}
+use Rattle.hv_match.proofs.Fitting.{values_from, values_to}
 use Rattle.hv_match.proofs.MayDo.{places_end, places_within, places_same}
 
 -- keys
@@ -28,11 +29,6 @@ key_is k j e = (bytes_eq-Decides k j).0 e
 
 key_itself : (k : List ℕ) → bytes_eq k k ≡ true
 key_itself k = (bytes_eq-Decides k k).1 refl
-
-same_bools : (a b : Bool) → (a ≡ true → b ≡ true) → (b ≡ true → a ≡ true) → a ≡ b
-same_bools true b f g = sym (f refl)
-same_bools false true f g = g refl
-same_bools false false f g = refl
 
 -- no key of a name is one with objects
 pub apart : (k : List ℕ) (m n : TaskName) (os : List ℕ) → bytes_eq (key_head false m) k ≡ true → bytes_eq (key_head true n ++ os) k ≡ false
@@ -61,8 +57,8 @@ with_objects n ts c =
     rw (no_name (bytes_eq (key_head false c.name) k) refl)
     (same_bools (bytes_eq (work_key c) k) (same_name c.name n && same_values [] ts c.objects)
     (λ e. let h = heads true c.name n c.objects (map (object_of []) ts) (key_is (work_key c) k e) in
-    also (same_name c.name n) (same_values [] ts c.objects) (ap (λ m. same_name m n) h.0 ∙ name_itself n) (values_to [] ts c.objects (sym h.1)))
-    (λ e. let b = both (same_name c.name n) (same_values [] ts c.objects) e in
+    and_both (same_name c.name n) (same_values [] ts c.objects) (ap (λ m. same_name m n) h.0 ∙ name_itself n) (values_to [] ts c.objects (sym h.1)))
+    (λ e. let b = both_true (same_name c.name n) (same_values [] ts c.objects) e in
     let same : work_key c ≡ k = ap (λ m. key_head true m ++ c.objects) (name_is c.name n b.0) ∙ ap (λ os. key_head true n ++ os) (sym (values_from [] ts c.objects b.1)) in
     ap (λ j. bytes_eq j k) same ∙ key_itself k))
   where
@@ -75,8 +71,8 @@ with_name n c =
     let other = apart (key_head false n) n c.name c.objects (key_itself (key_head false n)) in
     rw other (same_bools (bytes_eq (key_head false c.name) (key_head false n) || false) (same_name c.name n && true)
     (λ e. let h = heads false c.name n [] [] (ap (λ l. l ++ []) (key_is (key_head false c.name) (key_head false n) (left (bytes_eq (key_head false c.name) (key_head false n)) e))) in
-    also (same_name c.name n) true (ap (λ m. same_name m n) h.0 ∙ name_itself n) refl)
-    (λ e. let b = both (same_name c.name n) true e in
+    and_both (same_name c.name n) true (ap (λ m. same_name m n) h.0 ∙ name_itself n) refl)
+    (λ e. let b = both_true (same_name c.name n) true e in
     let same : bytes_eq (key_head false c.name) (key_head false n) ≡ true = ap (λ m. bytes_eq (key_head false m) (key_head false n)) (name_is c.name n b.0) ∙ key_itself (key_head false n) in
     ap (λ x. x || false) same))
   where

@@ -3,11 +3,13 @@ use Rattle.std.proofs.Common.{◌≡◌, ◌≢◌, ℕ, ◌+◌, ◌<◌, ◌�
 use Rattle.std.proofs.lemmas.List.{take_more}
 use Rattle.std.specs.Global.{Vec}
 use Rattle.std.specs.List.{AllZip}
-use Rattle.hv_text.specs.Lists.{Once}
+use Rattle.hv_lists.specs.Lists.{Once}
+use Rattle.hv_lists.proofs.Contained.{at_head, in_tail, none_in_empty, contains_cases}
+use Rattle.hv_lists.proofs.EachOnce.{once_head, once_tail, once_more}
 use Rattle.hv_world.specs.Values.{Subtask}
 use Rattle.hv_match.specs.inside.Puzzles.{Work, child_at, may_do, places_where, Done}
 use Rattle.hv_match.specs.inside.Tables.{subtask_key, has_key, number_of, how_often, AreSizes, CountsOnce}
-use Rattle.hv_match.proofs.Members.{at_head, in_tail, none_in_empty, contains_cases, once_head, once_tail, once_none, once_more, at_most}
+use Rattle.hv_match.proofs.Members.{once_none, at_most}
 use Rattle.hv_match.proofs.MayDo.{places_there, done_may}
 use Rattle.hv_match.proofs.Rows.{key_says, number_has}
 

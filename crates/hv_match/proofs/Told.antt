@@ -2,24 +2,16 @@
 use Rattle.std.proofs.Common.{◌≡◌, ◌≢◌, ℕ, zero, suc, ◌+◌, ◌<◌, ◌≤◌, Bool, true, List, [], ◌∷◌, ◌++◌, length, take, set, get_or, refl, sym, ap, ◌∙◌, arith, subst, length-append, get_or-set_same, get_or-set_other, ◌⊎◌, inl, inr, Some, slice_get, Contains}
 use Rattle.std.proofs.lemmas.List.Elements.{Contains-get_or}
 use Rattle.std.proofs.lemmas.List.{get_or_append_left, get_or_push, take_all}
-use Rattle.hv_text.specs.Lists.{Once}
+use Rattle.hv_lists.specs.Lists.{Once}
+use Rattle.hv_lists.proofs.Contained.{at_head, in_tail, none_in_empty, place_of}
+use Rattle.hv_lists.proofs.EachOnce.{once_head, once_tail, once_more}
 use Rattle.hv_match.specs.inside.Search.{below}
 use Rattle.hv_match.specs.inside.States.{AreTold}
-use Rattle.hv_match.proofs.Members.{at_head, in_tail, none_in_empty, once_head, once_tail, once_none, once_more}
+use Rattle.hv_match.proofs.Members.{once_none}
 use Rattle.hv_match.proofs.Listing.{none_begins}
 
 pub take_short : (n : ℕ) (q : List ℕ) (x : ℕ) → length q < n → take n (q ++ x ∷ []) ≡ q ++ x ∷ []
 take_short n q x h = take_all n (q ++ x ∷ []) (omega (arith, length-append q (x ∷ [])))
-
-pub stands_there : (q : List ℕ) (l x : ℕ) → slice_get q l ≡ Some x → Contains q x
-stands_there [] l x e = cc
-stands_there (y ∷ q) zero x e = let f : y ≡ x = cc in at_head y q x (sym f)
-stands_there (y ∷ q) (suc l) x e = in_tail y q x (stands_there q l x e)
-
-pub place_of : (q : List ℕ) (x : ℕ) → Contains q x → (l : ℕ) × (l < length q) × (get_or q l 0 ≡ x) × (slice_get q l ≡ Some x)
-place_of [] x m = absurd (none_in_empty x m)
-place_of (y ∷ q) x (zero, lt, e) = let same : y ≡ x = e in (0, omega arith, same, ap Some same)
-place_of (y ∷ q) x (suc k, lt, e) = let r = place_of q x (k, omega (arith, lt), e) in (suc r.0, omega (arith, r.1), r.2, r.3)
 
 -- a choice that is told and does not stand where the table says stands nowhere
 pub stands_nowhere : (t q : List ℕ) (x : ℕ) → AreTold t q → (slice_get q (get_or t x 0) ≡ Some x → ⊥) → Contains q x → ⊥

@@ -3,10 +3,10 @@ use Rattle.std.proofs.lemmas.List.Elements.{All-push}
 use Rattle.std.proofs.Common.{◌^◌, ◌≡◌, ℕ, zero, suc, ◌+◌, ◌-◌, ◌<◌, ◌≤◌, Bool, false, List, [], ◌∷◌, ◌++◌, length, take, drop, refl, sym, ap, ◌∙◌, arith, append_assoc, length-append, Contains}
 use Rattle.std.proofs.lemmas.List.{append-nil}
 use Rattle.std.proofs.lemmas.List.Sums.{sum_by-cons}
+use Rattle.hv_lists.proofs.Contained.{at_head, in_tail}
 use Rattle.hv_match.specs.inside.Search.{IsPath, below}
 use Rattle.hv_match.specs.inside.States.{rest, effort, left, to_come, steps_left, IsState, AreTold}
 use Rattle.hv_match.specs.declared.state.State.{State}
-use Rattle.hv_match.proofs.Members.{at_head, in_tail}
 
 drop_all : {X : Type 0} (c : ℕ) (l : List X) → length l ≤ c → drop c l ≡ []
 drop_all zero [] h = refl

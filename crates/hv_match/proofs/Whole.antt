@@ -2,16 +2,19 @@
 use Rattle.std.proofs.Common.{◌≡◌, ℕ, zero, suc, ◌+◌, ◌-◌, ◌*◌, ◌<◌, ◌≤◌, Bool, true, false, List, [], ◌∷◌, ◌++◌, length, map, nat_lt, get_or, take, drop, slice_get, refl, sym, ap, ◌∙◌, arith, subst, if◌then◌else◌, Option, Some, None, Contains}
 use Rattle.std.proofs.lemmas.Bool.Decides.{nat_tests}
 use Rattle.std.proofs.lemmas.Bool.{ltb-true, ltb-false}
+use Rattle.std.proofs.lemmas.List.{length-map}
+use Rattle.hv_lists.proofs.Contained.{at_head, none_in_empty}
+use Rattle.hv_lists.proofs.EachOnce.{once_more}
 use Rattle.hv_world.specs.Values.{Subtask}
 use Rattle.hv_world.specs.Alike.{is_free, Key, key, keys, subtask_instance}
-use Rattle.hv_text.specs.Lists.{Once}
+use Rattle.hv_lists.specs.Lists.{Once}
 use Rattle.hv_match.specs.inside.Search.{IsWanted, below}
 use Rattle.hv_match.specs.inside.Puzzles.{Puzzle, bound, pick, may_do, places_where, options, IsMatch, widths, ways}
 use Rattle.hv_match.proofs.MayDo.{places_once}
 use Rattle.hv_match.proofs.FirstPlaces.{free_unbound, bound_some}
 use Rattle.hv_match.specs.Counts.{product}
 use Rattle.hv_match.specs.inside.Counting.{first_alike, rising, tower, IsMatching}
-use Rattle.hv_match.proofs.Members.{at_most, at_head, none_in_empty, once_none, once_more}
+use Rattle.hv_match.proofs.Members.{at_most, once_none}
 use Rattle.hv_match.proofs.Bounds.{bounded, few_matches}
 use Rattle.hv_match.proofs.Keys.{child_key, matching}
 
@@ -74,10 +77,6 @@ tower_widths fac l (n ∷ ws) h =
     let first' = rw z at first in
     rw (first', tower_widths fac (l + 1) ws (λ j i. let s : l + 1 + j ≡ l + suc j = omega arith in rw s (h (suc j) (omega arith)))) refl
 
-map_len : {X Y : Type 0} (f : X → Y) (xs : List X) → length (map f xs) ≡ length xs
-map_len f [] = refl
-map_len f (x ∷ xs) = ap suc (map_len f xs)
-
 lt-ltb' : (a b : ℕ) → a < b → nat_lt a b ≡ true
 lt-ltb' a b h = grind (arith, nat_tests)
 
@@ -135,7 +134,7 @@ module _ (pz : Puzzle) (instances : (s : Subtask) (g : ℕ → ℕ) → Contains
   at_most_count =
       let b = bounded (options pz) good (length pz.subtasks + length pz.ranges) factor (options_once pz o) few (length pz.subtasks + length pz.ranges) [] (omega arith) tt in
       let s = tower_split factor 0 (length pz.subtasks) (length pz.ranges) in
-      let kl : length (keys pz.subtasks) ≡ length pz.subtasks = map_len (key pz.subtasks) pz.subtasks in
+      let kl : length (keys pz.subtasks) ≡ length pz.subtasks = length-map pz.subtasks (key pz.subtasks) in
       let t : tower factor 0 (length (keys pz.subtasks)) ≡ rising (keys pz.subtasks) = tower_keys factor 0 (keys pz.subtasks) (λ j h. let z : 0 + j ≡ j = omega arith in let l = lt-ltb' j (length pz.subtasks) (omega (arith, kl, h)) in rw (z, l) refl) in
       let wl : length (widths pz 0 pz.ranges) ≡ length pz.ranges = width_len pz 0 pz.ranges in
       let u : tower factor (0 + length pz.subtasks) (length (widths pz 0 pz.ranges)) ≡ product (widths pz 0 pz.ranges) =

@@ -4,7 +4,7 @@ use Rattle.std.specs.List.{AllZip}
 use Rattle.hv_world.specs.Values.{object, Subtask, subtask, Constraint, compound, primitive}
 use Rattle.hv_world.specs.Alike.{instance, subtask_instance}
 use Rattle.hv_world.specs.Bindings.{GroundAction, object_number}
-use Rattle.hv_text.specs.Lists.{Once}
+use Rattle.hv_lists.specs.Lists.{Once}
 use Rattle.hv_world.specs.Worlds.{World, Method, terms_of}
 use Rattle.hv_world.specs.Groundings.{AreOf}
 use Rattle.hv_world.specs.WorldViews.{world_view}

@@ -2,7 +2,7 @@
 use Rattle.std.specs.Prelude.{◌≡◌, ◌↔◌, ◌<◌, ◌≤◌, Bool, ℕ, zero, suc, ◌*◌, ◌-◌, ◌^◌, min, List, [], ◌∷◌, map, length, slice_index, Contains, MatchOption}
 use Rattle.std.specs.List.{AllZip}
 use Rattle.hv_world.specs.Alike.{class_sizes, free_parameters}
-use Rattle.hv_text.specs.Lists.{Once}
+use Rattle.hv_lists.specs.Lists.{Once}
 use Rattle.hv_world.specs.Types.{Of}
 use Rattle.hv_world.specs.Worlds.{World, Method, terms_of}
 use Rattle.hv_plan.specs.PlanTrees.{PlanTree}

@@ -9,8 +9,8 @@ ghost use Rattle.hv_match.specs.inside.Tables as tables;
 ghost use Rattle.hv_match.specs.inside.Tables.{work_view, AreChildRowsBy, AreKeyNumbers, AreKeys, AreNamed, AreOwnRows, ArePlaces, AreRows, AreSizes, CountsOnce, HasPut, HasPutChild, HasPutExact, IsKeyNumber, KeepNumbers};
 
 use crate::puzzle::{Work, are_values, same_name, value};
-use hv_text::{Lists, Memory};
-use hv_world::{ObjectId, Subtask, TaskName, Term};
+use hv_text::{Lists, Memory, Seeded};
+use hv_world::{ObjectId, Subtask, TaskName, Term, seed_of_subtasks};
 use indexmap::IndexSet;
 use std::alloc::Global;
 
@@ -20,7 +20,7 @@ const FEW: usize = 8;
 /// For each subtask of a method the key of the children that may do it.
 #[derive(Drop)]
 pub(crate) struct RowKeys {
-    keys: IndexSet<Vec<usize>>,
+    keys: IndexSet<Vec<usize>, Seeded>,
     // For each subtask the number of its key.
     row_of: Vec<usize>,
     // For each key how many subtasks have it.
@@ -159,7 +159,7 @@ fn subtask_key(alloc: Global, subtask: &Subtask) -> Result<Vec<usize>, Memory>
 // The number of a subtask's key among the keys, the last where it is new.
 fn key_number(
     alloc: Global,
-    keys: &mut IndexSet<Vec<usize>>,
+    keys: &mut IndexSet<Vec<usize>, Seeded>,
     subtask: &Subtask,
 ) -> Result<usize, Memory>
     ensures found { IfOk result (IsKeyNumber keys.new.keys (subtask_view subtask.now)) }
@@ -173,7 +173,7 @@ fn key_number(
 // The numbers of the keys of subtasks.
 fn key_numbers(
     alloc: Global,
-    keys: &mut IndexSet<Vec<usize>>,
+    keys: &mut IndexSet<Vec<usize>, Seeded>,
     subtasks: &[Subtask],
 ) -> Result<Vec<usize>, Memory>
     ensures { IfOk result (λ v. AreKeyNumbers keys.new.keys (map subtask_view subtasks.now)
@@ -189,7 +189,7 @@ fn key_numbers(
 
 // Puts a place behind those of a key, if it is one of the keys.
 fn put(
-    keys: &IndexSet<Vec<usize>>,
+    keys: &IndexSet<Vec<usize>, Seeded>,
     rows: &mut [Vec<usize>],
     key: &[usize],
     place: usize,
@@ -350,7 +350,7 @@ fn sizes(alloc: Global, count: usize, numbers: &[usize]) -> Result<Vec<usize>, M
 pub(crate) fn row_keys(alloc: Global, subtasks: &[Subtask]) -> Result<RowKeys, Memory>
     ensures { IfOk result (AreKeys (map subtask_view subtasks.now)) }
 {
-    let mut keys = IndexSet::new(alloc);
+    let mut keys = IndexSet::with_hasher(alloc, seed_of_subtasks(subtasks));
     let row_of = key_numbers(alloc, &mut keys, subtasks)?;
     let sizes = sizes(alloc, keys.len(), &row_of)?;
     let is_exact = has_ground(subtasks);

@@ -1,6 +1,6 @@
 //! What a search chooses from, and what it wants.
 ghost use Rattle.std.specs.Prelude.{◌≡◌, ◌≢◌, ◌+◌, ◌<◌, ◌≤◌, ◌^◌, [], ℕ, List, length, take, IfSome, IsSome, MatchBool, false, true};
-ghost use Rattle.hv_text.specs.Lists.{Once};
+ghost use Rattle.hv_lists.specs.Lists.{Once};
 ghost use Rattle.hv_match.specs.inside.Search.{Search, IsChoice, IsPath, IsWithin, NothingWholeBegins};
 
 /// What a search chooses from, and what it wants.

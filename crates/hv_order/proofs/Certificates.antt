@@ -2,6 +2,7 @@
 -- each node keeps the rules.
 use Rattle.std.proofs.Common.{◌≡◌, ℕ, zero, suc, ◌+◌, ◌<◌, ◌≤◌, true, List, [], ◌∷◌, refl, subst, arith, Contains}
 use Rattle.std.specs.Prelude.{◌&&◌, ◌==◌}
+use Rattle.hv_lists.proofs.Bools.{and_both}
 use Rattle.hv_plan.specs.Trees.{Item, Act, Task, Pre, Tree, AtOrBelow, itself, its_pre, its_child, Reached, IsPrimitive, IsSubtask, IsTree}
 use Rattle.hv_order.specs.Meanings.{Choice, AreOrders}
 use Rattle.hv_order.specs.Precedence.{Precedes, of_pre, of_line, of_root}
@@ -10,7 +11,7 @@ use Rattle.hv_order.specs.Sequences.{Executes, HasSequence, HasSequenceAt, index
 use Rattle.hv_order.specs.Schedules.{begins, ends, IsSchedule}
 use Rattle.hv_order.specs.Certificates.{subtask_start, AreFinishes, KeepsRules}
 use Rattle.hv_order.specs.Laws.{CheckLaw}
-use Rattle.hv_order.proofs.Members.{and_left, and_right, and_both, number_from, number_test}
+use Rattle.hv_order.proofs.Members.{and_left, and_right, number_from, number_test}
 use Rattle.hv_order.proofs.Ancestry.{under, reached_initial, reached_below, reached_child, reached_pre}
 use Rattle.hv_order.proofs.SubtaskStarts.{FirstStep, first_step}
 use Rattle.hv_order.proofs.Derivations.{derivation}

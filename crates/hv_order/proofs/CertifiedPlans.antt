@@ -1,8 +1,8 @@
 -- A plan for which there is a certificate is solved: by the choice of the certificate. Each of its
 -- nodes has a candidate.
 use Rattle.std.proofs.Common.{◌≡◌, ℕ, ◌<◌, ◌⊎◌, inl, inr, List, sym, subst, arith}
+use Rattle.hv_lists.proofs.Numbers.{below_next}
 use Rattle.hv_plan.specs.PlanTrees.{IsTreeIn, root_number}
-use Rattle.hv_plan.proofs.FitLemmas.{less_or_same}
 use Rattle.hv_order.specs.Meanings.{Meaning}
 use Rattle.hv_order.specs.Settings.{Setting, AmountsTo, IsMeaning, IsSolved, HasCandidate, HaveCandidates}
 use Rattle.hv_order.specs.Certified.{Certifies, CertifiedPlans}
@@ -41,7 +41,7 @@ has_one q v M B c a = record {
 
 -- each node of a plan that is solved has a candidate
 pub solved_have : (q : Setting) → IsTreeIn q.plan.world q.tree → IsSolved q → HaveCandidates q
-solved_have q is solved v lt = by_side (less_or_same v (root_number q.tree) (omega (arith, lt, is.is_tree.last)))
+solved_have q is solved v lt = by_side (below_next v (root_number q.tree) (omega (arith, lt, is.is_tree.last)))
   where
     has : (u : ℕ) (c : Meaning) → IsMeaning q u c → HasCandidate q u
     has u c m = has_one q u m.matching m.binding c m.amounts

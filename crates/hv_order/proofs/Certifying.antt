@@ -2,11 +2,12 @@
 use Rattle.std.proofs.Common.{◌≡◌, ℕ, ◌<◌, ◌⊎◌, inl, inr, List, Option, Some, None, length, map, slice_get, refl, sym, subst, arith, All, MatchOption}
 use Rattle.std.specs.List.{AllZip}
 use Rattle.std.proofs.lemmas.Option.{slice_get_within}
+use Rattle.hv_lists.proofs.Places.{member_at}
+use Rattle.hv_lists.proofs.Numbers.{below_next}
 use Rattle.hv_world.specs.Bounds.{IsSound}
 use Rattle.hv_world.specs.Types.{Of}
 use Rattle.hv_plan.specs.TreeViews.{child_view}
 use Rattle.hv_plan.specs.PlanTrees.{Node, IsTreeIn, root_number, tree_of}
-use Rattle.hv_plan.proofs.FitLemmas.{member_at, less_or_same}
 use Rattle.hv_order.specs.Meanings as meanings
 use Rattle.hv_order.specs.Sequences.{HasSequenceAt}
 use Rattle.hv_order.specs.Settings.{Setting, AmountsTo, last}
@@ -37,7 +38,7 @@ module _ (q : Setting) (is : IsTreeIn q.plan.world q.tree) where
     writables sound = record { as_many = are.as_many; each = each }
       where
         root_or_below : (v : ℕ) → v < length q.tree.nodes → (v ≡ root_number q.tree) ⊎ (v < root_number q.tree)
-        root_or_below v lt = by (less_or_same v (root_number q.tree) (omega (arith, lt, is.is_tree.last)))
+        root_or_below v lt = by (below_next v (root_number q.tree) (omega (arith, lt, is.is_tree.last)))
           where
             by : (v < root_number q.tree) ⊎ (v ≡ root_number q.tree) → (v ≡ root_number q.tree) ⊎ (v < root_number q.tree)
             by (inl a) = inr a

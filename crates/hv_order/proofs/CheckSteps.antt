@@ -3,18 +3,18 @@ use Rattle.std.proofs.Common.{◌≡◌, ℕ, ◌+◌, ◌-◌, ◌<◌, ◌≤�
 use Rattle.std.specs.Prelude.{slice_index, max}
 use Rattle.std.proofs.lemmas.Option.{slice_get_past}
 use Rattle.std.proofs.lemmas.List.{get_or_past}
+use Rattle.hv_lists.proofs.Places.{push_front, push_last, take_one, map_end}
+use Rattle.hv_lists.proofs.Contained.{contains_cases, none_in_empty, at_head}
 use Rattle.hv_world.specs.Orders.{Written}
 use Rattle.hv_world.specs.Worlds.{World, Method}
 use Rattle.hv_plan.specs.Trees.{Item, Act, Task, Pre, IsTree}
 use Rattle.hv_plan.specs.PlanTrees.{PlanTree, children_at, children_of, tree_of}
-use Rattle.hv_plan.proofs.ShapeWalks.{push_front, push_last}
 use Rattle.hv_match.specs.Candidates.{Tells, method_at}
-use Rattle.hv_match.proofs.CountLemmas.{take_one, map_end}
 use Rattle.hv_order.specs.Certificates.{AreFinishes}
 use Rattle.hv_order.specs.inside.Checks.{at_of, index_in, finish_in, IsLatest, KeepsDirect, StartBehind, KeepsNode, KeepNodes, KeepAll}
 use Rattle.hv_order.specs.declared.entries.Entry.{Entry}
 use Rattle.hv_order.proofs.Checked.{tells_no, told_no}
-use Rattle.hv_order.proofs.Members.{mem_cases, contains_cases, none_in_empty, mem_left, mem_right, at_head}
+use Rattle.hv_order.proofs.Members.{mem_cases, mem_left, mem_right}
 
 -- one member more of which something is true
 pub one_more_is : {X : Type 0} (P : X → Type 0) (xs : List X) (x : X) → ((y : X) → Contains xs y → P y) → P x → (y : X) → Contains (xs ++ x ∷ []) y → P y

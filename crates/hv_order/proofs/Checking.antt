@@ -4,12 +4,12 @@ use Rattle.std.proofs.Common.{◌≡◌, ℕ, zero, suc, ◌<◌, ◌≤◌, ◌
 use Rattle.std.specs.Prelude.{slice_index}
 use Rattle.std.specs.List.{AllZip}
 use Rattle.std.proofs.lemmas.Option.{slice_get_within}
+use Rattle.hv_lists.proofs.Places.{member_at}
+use Rattle.hv_lists.proofs.Pairs.{same_length, paired_at}
 use Rattle.hv_world.specs.Orders.{Before, IsDirect}
 use Rattle.hv_world.specs.Worlds.{Method}
 use Rattle.hv_plan.specs.Trees.{Item, Act, Task, Pre, IsTree, Reached, IsWithin, HasActions}
 use Rattle.hv_plan.specs.PlanTrees.{PlanTree, IsActionOf, children_at, root_number, tree_of}
-use Rattle.hv_plan.proofs.FitLemmas.{member_at, same_length}
-use Rattle.hv_plan.proofs.ChildLemmas.{paired_at}
 use Rattle.hv_match.specs.Candidates.{method_at}
 use Rattle.hv_order.specs.Meanings as meanings
 use Rattle.hv_order.specs.Meanings.{Meaning, AreOrders, free_meaning}

@@ -1,12 +1,14 @@
 -- A sequence that can be run gives each precondition step an index.
 use Rattle.std.proofs.Common.{◌≡◌, ℕ, ◌+◌, ◌≤◌, true, List, [], ◌∷◌, refl, sym, ap, subst, inl, inr, arith, Contains, zero, suc}
 use Rattle.std.specs.Prelude.{if◌then◌else◌, ◌==◌}
-use Rattle.hv_text.specs.Lists.{Once}
+use Rattle.hv_lists.specs.Lists.{Once}
+use Rattle.hv_lists.proofs.Contained.{at_head, in_tail, none_in_empty}
+use Rattle.hv_lists.proofs.EachOnce.{once_head, once_tail}
 use Rattle.hv_plan.specs.Trees.{Item, Act, Task, Pre}
 use Rattle.hv_order.specs.Meanings.{Choice}
 use Rattle.hv_order.specs.Sequences.{Earlier, Passes}
 use Rattle.hv_order.specs.Schedules.{begins, ends}
-use Rattle.hv_order.proofs.Members.{act_not_pre, pre_same, SameNumber, equal_numbers, other_numbers, number_cases, number_test, at_head, in_tail, none_in_empty, once_head, once_tail}
+use Rattle.hv_order.proofs.Members.{act_not_pre, pre_same, SameNumber, equal_numbers, other_numbers, number_cases, number_test}
 
 -- one more value of a function
 pub at_line : {X : Type 0} → ℕ → X → (ℕ → X) → ℕ → X

@@ -1,8 +1,9 @@
 -- One decomposition: where the items and the pairs of the network behind it come from.
 use Rattle.std.proofs.Common.{◌≡◌, ℕ, Bool, true, false, List, [], ◌∷◌, refl, sym, ap, ◌∙◌, subst, inl, inr, ◌⊎◌, Contains, zero, suc, arith, ◌<◌}
+use Rattle.hv_lists.proofs.Contained.{at_head, in_tail, none_in_empty}
 use Rattle.hv_plan.specs.Trees.{Item, Act, Task, Pre}
 use Rattle.hv_order.specs.Networks.{pairs_from, ordered_pairs, is_line, items_after, inherited, inherited_pairs}
-use Rattle.hv_order.proofs.Members.{SameNumber, equal_numbers, other_numbers, number_cases, act_not_task, pre_not_task, task_same, mem_left, mem_right, mem_cases, mem_map, mem_map_from, first_same, second_same, pair_same, at_head, in_tail, none_in_empty}
+use Rattle.hv_order.proofs.Members.{SameNumber, equal_numbers, other_numbers, number_cases, act_not_task, pre_not_task, task_same, mem_left, mem_right, mem_cases, mem_map, mem_map_from, first_same, second_same, pair_same}
 
 -- is an item the line v
 pub data IsLine (v : ℕ) (x : Item) : Type 0 where

@@ -1,11 +1,13 @@
 -- Every choice has a derivation: the lines from the greatest number down.
 use Rattle.std.proofs.Common.{◌≡◌, ℕ, zero, suc, ◌<◌, List, [], ◌∷◌, refl, sym, subst, inl, inr, arith, ◌⊎◌, Contains}
-use Rattle.hv_text.specs.Lists.{Once}
+use Rattle.hv_lists.specs.Lists.{Once}
+use Rattle.hv_lists.proofs.Contained.{at_head, in_tail, none_in_empty}
+use Rattle.hv_lists.proofs.EachOnce.{once_more}
 use Rattle.hv_plan.specs.Trees.{Item, Act, Task, Pre, Tree, IsPrimitive, IsTree, IsWithin}
 use Rattle.hv_order.specs.Meanings.{Choice, AreOrders}
 use Rattle.hv_order.specs.Networks.{Network, initial_network, decomposition, Leads, HasDerivation}
 use Rattle.hv_order.specs.Laws.{DerivationLaw}
-use Rattle.hv_order.proofs.Members.{pre_same, is_member, at_head, in_tail, none_in_empty, once_none, once_more}
+use Rattle.hv_order.proofs.Members.{pre_same, is_member, once_none}
 use Rattle.hv_order.proofs.Ancestry.{reached_pre}
 use Rattle.hv_order.proofs.Decomposing.{Origin, old, fresh, origin}
 use Rattle.hv_order.proofs.End

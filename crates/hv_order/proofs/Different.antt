@@ -2,12 +2,14 @@
 use Rattle.std.proofs.Common.{◌≡◌, ℕ, suc, ◌+◌, ◌≤◌, ◌<◌, List, [], ◌∷◌, refl, sym, ap, subst, inl, inr, arith, ◌⊎◌, Option, Some, None, length}
 use Rattle.std.proofs.lemmas.Bool.{cases_lt}
 use Rattle.std.specs.Prelude.{Contains}
-use Rattle.hv_text.specs.Lists.{Once}
+use Rattle.hv_lists.specs.Lists.{Once}
+use Rattle.hv_lists.proofs.Contained.{at_head, in_tail, contains_cases, none_in_empty}
+use Rattle.hv_lists.proofs.EachOnce.{once_more}
 use Rattle.hv_order.specs.LeastFinishes.{IsNumberOfAnswers}
 use Rattle.hv_order.specs.Tables.{IsLeast}
 use Rattle.hv_order.specs.inside.Runs.{IsRow, IsApartFrom, AreApart}
 use Rattle.hv_order.specs.declared.trial.Run.{Run}
-use Rattle.hv_order.proofs.Members.{at_head, in_tail, contains_cases, none_in_empty, once_none, once_more}
+use Rattle.hv_order.proofs.Members.{once_none}
 
 -- a number is the least in one way
 one_least : (P : ℕ → Type 0) (n : ℕ) (o p : Option ℕ) → IsLeast P n o → IsLeast P n p → o ≡ p

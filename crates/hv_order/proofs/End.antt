@@ -1,12 +1,13 @@
 -- End: the network at the end of a derivation, whatever the order of its decompositions.
 use Rattle.std.proofs.Common.{◌≡◌, ℕ, true, List, [], ◌∷◌, ◌++◌, refl, sym, subst, inl, inr, ◌⊎◌, Contains, zero, suc, arith}
 use Rattle.std.specs.Prelude.{map}
+use Rattle.hv_lists.proofs.Contained.{at_head, in_tail}
 use Rattle.hv_plan.specs.Trees.{Item, Act, Task, Pre, Tree, AtOrBelow, itself, its_child, Reached, IsPrimitive, IsTree}
 use Rattle.hv_order.specs.Meanings.{Choice, AreOrders}
 use Rattle.hv_order.specs.Networks.{Network, ordered_pairs, inherited, inherited_pairs, initial_network, decomposition, Leads}
 use Rattle.hv_order.specs.Precedence.{Precedes, of_pre, of_line, of_root, IsEnd}
 use Rattle.hv_order.specs.Laws.{EndLaw, SameEndLaw}
-use Rattle.hv_order.proofs.Members.{mem_left, mem_right, mem_cases, mem_map, MappedFrom, mem_map_from, first_same, second_same, at_head, in_tail}
+use Rattle.hv_order.proofs.Members.{mem_left, mem_right, mem_cases, mem_map, MappedFrom, mem_map_from, first_same, second_same}
 use Rattle.hv_order.proofs.Ancestry
 use Rattle.hv_order.proofs.Ancestry.{Below, same_line, the_pre, in_child, below, under, act_alone, pre_alone, New, new_pre, new_child, reached_initial, reached_pre, reached_child, reached_below}
 use Rattle.hv_order.proofs.Decomposing.{IsLine, yes_line, no_line, line_cases, after_old, after_new, Origin, old, fresh, origin, PairOrigin, kept, from_left, from_right, pair_origin, inherited_kept, inherited_left, inherited_right, pair_gives, PairOf, ordered_in, ordered_has}

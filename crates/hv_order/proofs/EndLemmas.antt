@@ -2,15 +2,16 @@
 use Rattle.std.proofs.Common.{◌≡◌, ℕ, zero, suc, ◌+◌, ◌<◌, ◌≤◌, ◌⊎◌, inl, inr, List, [], ◌∷◌, ◌++◌, length, refl, sym, ap, ◌∙◌, subst, arith, Contains}
 use Rattle.std.specs.Prelude.{map, max, take, slice_index, get_or}
 use Rattle.std.proofs.lemmas.Bool.{cases_lt}
+use Rattle.hv_lists.proofs.Places.{take_one, map_end, push_front, push_last}
+use Rattle.hv_lists.proofs.Contained.{at_head}
 use Rattle.hv_plan.specs.Trees.{Item, Act, Task, Pre}
 use Rattle.hv_plan.specs.PlanTrees.{PlanTree, children_at}
-use Rattle.hv_match.proofs.CountLemmas.{take_one, map_end}
 use Rattle.hv_order.specs.Meanings.{Meaning}
 use Rattle.hv_order.specs.Finishes.{Fits}
 use Rattle.hv_order.specs.Settings.{Setting, IsMeaning}
 use Rattle.hv_order.specs.inside.Ends.{item_end, IsEndOf, AreEnds}
 use Rattle.hv_order.specs.inside.PlanFacts.{FitsNode}
-use Rattle.hv_order.proofs.Members.{mem_left, mem_right, at_head}
+use Rattle.hv_order.proofs.Members.{mem_left, mem_right}
 
 -- where a line is over no earlier than its children, it is over no earlier than the actions below it
 pub over_behind : (t : PlanTree) (lines : ℕ → Meaning → Type 0) (ends : List ℕ) → AreEnds t ends → (depth : ℕ) (x : Item) (s f : ℕ) → Fits (children_at t.nodes) lines depth x s f → item_end ends x ≤ f
@@ -47,15 +48,6 @@ end_more ends y (Act k) = omega arith
 end_more ends y (Task v) = index_more ends y v
 end_more ends y (Pre v) = omega arith
 
-index_kept : (xs : List ℕ) (y u : ℕ) → u < length xs → slice_index (xs ++ y ∷ []) u ≡ slice_index xs u
-index_kept [] y u lt = absurd (omega (arith, lt))
-index_kept (x ∷ xs) y zero lt = refl
-index_kept (x ∷ xs) y (suc u) lt = index_kept xs y u (omega (arith, lt))
-
-index_last : (xs : List ℕ) (y : ℕ) → slice_index (xs ++ y ∷ []) (length xs) ≡ y
-index_last [] y = refl
-index_last (x ∷ xs) y = index_last xs y
-
 index_past : (xs : List ℕ) (u : ℕ) → length xs ≤ u → slice_index xs u ≡ 0
 index_past [] u le = refl
 index_past (x ∷ xs) zero le = absurd (omega (arith, le))
@@ -80,14 +72,14 @@ one_end_more t ends n e xs are children is = record {
     more (x ∷ xs) y = let rest = more xs y in omega (arith, rest)
 
     by : (v f : ℕ) → ((x : Item) → Contains (children_at t.nodes v) x → item_end ends x ≤ f) → (v < n) ⊎ (n ≤ v) → v < n + 1 → slice_index (ends ++ e ∷ []) v ≤ f
-    by v f bound (inl below) lt = let a = are.each v below f bound in let b = index_kept ends e v (omega (arith, below, are.as_many)) in omega (arith, a, b)
+    by v f bound (inl below) lt = let a = are.each v below f bound in let b = push_front ends e v (omega (arith, below, are.as_many)) in omega (arith, a, b)
     by v f bound (inr above) lt =
         let same : v ≡ n = omega (arith, above, lt) in
         let P : ℕ → Type 0 = λ k. (x : Item) → Contains (children_at t.nodes k) x → item_end ends x ≤ f in
         let Q : List Item → Type 0 = λ ys. (x : Item) → Contains ys x → item_end ends x ≤ f in
         let a : e ≤ f = is f (subst Q (sym children) (subst P same bound)) in
         let at : length ends ≡ v = are.as_many ∙ sym same in
-        let b : slice_index (ends ++ e ∷ []) v ≡ e = subst (λ k. slice_index (ends ++ e ∷ []) k ≡ e) at (index_last ends e) in
+        let b : slice_index (ends ++ e ∷ []) v ≡ e = subst (λ k. slice_index (ends ++ e ∷ []) k ≡ e) at (push_last ends e) in
         omega (arith, a, b)
 
 pub all_ends : (t : PlanTree) (ends : List ℕ) (n : ℕ) → AreFirstEnds t ends n → length t.nodes ≤ n → AreEnds t ends

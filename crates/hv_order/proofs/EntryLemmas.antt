@@ -4,6 +4,7 @@ use Rattle.std.specs.Prelude.{slice_index}
 use Rattle.std.specs.List.{AllZip, slice_set}
 use Rattle.std.proofs.lemmas.List.{get_or-set_same, get_or-set_other, length-set}
 use Rattle.std.proofs.lemmas.Option.{slice_get_within}
+use Rattle.hv_lists.proofs.Pairs.{zip_back, same_length}
 use Rattle.hv_world.specs.Worlds.{World}
 use Rattle.hv_plan.specs.Trees.{Task}
 use Rattle.hv_plan.specs.PlanTrees.{PlanTree, IsTreeIn, StandsFor}
@@ -14,10 +15,8 @@ use Rattle.hv_certificate.specs.declared.certificate.Choice.{Choice}
 use Rattle.hv_certificate.specs.declared.certificate.Certificate.{Certificate}
 use Rattle.hv_order.proofs.Checked.{tells_no, tells_yes}
 use Rattle.hv_order.proofs.Checking.{behind_root}
-use Rattle.hv_order.proofs.NodeParts.{zip_length}
 use Rattle.hv_order.proofs.ToldApart.{one_stand, one_id}
 use Rattle.hv_order.proofs.TreeLines.{as_many_in_order, within_order, place_of}
-use Rattle.hv_plan.proofs.OneTree.{zip_back}
 
 -- lists of one length are zipped where it is so place by place
 zip_from : {A B : Type 0} (R : A → B → Type 0) (xs : List A) (ys : List B) → length xs ≡ length ys
@@ -43,7 +42,7 @@ module _ (w : World) (t : PlanTree) (is : IsTreeIn w t) where
 
   pub other_count : (c : Certificate) (n : ℕ) → n ≡ length t.nodes → length c.lines.items + 1 ≢ n → Tells (HasLines t c) false
   other_count c n count other =
-      tells_no (HasLines t c) (λ h. other (let k = zip_length (HasIdOf t) (line_numbers t) c.lines.items h in omega (arith, k, count, many)))
+      tells_no (HasLines t c) (λ h. other (let k = same_length (HasIdOf t) (line_numbers t) c.lines.items h in omega (arith, k, count, many)))
 
   -- a line of another id
   pub other_id : (c : Certificate) (k v i : ℕ) (x : ℕ × Choice × ℕ) → 1 ≤ k → slice_get t.order k ≡ Some v → slice_get c.lines.items (k - 1) ≡ Some x → StandsFor t i (Task v) → x.0 ≢ i → Tells (HasLines t c) false

@@ -7,6 +7,7 @@ use Rattle.std.specs.Global.{Vec}
 use Rattle.std.proofs.lemmas.Option.{slice_get_within}
 use Rattle.std.proofs.lemmas.List.Elements.{All-head, All-tail, All-nil, All-cons}
 use Rattle.std.proofs.lemmas.List.{length-map}
+use Rattle.hv_lists.proofs.Pairs.{same_length}
 use Rattle.hv_world.specs.Bindings.{object_number}
 use Rattle.hv_world.specs.Bounds.{IsSound}
 use Rattle.hv_world.specs.Worlds.{World}
@@ -25,7 +26,7 @@ use Rattle.hv_certificate.specs.declared.certificate.Certificate.{Certificate}
 use Rattle.hv_order.specs.declared.entries.Entry.{Entry}
 use Rattle.hv_order.proofs.Checked.{told_no}
 use Rattle.hv_order.proofs.EntryLemmas.{count_lines}
-use Rattle.hv_order.proofs.NodeParts.{candidate_here, zip_length}
+use Rattle.hv_order.proofs.NodeParts.{candidate_here}
 use Rattle.hv_order.proofs.ToldApart.{one_object, same_firsts}
 use Rattle.hv_order.proofs.TreeLines.{child_has_id}
 
@@ -192,6 +193,6 @@ module _ (q : Setting) (c : Certificate) (ps : List ℕ) where
 pub place_there : (w : World) (t : PlanTree) (is : IsTreeIn w t) (c : Certificate) (ps : List ℕ) (v : ℕ) → HasLines t c → ArePlaces t ps → v < length t.nodes → slice_index ps v < length c.lines.items + 1
 place_there w t is c ps v lines places lt =
     let within = slice_get_within t.order (slice_index ps v) v (places.each v lt) in
-    let count = zip_length (HasIdOf t) (line_numbers t) c.lines.items lines in
+    let count = same_length (HasIdOf t) (line_numbers t) c.lines.items lines in
     let whole = count_lines t in
     omega (arith, within, count, whole)

@@ -1,10 +1,12 @@
 -- The worked examples: their tables by computation, and what the laws make of them.
 use Rattle.std.proofs.Common.{◌≡◌, ℕ, zero, suc, Bool, true, List, [], ◌∷◌, refl, sym, ap, ◌∙◌, subst, arith, Contains, ◌<◌}
+use Rattle.hv_lists.proofs.Contained.{at_head, in_tail, none_in_empty}
+use Rattle.hv_lists.proofs.EachOnce.{once_more}
 use Rattle.hv_plan.specs.Trees.{Item, Act, Task, Pre, itself, its_child, IsSubtask, IsTree, IsWithin, HasActions}
 use Rattle.hv_order.specs.Meanings.{Meaning, IsOrder}
 use Rattle.hv_order.specs.Tables.{IsSort, AreSorts, AreRootSorts}
 use Rattle.hv_order.specs.Examples.{is_same, unordered, one_pair, middle, middle_children, middle_lines, middle_sort, middle_roots, reversed_roots, own_lines, WorkedExamples}
-use Rattle.hv_order.proofs.Members.{and_left, and_right, number_from, not_true, at_head, in_tail, none_in_empty, once_none, once_more}
+use Rattle.hv_order.proofs.Members.{and_left, and_right, number_from, not_true, once_none}
 use Rattle.hv_order.proofs.Judgement.{judge_law}
 
 same_from : (x y : Item) → is_same x y ≡ true → x ≡ y

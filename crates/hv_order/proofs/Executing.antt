@@ -1,10 +1,11 @@
 -- A sequence of all actions of the plan executes exactly where it can be run: no state is left out.
 use Rattle.std.proofs.Common.{◌≡◌, ℕ, ◌+◌, ◌<◌, ◌≤◌, true, List, [], ◌∷◌, sym, ap, subst, inl, inr, arith, ◌⊎◌, Contains, zero, suc}
 use Rattle.std.proofs.lemmas.Bool.{cases_lt}
+use Rattle.hv_lists.proofs.Contained.{none_in_empty}
 use Rattle.hv_plan.specs.Trees.{Item, Act, Task, Pre}
 use Rattle.hv_order.specs.Meanings.{Choice}
 use Rattle.hv_order.specs.Sequences.{Executes, Passes}
-use Rattle.hv_order.proofs.Members.{act_same, act_not_pre, none_in_empty}
+use Rattle.hv_order.proofs.Members.{act_same, act_not_pre}
 use Rattle.hv_order.proofs.Clocks.{passes_bound}
 
 -- a sequence that can be run from s on has no action before s

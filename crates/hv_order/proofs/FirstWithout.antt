@@ -1,9 +1,9 @@
 -- The first node without a candidate, in the order of nodes.
 use Rattle.std.proofs.Common.{◌≡◌, ◌≢◌, ◌↔◌, ℕ, ◌<◌, ◌≤◌, List, [], ◌∷◌, Bool, true, false, Option, Some, None, length, slice_get, refl, sym, ap, ◌∙◌, subst, arith, Contains, MatchOption, IsTrue}
 use Rattle.std.specs.Prelude.{MatchBool}
+use Rattle.hv_lists.proofs.Contained.{contains_first}
 use Rattle.hv_world.specs.Worlds.{World}
 use Rattle.hv_plan.specs.PlanTrees.{Node, PlanTree, NodeIs, IsTreeIn}
-use Rattle.hv_plan.proofs.FitLemmas.{contains_first}
 use Rattle.hv_match.specs.Candidates.{Listing, HasAllAt, IsCandidateAt}
 use Rattle.hv_order.specs.Settings.{Setting, HasCandidate, HaveCandidates, IsFirstWithout}
 use Rattle.hv_order.specs.inside.Writings.{HasOne, IsSettingOver}

@@ -1,8 +1,9 @@
 -- Of an item of the tree it is decided whether it stands at or below a line; the tree of the line
 -- alone has the same items there.
 use Rattle.std.proofs.Common.{◌≡◌, ℕ, [], ◌∷◌, refl, sym, ap, subst, inl, inr, arith, ◌⊎◌, Contains, zero, suc, ◌<◌}
+use Rattle.hv_lists.proofs.Contained.{at_head}
 use Rattle.hv_plan.specs.Trees.{Item, Act, Task, Pre, Tree, AtOrBelow, itself, its_pre, its_child, Reached, IsSubtask, IsTree, line_tree}
-use Rattle.hv_order.proofs.Members.{same_item, at_head}
+use Rattle.hv_order.proofs.Members.{same_item}
 use Rattle.hv_order.proofs.Ancestry
 use Rattle.hv_order.proofs.Ancestry.{Above, above, same, above_pre, above_child, under, act_alone}
 use Rattle.hv_order.proofs.Precedence

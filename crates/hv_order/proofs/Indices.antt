@@ -1,13 +1,15 @@
 -- The states in which an executable sequence has the precondition steps are a schedule.
 use Rattle.std.proofs.Common.{◌≡◌, ℕ, suc, ◌+◌, ◌≤◌, true, false, List, [], ◌∷◌, refl, sym, subst, inl, inr, arith, Contains, zero}
 use Rattle.std.specs.Prelude.{if◌then◌else◌, ◌==◌}
-use Rattle.hv_text.specs.Lists.{Once}
+use Rattle.hv_lists.specs.Lists.{Once}
+use Rattle.hv_lists.proofs.Contained.{at_head, in_tail, none_in_empty}
+use Rattle.hv_lists.proofs.EachOnce.{once_head, once_tail}
 use Rattle.hv_plan.specs.Trees.{Item, Act, Task, Pre, Reached, IsPrimitive}
 use Rattle.hv_order.specs.Meanings.{Choice}
 use Rattle.hv_order.specs.Sequences.{Earlier, Executes, index_in}
 use Rattle.hv_order.specs.Schedules.{begins, ends}
 use Rattle.hv_order.specs.Laws.{IndexLaw, SequenceWindowLaw}
-use Rattle.hv_order.proofs.Members.{SameNumber, equal_numbers, other_numbers, number_cases, number_test, act_not_pre, pre_same, at_head, in_tail, none_in_empty, once_head, once_tail}
+use Rattle.hv_order.proofs.Members.{SameNumber, equal_numbers, other_numbers, number_cases, number_test, act_not_pre, pre_same}
 use Rattle.hv_order.proofs.Ancestry.{reached_pre}
 use Rattle.hv_order.proofs.End.{end_law}
 use Rattle.hv_order.proofs.Clocks.{passes_bound}

@@ -1,7 +1,9 @@
 -- How long the best of a node's candidates is kept.
 use Rattle.std.proofs.Common.{◌≡◌, ℕ, zero, suc, ◌≤◌, ◌<◌, ◌⊎◌, List, [], ◌∷◌, refl, sym, ap, ◌∙◌, subst, inl, inr, arith, Option, Some, None, length, Contains}
 use Rattle.std.specs.Prelude.{slice_index, max, min, MatchOption}
-use Rattle.hv_text.specs.Lists.{Once}
+use Rattle.hv_lists.specs.Lists.{Once}
+use Rattle.hv_lists.proofs.Contained.{at_head, in_tail, none_in_empty}
+use Rattle.hv_lists.proofs.EachOnce.{once_head, once_tail}
 use Rattle.hv_order.specs.Tables.{IsLeast}
 use Rattle.hv_order.specs.inside.Choosing.{cap_under, newer}
 use Rattle.hv_order.specs.inside.Layouts.{Lays, PlacedTogether, IsInOrder, AreDirect}
@@ -13,7 +15,6 @@ use Rattle.hv_order.specs.inside.Frames.{IsArranged, IsTrying, IsLeastWith, IsLe
 use Rattle.hv_order.specs.declared.trial.Trial.{Trial}
 use Rattle.hv_order.specs.declared.trial.Best.{Best}
 use Rattle.hv_order.specs.declared.trial.Arranged.{Arranged}
-use Rattle.hv_order.proofs.Members.{at_head, in_tail, none_in_empty, once_head, once_tail}
 use Rattle.hv_order.proofs.Choosing.{one_tried}
 use Rattle.hv_order.proofs.ChildrenFit.{child_climbs, child_earlier}
 use Rattle.hv_order.proofs.Layouts.{laid_is_least}

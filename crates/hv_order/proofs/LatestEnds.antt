@@ -1,9 +1,9 @@
 -- Where each child of a tree is over, for any indices of its lines: such finishes are worked out.
 use Rattle.std.proofs.Common.{◌≡◌, ℕ, zero, suc, ◌+◌, ◌≤◌, ◌<◌, List, [], ◌∷◌, refl, ap, subst, arith, Contains}
 use Rattle.std.specs.Prelude.{max}
+use Rattle.hv_lists.proofs.Contained.{at_head, in_tail, none_in_empty}
 use Rattle.hv_plan.specs.Trees.{Item, Act, Task, Pre, Tree, IsTree}
 use Rattle.hv_order.specs.Certificates.{AreFinishes}
-use Rattle.hv_order.proofs.Members.{at_head, in_tail, none_in_empty}
 
 -- the latest of an index and what a function gives for the members of a list
 abbrev latest : (Item → ℕ) → ℕ → List Item → ℕ

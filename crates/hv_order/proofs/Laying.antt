@@ -1,12 +1,14 @@
 -- Items laid out one after another, each as early as it can be, finish as early as they can.
 use Rattle.std.proofs.Common.{◌≡◌, ℕ, ◌≤◌, Bool, true, false, List, [], ◌∷◌, refl, sym, ap, ◌∙◌, subst, inl, inr, arith, ◌⊎◌, Option, Some, None, Contains, zero, suc}
 use Rattle.std.specs.Prelude.{if◌then◌else◌, max}
-use Rattle.hv_text.specs.Lists.{Once}
+use Rattle.hv_lists.specs.Lists.{Once}
+use Rattle.hv_lists.proofs.Contained.{at_head, in_tail, none_in_empty}
+use Rattle.hv_lists.proofs.EachOnce.{once_head, once_tail}
 use Rattle.hv_plan.specs.Trees.{Item}
 use Rattle.hv_order.specs.Meanings.{IsOrder}
 use Rattle.hv_order.specs.Finishes.{FitTogether}
 use Rattle.hv_order.specs.Tables.{IsLeastAt, IsLeast, and_then, earliest_start, last_finish, layout_finish, Respects, IsSort}
-use Rattle.hv_order.proofs.Members.{same_item, first_same, second_same, pair_same, at_head, in_tail, none_in_empty, once_head, once_tail}
+use Rattle.hv_order.proofs.Members.{same_item, first_same, second_same, pair_same}
 
 -- a function with another value at x
 pick : {P Q : Type 0} → P ⊎ Q → ℕ → ℕ → ℕ

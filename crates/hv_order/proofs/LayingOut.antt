@@ -4,6 +4,7 @@ use Rattle.std.specs.Prelude.{max, slice_index}
 use Rattle.std.specs.List.{slice_set}
 use Rattle.std.proofs.lemmas.Bool.{cases_lt}
 use Rattle.std.proofs.lemmas.List.Elements.{Contains-get_or}
+use Rattle.hv_lists.proofs.Contained.{at_head, in_tail}
 use Rattle.hv_order.specs.Tables.{IsLeastAt}
 use Rattle.hv_order.specs.inside.Layouts.{start_behind, IsInOrder}
 use Rattle.hv_order.specs.inside.Children.{child_at, ChildFits}
@@ -11,7 +12,6 @@ use Rattle.hv_order.specs.inside.Arrangements.{Arrangement, listed_before}
 use Rattle.hv_order.specs.inside.Facts.{Facts, AreFits}
 use Rattle.hv_order.specs.inside.Frames.{IsArranged}
 use Rattle.hv_order.specs.inside.Begun.{CanBeOver, AreLaidOut}
-use Rattle.hv_order.proofs.Members.{at_head, in_tail}
 use Rattle.hv_order.proofs.ChildrenFit.{child_climbs, child_earlier}
 use Rattle.hv_order.proofs.Layouts.{behind_at, behind_each}
 use Rattle.hv_order.proofs.Trials.{start_under, still_under}

@@ -5,6 +5,7 @@ use Rattle.std.specs.List.{slice_set}
 use Rattle.std.proofs.lemmas.Bool.{cases_lt}
 use Rattle.std.proofs.Math.Seq.{set_out}
 use Rattle.std.specs.BTreeMap.{BTreeMap, get}
+use Rattle.hv_lists.proofs.Options.{not_some, same_some}
 use Rattle.hv_order.proofs.Members.{SameNumber, equal_numbers, other_numbers, number_cases}
 use Rattle.hv_order.specs.inside.Facts.{Facts, IsNodeRun}
 use Rattle.hv_order.specs.inside.Memos.{pair_cmp, spanned, or_else, found, as_finish, AreKnown, SameRuns, IsRemembered, OnlyTaken, IsTakenRun, Keeps, LiesIn, total, to_learn}
@@ -17,7 +18,7 @@ use Rattle.hv_order.specs.declared.memo.Pair.{Pair}
 use Rattle.hv_order.specs.declared.memo.Span.{Span}
 use Rattle.hv_order.specs.declared.memo.Won.{Won}
 use Rattle.hv_order.specs.declared.settle.Settled.{Settled}
-use Rattle.hv_order.proofs.Visiting.{said_here, said_else, not_said, same_said}
+use Rattle.hv_order.proofs.Visiting.{said_here, said_else}
 
 -- a run is one from each of its starts on
 later_run : (q : Facts) (v s : ℕ) (r : Run) → IsNodeRun q v s r → (w x : ℕ) (u : Run) → LiesIn v s r w x → u ≡ r → IsNodeRun q w x u
@@ -124,7 +125,7 @@ remembered q size m m' v s r are same kept is =
 
     here : (x : Won) → said_of new v ≡ Some x → (v < length m.won.items) ⊎ (length m.won.items ≤ v) → IsSettled q v x.start x.settled
     here x said (inl lt) =
-        let one : as_won s r ≡ x = same_said (as_won s r) x (sym (said_here m.won.items v (Some (as_won s r)) lt) ∙ said) in
+        let one : as_won s r ≡ x = same_some (as_won s r) x (sym (said_here m.won.items v (Some (as_won s r)) lt) ∙ said) in
         let Q : Won → Type 0 = λ y. IsSettled q v y.start y.settled in
         subst Q one is
     here x said (inr le) = are.won v x (sym (ap (λ k. said_of k v) (set_out m.won.items v (Some (as_won s r)) le)) ∙ said)
@@ -146,7 +147,7 @@ only_taken m m' v lt is = record { won = λ w x said. by w x (number_cases w v) 
     by : (w : ℕ) (x : Won) → SameNumber w v → said_of (slice_set m.won.items v None) w ≡ Some x → said_of m.won.items w ≡ Some x
     by w x (equal_numbers e t) said =
         let P : ℕ → Type 0 = λ k. said_of (slice_set m.won.items v None) k ≡ Some x in
-        absurd (not_said x (sym (said_here m.won.items v None lt) ∙ subst P e said))
+        absurd (not_some x (sym (said_here m.won.items v None lt) ∙ subst P e said))
     by w x (other_numbers e t) said = sym (said_else m.won.items v w None e) ∙ said
 
 -- and the one that was taken is a run from a start on that lies in it

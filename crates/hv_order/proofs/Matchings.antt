@@ -3,7 +3,7 @@
 use Rattle.std.proofs.Common.{◌≡◌, ℕ, ◌<◌, List, length, ap, ◌∙◌, inl, inr, ◌⊎◌, Contains}
 use Rattle.std.specs.Prelude.{All, slice_index}
 use Rattle.std.proofs.lemmas.List.Elements.{Contains-get_or}
-use Rattle.hv_text.specs.Lists.{Once}
+use Rattle.hv_lists.specs.Lists.{Once}
 use Rattle.hv_plan.specs.Trees.{Item, Act}
 use Rattle.hv_order.specs.StandIns.{IsMatching}
 use Rattle.hv_order.specs.inside.PlanFacts.{child_in}

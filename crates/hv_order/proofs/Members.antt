@@ -5,7 +5,8 @@ use Rattle.std.proofs.lemmas.Bool.Decides.{eqb_tells}
 use Rattle.std.proofs.Math.Dec.{eqb}
 use Rattle.std.proofs.lemmas.List.Elements.{Contains-get_or}
 use Rattle.std.proofs.lemmas.List.Kept.{AllPairs-cons}
-use Rattle.hv_text.specs.Lists.{Once}
+use Rattle.hv_lists.specs.Lists.{Once}
+use Rattle.hv_lists.proofs.Contained.{at_head, in_tail, contains_cases, none_in_empty}
 use Rattle.hv_plan.specs.Trees.{Item, Act, Task, Pre}
 
 -- two numbers are the same or not, and their test says so
@@ -41,10 +42,6 @@ and_left false b both = both
 pub and_right : (a b : Bool) → (a && b) ≡ true → b ≡ true
 and_right true b both = both
 and_right false b both = absurd (let clash : false ≡ true = both in cc)
-
-pub and_both : (a b : Bool) → a ≡ true → b ≡ true → (a && b) ≡ true
-and_both true b first second = second
-and_both false b first second = absurd (let clash : false ≡ true = first in cc)
 
 pub not_true : {P : Type 0} → false ≡ true → P
 not_true clash = absurd (let e : false ≡ true = clash in cc)
@@ -92,20 +89,6 @@ task_same u v e = cc
 
 pub pre_same : (u v : ℕ) → Pre u ≡ Pre v → u ≡ v
 pre_same u v e = cc
-
--- what a list contains: its head, what is in its tail, and nothing else
-pub at_head : {X : Type 0} (y : X) (ys : List X) (x : X) → x ≡ y → Contains (y ∷ ys) x
-at_head y ys x e = (0, omega arith, sym e)
-
-pub in_tail : {X : Type 0} (y : X) (ys : List X) (x : X) → Contains ys x → Contains (y ∷ ys) x
-in_tail y ys x h = (suc h.0, omega (arith, h.1), h.2)
-
-pub contains_cases : {X : Type 0} (y : X) (ys : List X) (x : X) → Contains (y ∷ ys) x → (x ≡ y) ⊎ Contains ys x
-contains_cases y ys x (zero, lt, e) = inl (sym e)
-contains_cases y ys x (suc k, lt, e) = inr (k, omega arith, e)
-
-pub none_in_empty : {X : Type 0} (x : X) → Contains [] x → ⊥
-none_in_empty x h = let lt : h.0 < 0 = h.1 in omega (arith, lt)
 
 -- an item is a member of a list or not
 pub is_member : (x : Item) (xs : List Item) → Contains xs x ⊎ (Contains xs x → ⊥)
@@ -167,17 +150,8 @@ mem_map_from f y (z ∷ xs) m = by_place (contains_cases (f z) (map f xs) y m) (
     by_place (inr k) later = let from = later k in record { source = from.source; is_member = in_tail z xs from.source from.is_member; image = from.image }
 
 -- a list with each once: its head is not in its tail, and the tail has each once
-pub once_head : {X : Type 0} (x : X) (xs : List X) → Once (x ∷ xs) → Contains xs x → ⊥
-once_head x xs once (k, lt, e) = once 0 (suc k) x (omega arith) (omega (arith, lt)) (sym e)
-
-pub once_tail : {X : Type 0} (x : X) (xs : List X) → Once (x ∷ xs) → Once xs
-once_tail x xs once = λ i j d less within. once (suc i) (suc j) d (omega (arith, less)) (omega (arith, within))
-
 pub once_none : {X : Type 0} → Once {X = X} []
 once_none {X} = λ i j d less within. absurd (let lt : j < 0 = within in omega (arith, lt))
-
-pub once_more : {X : Type 0} (x : X) (xs : List X) → (Contains xs x → ⊥) → Once xs → Once (x ∷ xs)
-once_more x xs absent once = AllPairs-cons ◌≢◌ x xs (λ i d lt e. absent (subst (Contains xs) (sym e) (Contains-get_or xs i d lt))) once
 
 -- equal pairs have equal parts
 pub first_same : {X Y : Type 0} (a c : X) (b d : Y) → ◌≡◌ {A = X × Y} (a, b) (c, d) → a ≡ c

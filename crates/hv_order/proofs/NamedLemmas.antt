@@ -4,7 +4,9 @@ use Rattle.std.specs.Prelude.{bytes_eq, if◌then◌else◌}
 use Rattle.std.specs.Option.{option_map}
 use Rattle.std.specs.List.{AllZip}
 use Rattle.std.proofs.lemmas.Option.{slice_get_within, get_or_from_slice_get, slice_get-get_or}
-use Rattle.hv_text.specs.Lists.{Once}
+use Rattle.hv_lists.specs.Lists.{Once}
+use Rattle.hv_lists.proofs.Pairs.{paired_at, zip_back, zip_end}
+use Rattle.hv_lists.proofs.Places.{slice_get_here, take_one, map_end}
 use Rattle.hv_text.specs.Names.{text_of}
 use Rattle.hv_text.specs.declared.name.Name.{Name}
 use Rattle.hv_world.specs.Bindings.{object_number}
@@ -12,15 +14,12 @@ use Rattle.hv_world.specs.Bounds.{IsSound}
 use Rattle.hv_world.specs.Names.{place_in}
 use Rattle.hv_world.specs.Worlds.{World}
 use Rattle.hv_world.specs.declared.id.ObjectId.{ObjectId}
-use Rattle.hv_world.proofs.OnceLemmas.{found_at}
+use Rattle.hv_world.proofs.Cited.{found_at}
 use Rattle.std.specs.Cmp.Lexicographic.{bytes_decides}
 use Rattle.hv_plan.specs.Trees.{Item}
 use Rattle.hv_plan.specs.PlanTrees.{PlanTree}
 use Rattle.hv_plan.specs.inside.Shaping.{place_of}
-use Rattle.hv_plan.proofs.OneTree.{zip_back}
-use Rattle.hv_plan.proofs.ChildLemmas.{paired_at, slice_get_here}
-use Rattle.hv_plan.proofs.ShapePlaces.{place_is}
-use Rattle.hv_match.proofs.CountLemmas.{take_one, map_end, zip_end}
+use Rattle.hv_plan.proofs.Cited.{place_is}
 use Rattle.std.proofs.Common.{nat_eq, eqb-true}
 use Rattle.std.proofs.lemmas.List.Sums.{passes_at_first}
 use Rattle.hv_order.specs.inside.Writings.{IsIdOf, IsNameIn}

@@ -7,6 +7,7 @@ use Rattle.std.proofs.lemmas.List.{length-map}
 use Rattle.std.proofs.lemmas.List.Elements.{Contains-get_or, All-contains, All-from_get_or}
 use Rattle.std.proofs.Math.ListN.{get_or-map}
 use Rattle.std.proofs.lemmas.Bool.{cases_lt}
+use Rattle.hv_lists.proofs.Contained.{at_head, in_tail}
 use Rattle.hv_world.specs.Orders.{Before}
 use Rattle.hv_world.specs.Worlds.{Method}
 use Rattle.hv_plan.specs.Trees.{Item, Act, Task, Pre, IsSubtask, IsTree}
@@ -26,7 +27,7 @@ use Rattle.hv_order.specs.inside.Layouts.{PlacedTogether, IsInOrder, IsOrderOf, 
 use Rattle.hv_order.specs.inside.Nodes.{FitsWithOne, AreNodes}
 use Rattle.hv_order.specs.inside.PlanFacts.{IsSetting, FitsNode, ComesBefore, child_in, Arranges, plan_facts}
 use Rattle.hv_order.specs.inside.Trials.{AreWithin}
-use Rattle.hv_order.proofs.Members.{task_same, at_head, in_tail, MappedFrom, mem_map_from}
+use Rattle.hv_order.proofs.Members.{task_same, MappedFrom, mem_map_from}
 use Rattle.hv_order.proofs.DeepEnough.{deep_enough}
 use Rattle.hv_order.proofs.StandIns.{by_matching, by_meaning}
 use Rattle.hv_order.proofs.Wider.{wider}

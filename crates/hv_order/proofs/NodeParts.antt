@@ -4,15 +4,15 @@ use Rattle.std.specs.Prelude.{All, slice_get, Bool, true, false}
 use Rattle.std.proofs.lemmas.List.{length-map}
 use Rattle.std.specs.List.{AllZip}
 use Rattle.std.proofs.lemmas.Option.{slice_get_within, get_or_from_slice_get}
-use Rattle.hv_text.specs.Lists.{Once}
+use Rattle.hv_lists.specs.Lists.{Once}
+use Rattle.hv_lists.proofs.Pairs.{same_length}
 use Rattle.hv_world.specs.Bounds.{IsSoundNetwork}
 use Rattle.hv_world.specs.Orders.{Before}
 use Rattle.hv_world.specs.Worlds.{Method}
-use Rattle.hv_world.proofs.CycleLemmas.{before_is_decided}
-use Rattle.hv_world.proofs.TypeDecisions.{of_is_decided}
+use Rattle.hv_world.proofs.Cited.{before_is_decided, of_is_decided}
 use Rattle.hv_state.specs.Plans.{StateAt}
 use Rattle.hv_state.specs.Truth.{True}
-use Rattle.hv_state.proofs.DecisionLemmas.{true_decided, state_decided}
+use Rattle.hv_state.proofs.Cited.{true_decided, state_decided}
 use Rattle.hv_plan.specs.Trees.{Item, IsTree}
 use Rattle.hv_plan.specs.PlanTrees.{Node, children_of, children_at, tree_of, IsNumberedTree}
 use Rattle.hv_match.specs.Candidates.{IsCandidate, IsCandidateAt, Does, child_task, child_tasks, node_method, method_at}
@@ -24,12 +24,6 @@ use Rattle.hv_order.proofs.Members.{not_true}
 use Rattle.hv_order.proofs.Matchings.{is_matching}
 use Rattle.hv_order.proofs.Deciding.{meaning_of}
 use Rattle.hv_order.proofs.Orders.{meaning_order}
-
-pub zip_length : {A B : Type 0} (R : A → B → Type 0) (xs : List A) (ys : List B) → AllZip R xs ys → length xs ≡ length ys
-zip_length R [] [] z = refl
-zip_length R [] (y ∷ ys) z = absurd z
-zip_length R (x ∷ xs) [] z = absurd z
-zip_length R (x ∷ xs) (y ∷ ys) z = ap suc (zip_length R xs ys z.1)
 
 -- the parts of a candidate of a number
 pub record IsCandidateHere (q : Setting) (v : ℕ) (M B : List ℕ) : Type 0 where
@@ -112,7 +106,7 @@ module _ (q : Setting) (is : IsSetting q) (v : ℕ) (node : Node) (has_node : sl
         subst P (sym children_are) (is_matching node.children child_once M candidate.once places_within (candidate.all ∙ task_count))
 
     pub order_count : method.network.order.len ≡ length M
-    order_count = sound_network.order ∙ sym (zip_length (Does (child_tasks q.tree node) B) M method.network.subtasks candidate.done)
+    order_count = sound_network.order ∙ sym (same_length (Does (child_tasks q.tree node) B) M method.network.subtasks candidate.done)
 
     pub has_meaning : (c : Meaning) × IsMeaning q v c
     has_meaning =

@@ -5,7 +5,9 @@ use Rattle.std.specs.List.{slice_index_or, range_with_len}
 use Rattle.std.proofs.lemmas.List.Elements.{All-contains, filter_passes}
 use Rattle.std.proofs.lemmas.List.FromFn.{get_or-map-range_with_len, length-range_with_len}
 use Rattle.std.proofs.lemmas.List.{length-map}
-use Rattle.hv_text.specs.Lists.{Once}
+use Rattle.hv_lists.specs.Lists.{Once}
+use Rattle.hv_lists.proofs.Contained.{at_head, in_tail, contains_cases, none_in_empty}
+use Rattle.hv_lists.proofs.EachOnce.{once_head, once_tail, once_more}
 use Rattle.hv_world.specs.Networks.{IsArrangeable}
 use Rattle.hv_world.specs.Orders as world
 use Rattle.hv_world.specs.Orders.{Written, IsPaired, Leads, one_step, more_steps, Before, IsRow, IsArrangement}
@@ -16,7 +18,7 @@ use Rattle.hv_order.specs.StandIns.{Comes, StandsFor, IsMatching}
 use Rattle.hv_order.specs.Tables.{Respects, HasSort}
 use Rattle.hv_order.specs.inside.Arrangements.{listed_before}
 use Rattle.hv_order.specs.inside.Layouts.{IsInOrder, IsOrderOf, AreDirect}
-use Rattle.hv_order.proofs.Members.{at_head, in_tail, contains_cases, none_in_empty, mem_map, mem_map_from, once_head, once_tail, once_none, once_more, not_true, MappedFrom}
+use Rattle.hv_order.proofs.Members.{mem_map, mem_map_from, once_none, not_true, MappedFrom}
 use Rattle.hv_order.proofs.Deciding.{is_yes, yes_tells}
 use Rattle.hv_order.proofs.Pigeons.{same_default, as_many_below}
 use Rattle.hv_order.proofs.TopologicalSorts.{sort_law}

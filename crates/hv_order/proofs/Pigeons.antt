@@ -10,12 +10,11 @@ use Rattle.std.proofs.lemmas.Map.Made.{IsDistinct-from_AllPairs}
 use Rattle.std.proofs.lemmas.Map.Steps.{length-le_from_distinct_below, le-length_from_below}
 use Rattle.std.proofs.lemmas.Option.{slice_get-get_or}
 use Rattle.std.specs.List.{slice_index_or}
-use Rattle.hv_text.specs.Lists.{Once}
-use Rattle.hv_order.proofs.Members.{SameNumber, equal_numbers, other_numbers, number_cases, number_from, number_test, not_true, at_head, in_tail, contains_cases, none_in_empty, once_more}
-
-or_cases : (a b : Bool) → (a || b) ≡ true → (a ≡ true) ⊎ (b ≡ true)
-or_cases true b e = inl refl
-or_cases false b e = inr e
+use Rattle.hv_lists.specs.Lists.{Once}
+use Rattle.hv_lists.proofs.Contained.{at_head, in_tail, contains_cases, none_in_empty}
+use Rattle.hv_lists.proofs.EachOnce.{once_more}
+use Rattle.hv_lists.proofs.Bools.{or_cases, or_left, or_right}
+use Rattle.hv_order.proofs.Members.{SameNumber, equal_numbers, other_numbers, number_cases, number_from, number_test, not_true}
 
 any_member : (n : ℕ) (xs : List ℕ) → list_any (eqb n) xs ≡ true → Contains xs n
 any_member n [] e = not_true e
@@ -73,14 +72,6 @@ one_place xs once i j d in_i in_j same = by (cases_lt i j) (cases_lt j i)
     by (inl less) other = absurd (once i j d less in_j same)
     by (inr up) (inl less) = absurd (once j i d less in_i (sym same))
     by (inr up) (inr down) = omega arith
-
-or_left : (a b : Bool) → a ≡ true → (a || b) ≡ true
-or_left true b e = refl
-or_left false b e = not_true e
-
-or_right : (a b : Bool) → b ≡ true → (a || b) ≡ true
-or_right true b e = refl
-or_right false b e = e
 
 member_any : (n : ℕ) (xs : List ℕ) → Contains xs n → list_any (eqb n) xs ≡ true
 member_any n [] m = absurd (none_in_empty n m)

@@ -4,6 +4,8 @@ use Rattle.std.proofs.Common.{◌≡◌, ℕ, suc, ◌+◌, ◌<◌, ◌≤◌, 
 use Rattle.std.specs.List.{AllZip}
 use Rattle.std.proofs.lemmas.Option.{slice_get-get_or}
 use Rattle.std.proofs.lemmas.List.Elements.{All-head, All-tail, All-weaker}
+use Rattle.hv_lists.proofs.Numbers.{below_next}
+use Rattle.hv_lists.proofs.Pairs.{same_length}
 use Rattle.hv_world.specs.Bindings.{object_number}
 use Rattle.hv_world.specs.Bounds.{IsSound}
 use Rattle.hv_world.specs.Orders.{Before}
@@ -13,7 +15,6 @@ use Rattle.hv_plan.specs.Trees.{Item, Act, Task, IsTree, IsWithin, HasActions, R
 use Rattle.hv_plan.specs.TreeViews.{child_view}
 use Rattle.hv_plan.specs.declared.tree.Child.{Child}
 use Rattle.hv_plan.specs.PlanTrees.{PlanTree, IsActionOf, IsTreeIn, children_at, root_number, tree_of}
-use Rattle.hv_plan.proofs.FitLemmas.{less_or_same, same_length}
 use Rattle.hv_order.specs.Meanings.{Meaning, Choice, AreOrders, free_meaning}
 use Rattle.hv_order.specs.StandIns.{StandsFor, Comes, IsMatching}
 use Rattle.hv_order.specs.Sequences.{HasSequenceAt}
@@ -166,7 +167,7 @@ module _ (q : Setting) (is : IsSetting q) where
     stand_at v lt = by_side (root_or_below v is.tree.is_tree.root (omega (arith, lt, is.tree.is_tree.last)))
       where
         root_or_below : (v root : ℕ) → v < root + 1 → (v ≡ root) ⊎ (v < root)
-        root_or_below v root lt = by (less_or_same v root lt)
+        root_or_below v root lt = by (below_next v root lt)
           where
             by : (v < root) ⊎ (v ≡ root) → (v ≡ root) ⊎ (v < root)
             by (inl a) = inr a

@@ -1,7 +1,8 @@
 -- The rank of an item: how many items come before it by the pairs of a network.
 use Rattle.std.proofs.Common.{◌≡◌, ℕ, ◌+◌, ◌<◌, ◌≤◌, List, [], ◌∷◌, refl, subst, inl, inr, arith, ◌⊎◌, Contains, zero, suc, sym}
+use Rattle.hv_lists.proofs.Contained.{at_head, in_tail, none_in_empty}
 use Rattle.hv_plan.specs.Trees.{Item}
-use Rattle.hv_order.proofs.Members.{same_item, first_same, second_same, pair_same, at_head, in_tail, none_in_empty}
+use Rattle.hv_order.proofs.Members.{same_item, first_same, second_same, pair_same}
 
 -- is the pair (x, y) in the list
 data HasPair (x y : Item) (ps : List (Item × Item)) : Type 0 where

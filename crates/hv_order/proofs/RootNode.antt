@@ -2,6 +2,8 @@
 -- a node whose precondition is always true.
 use Rattle.std.proofs.Common.{◌≡◌, ℕ, ◌+◌, List, length, sym, ap, ◌∙◌, ◌↔◌, subst, arith, Option, Some, None, MatchOption}
 use Rattle.std.specs.Prelude.{slice_get, option_and_then, true}
+use Rattle.hv_lists.proofs.Places.{member_at}
+use Rattle.hv_lists.proofs.Pairs.{same_length}
 use Rattle.hv_world.specs.Values.{Formula}
 use Rattle.hv_world.specs.Worlds.{Method}
 use Rattle.hv_state.specs.Plans.{StateAt}
@@ -9,7 +11,6 @@ use Rattle.hv_state.specs.Truth.{True}
 use Rattle.hv_plan.specs.Trees.{IsWithin, HasActions}
 use Rattle.hv_plan.specs.PlanTrees.{Node, IsRootOf, IsActionOf, IsNumberedTree, root_number, tree_of}
 use Rattle.hv_match.specs.Candidates.{node_method}
-use Rattle.hv_plan.proofs.FitLemmas.{member_at}
 use Rattle.hv_order.specs.Finishes.{FitsAll}
 use Rattle.hv_order.specs.Meanings.{Meaning, AreMeanings}
 use Rattle.hv_order.specs.LeastFinishes.{PlanCanBePlaced}
@@ -17,7 +18,7 @@ use Rattle.hv_order.specs.Settings.{Setting, last, HoldsAt, IsMeaning, IsSolved}
 use Rattle.hv_order.specs.Tables.{IsLeast}
 use Rattle.hv_order.specs.inside.PlanFacts.{IsSetting, OfMethod, FitsNode}
 use Rattle.hv_order.proofs.Solutions.{placed_both, sequence_both}
-use Rattle.hv_order.proofs.NodeParts.{zip_length, meanings_are_orders}
+use Rattle.hv_order.proofs.NodeParts.{meanings_are_orders}
 
 module _ (q : Setting) (is : IsSetting q) where
   numbered : IsNumberedTree (tree_of q.tree) is.tree.is_tree.root (length is.tree.plan.actions)
@@ -103,7 +104,7 @@ module _ (q : Setting) (is : IsSetting q) where
   within u m = numbered.tree.lower (root_number q.tree) u m
 
   action_count : length is.tree.plan.actions ≡ last q
-  action_count = zip_length (IsActionOf q.plan.world) is.tree.plan.actions q.tree.actions is.tree.is_tree.actions ∙ ap length (sym is.actions)
+  action_count = same_length (IsActionOf q.plan.world) is.tree.plan.actions q.tree.actions is.tree.is_tree.actions ∙ ap length (sym is.actions)
 
   all_reached : HasActions (tree_of q.tree) (last q)
   all_reached = subst (HasActions (tree_of q.tree)) action_count numbered.reached_actions

@@ -2,6 +2,7 @@
 -- the indices gives a sequence.
 use Rattle.std.proofs.Common.{◌≡◌, ℕ, ◌+◌, ◌*◌, ◌<◌, ◌≤◌, true, List, [], ◌∷◌, refl, ap, inl, inr, arith, ◌⊎◌, Contains}
 use Rattle.std.proofs.lemmas.Bool.{cases_lt}
+use Rattle.hv_lists.proofs.Contained.{at_head, in_tail}
 use Rattle.hv_plan.specs.Trees.{Item, Act, Task, Pre, Tree, Reached, IsPrimitive, IsTree}
 use Rattle.hv_order.specs.Meanings.{Choice, AreOrders}
 use Rattle.hv_order.specs.Networks.{Network, HasDerivation}
@@ -9,7 +10,7 @@ use Rattle.hv_order.specs.Precedence.{IsEnd}
 use Rattle.hv_order.specs.Sequences.{IsLinearization, Passes, Placed}
 use Rattle.hv_order.specs.Schedules.{begins, ends, IsSchedule, HasSchedule}
 use Rattle.hv_order.specs.Laws.{ScheduleLaw}
-use Rattle.hv_order.proofs.Members.{code, at_head, in_tail}
+use Rattle.hv_order.proofs.Members.{code}
 use Rattle.hv_order.proofs.Ancestry
 use Rattle.hv_order.proofs.Ancestry.{reached_pre}
 use Rattle.hv_order.proofs.End.{end_law}

@@ -2,10 +2,10 @@
 use Rattle.std.proofs.Common.{◌≡◌, ◌↔◌, ℕ, zero, suc, List, [], ◌∷◌, refl, sym, ap, ◌∙◌, subst, Option, Some, None, IsSome, MatchOption, Contains}
 use Rattle.std.specs.Prelude.{map, slice_get, option_and_then}
 use Rattle.std.specs.Rc.{rc_value}
+use Rattle.hv_lists.proofs.Pairs.{paired_at}
 use Rattle.hv_world.specs.Worlds.{World, Method}
 use Rattle.hv_plan.specs.PlanTrees.{Node, PlanTree}
 use Rattle.hv_plan.specs.TreeViews.{child_view}
-use Rattle.hv_plan.proofs.ChildLemmas.{paired_at}
 use Rattle.hv_match.specs.Candidates.{IsCandidateAt, node_method, method_at}
 use Rattle.hv_order.specs.inside.Sequencings.{IsSequencing, IsSequencingOf, AreSequencingsOf, IsSequencingAt}
 use Rattle.hv_order.specs.inside.Listers.{ListsAll}
@@ -14,11 +14,6 @@ use Rattle.hv_order.specs.declared.sequencing.Sequencing.{Sequencing}
 use Rattle.hv_order.specs.declared.sequencing.Sequencings.{Sequencings}
 
 -- what stands at a place of a list is what its image has there
-pub map_some : {X Y : Type 0} (f : X → Y) (xs : List X) (k : ℕ) (x : X) → slice_get xs k ≡ Some x → slice_get (map f xs) k ≡ Some (f x)
-map_some f [] k x e = cc
-map_some f (y ∷ ys) zero x e = let same : y ≡ x = cc in ap (λ z. Some (f z)) same
-map_some f (y ∷ ys) (suc k) x e = map_some f ys k x e
-
 pub map_none : {X Y : Type 0} (f : X → Y) (xs : List X) (k : ℕ) → slice_get xs k ≡ None → slice_get (map f xs) k ≡ None
 map_none f [] k e = refl
 map_none f (y ∷ ys) zero e = cc

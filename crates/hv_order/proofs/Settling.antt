@@ -1,7 +1,7 @@
 -- What the best of a node's candidates comes to.
 use Rattle.std.proofs.Common.{◌≡◌, ℕ, ◌≤◌, ◌∙◌, List, refl, sym, subst, arith, Option, Some, None}
 use Rattle.std.specs.Prelude.{max, MatchOption, Contains}
-use Rattle.hv_order.proofs.Members.{at_head}
+use Rattle.hv_lists.proofs.Contained.{at_head}
 use Rattle.hv_order.specs.inside.Choosing.{newer, Gives}
 use Rattle.hv_order.specs.inside.Arrangements.{Arrangement, arrangement_of}
 use Rattle.hv_order.specs.inside.Facts.{Facts, FitsWith}

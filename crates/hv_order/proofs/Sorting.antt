@@ -1,9 +1,11 @@
 -- Sorting items by two numbers, and by their code where both are equal: a strict total order.
 use Rattle.std.proofs.Common.{◌≡◌, ℕ, ◌<◌, ◌≤◌, List, [], ◌∷◌, refl, sym, ap, ◌∙◌, subst, inl, inr, arith, ◌⊎◌, Contains, zero, suc, length}
-use Rattle.hv_text.specs.Lists.{Once}
+use Rattle.hv_lists.specs.Lists.{Once}
+use Rattle.hv_lists.proofs.Contained.{at_head, in_tail, none_in_empty}
+use Rattle.hv_lists.proofs.EachOnce.{once_more}
 use Rattle.hv_plan.specs.Trees.{Item}
 use Rattle.hv_order.specs.Sequences.{Earlier}
-use Rattle.hv_order.proofs.Members.{code, code_once, at_head, in_tail, none_in_empty, once_none, once_more}
+use Rattle.hv_order.proofs.Members.{code, code_once, once_none}
 
 -- x stands before y: by its place, else by its rank, else by its code
 pub data Less (place order : Item → ℕ) (x y : Item) : Type 0 where

@@ -1,5 +1,6 @@
 -- A node that is worked out, from its beginning to its end.
 use Rattle.std.proofs.Common.{◌≡◌, ℕ, ◌<◌, ◌≤◌, List, ◌∷◌, refl, sym, subst, Some, None, Result, Ok, Err, IfOk}
+use Rattle.hv_lists.proofs.Contained.{in_tail}
 use Rattle.hv_order.specs.inside.Arrangements.{Arrangement, arrangement_of}
 use Rattle.hv_order.specs.inside.Facts.{Facts, FitsWith}
 use Rattle.hv_order.specs.inside.Trials.{IfWants}
@@ -13,7 +14,6 @@ use Rattle.hv_order.specs.declared.trial.Progress.{Progress}
 use Rattle.hv_order.specs.declared.trial.Progress.TheVariants as progress
 use Rattle.hv_order.specs.declared.frame.Frame.{Frame}
 use Rattle.hv_order.specs.declared.frame.Turn.{Turn}
-use Rattle.hv_order.proofs.Members.{in_tail}
 use Rattle.hv_order.proofs.Settling.{nothing_tried, winner_is, settled_is}
 
 -- what follows from three facts of a result

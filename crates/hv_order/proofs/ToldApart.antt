@@ -3,20 +3,20 @@
 use Rattle.std.proofs.Common.{◌≡◌, ◌≢◌, ℕ, ◌<◌, ◌⊎◌, inl, inr, List, [], ◌∷◌, Option, Some, None, length, map, slice_get, refl, sym, ap, ◌∙◌, subst, arith, Contains, MatchOption}
 use Rattle.std.specs.List.{AllZip, flat_map}
 use Rattle.std.proofs.lemmas.Option.{MatchOption-at_some, get_or_from_slice_get, slice_get_within}
-use Rattle.hv_text.specs.Lists.{Once}
+use Rattle.hv_lists.specs.Lists.{Once}
+use Rattle.hv_lists.proofs.Pairs.{zip_back}
+use Rattle.hv_lists.proofs.Contained.{contains_cases}
+use Rattle.hv_lists.proofs.EachOnce.{same_place, once_left, once_right}
 use Rattle.hv_text.specs.Names.{text_of}
 use Rattle.hv_text.specs.declared.name.Name.{Name}
 use Rattle.hv_world.specs.Bounds.{IsSound}
 use Rattle.hv_world.specs.Worlds.{World}
-use Rattle.hv_world.proofs.OnceLemmas.{found_at}
+use Rattle.hv_world.proofs.Cited.{found_at}
 use Rattle.hv_plan.specs.Values.{Decomposition}
 use Rattle.hv_plan.specs.Shapes.{line_parent}
 use Rattle.hv_plan.specs.Trees.{Item, Act, Task, Pre}
 use Rattle.hv_plan.specs.PlanTrees.{Node, PlanTree, IsNodeOf, IsRootOf, IsTreeIn, StandsFor}
-use Rattle.hv_plan.proofs.NodeLaws.{line_of}
-use Rattle.hv_plan.proofs.FitLemmas.{contains_cons}
-use Rattle.hv_plan.proofs.OneTree.{zip_back}
-use Rattle.hv_plan.proofs.ShapeWalks.{same_place, once_left, once_right}
+use Rattle.hv_plan.proofs.Cited.{line_of}
 use Rattle.hv_order.specs.Settings.{Setting}
 use Rattle.hv_order.specs.Certified.{IsChildId}
 use Rattle.hv_order.specs.inside.Writings.{IsIdOf, IsNameIn}
@@ -60,10 +60,10 @@ one_id t i j (Pre v) a b = absurd a
 
 once_of_line : (ds : List Decomposition) (d : Decomposition) → Once (flat_map (λ q. q.children) (map line_parent ds)) → Contains ds d → Once d.children
 once_of_line [] d once c = absurd (let lt : c.0 < 0 = c.1 in omega (arith, lt))
-once_of_line (x ∷ ds) d once c = by (contains_cons x ds d c) (λ m. once_of_line ds d (once_right x.children (flat_map (λ q. q.children) (map line_parent ds)) once) m)
+once_of_line (x ∷ ds) d once c = by (contains_cases x ds d c) (λ m. once_of_line ds d (once_right x.children (flat_map (λ q. q.children) (map line_parent ds)) once) m)
   where
-    by : (x ≡ d) ⊎ Contains ds d → (Contains ds d → Once d.children) → Once d.children
-    by (inl e) rest = subst (λ (y : Decomposition). Once y.children) e (once_left x.children (flat_map (λ q. q.children) (map line_parent ds)) once)
+    by : (d ≡ x) ⊎ Contains ds d → (Contains ds d → Once d.children) → Once d.children
+    by (inl e) rest = subst (λ (y : Decomposition). Once y.children) (sym e) (once_left x.children (flat_map (λ q. q.children) (map line_parent ds)) once)
     by (inr m) rest = rest m
 
 -- the ids that a node's line names, each once

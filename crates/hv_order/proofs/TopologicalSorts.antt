@@ -1,11 +1,12 @@
 -- A strict partial order on a list's members has a topological sort: by how many come before each.
 use Rattle.std.proofs.Common.{◌≡◌, ℕ, ◌+◌, ◌<◌, ◌≤◌, Bool, true, false, List, [], ◌∷◌, refl, subst, arith, Contains, zero, suc, sym}
 use Rattle.std.specs.Prelude.{if◌then◌else◌}
+use Rattle.hv_lists.proofs.Contained.{at_head, in_tail, none_in_empty}
 use Rattle.hv_plan.specs.Trees.{Item}
 use Rattle.hv_order.specs.Meanings.{IsOrder}
 use Rattle.hv_order.specs.Tables.{Respects, HasSort}
 use Rattle.hv_order.specs.Laws.{SortLaw}
-use Rattle.hv_order.proofs.Members.{not_true, at_head, in_tail, none_in_empty}
+use Rattle.hv_order.proofs.Members.{not_true}
 use Rattle.hv_order.proofs.Sorting.{less_place, sorted, IsSorted, sorted_sorted, sorted_has, sorted_from, sorted_distinct}
 
 -- how many members of a list come before x

@@ -2,12 +2,12 @@
 use Rattle.std.proofs.Common.{◌≡◌, ◌≢◌, ℕ, zero, suc, ◌<◌, ◌≤◌, ◌⊎◌, inl, inr, List, Option, Some, None, length, slice_get, refl, sym, ap, ◌∙◌, arith, Contains, MatchOption}
 use Rattle.std.specs.List.{AllZip}
 use Rattle.std.proofs.lemmas.Option.{MatchOption-at_some, slice_get-get_or, slice_get_within}
+use Rattle.hv_lists.proofs.Pairs.{zip_back}
 use Rattle.hv_world.specs.Worlds.{World}
 use Rattle.hv_plan.specs.Values.{Decomposition}
 use Rattle.hv_plan.specs.Trees.{Item, Act, Task, Pre, IsTree, AtOrBelow, Reached}
 use Rattle.hv_plan.specs.PlanTrees.{Node, PlanTree, IsNodeOf, IsRootOf, NodeIs, IsTreeIn, StandsFor, root_number, tree_of}
-use Rattle.hv_plan.proofs.NodeLaws.{line_of}
-use Rattle.hv_plan.proofs.OneTree.{zip_back}
+use Rattle.hv_plan.proofs.Cited.{line_of}
 use Rattle.hv_order.specs.inside.Writings.{HasId}
 use Rattle.hv_order.proofs.Ancestry.{act_alone, pre_alone, number_at}
 use Rattle.hv_order.proofs.Members.{act_not_task, pre_not_task}

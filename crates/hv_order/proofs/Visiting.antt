@@ -4,6 +4,7 @@ use Rattle.std.specs.Prelude.{slice_index, replicate}
 use Rattle.std.proofs.lemmas.List.{length-replicate}
 use Rattle.std.specs.List.{slice_set}
 use Rattle.std.proofs.lemmas.Bool.{cases_lt}
+use Rattle.hv_lists.proofs.Options.{same_some, not_some}
 use Rattle.hv_plan.specs.declared.tree.Child.{Child}
 use Rattle.hv_plan.specs.declared.tree.Child.TheVariants as children
 use Rattle.hv_order.specs.Tables.{IsLeastAt}
@@ -32,12 +33,6 @@ said_here xs v o lt = get_or-set_same xs v o None lt
 pub said_else : {X : Type 0} (xs : List (Option X)) (v u : ℕ) (o : Option X) → u ≢ v → said_of (slice_set xs v o) u ≡ said_of xs u
 said_else xs v u o other = get_or-set_other xs v u o None other
 
-pub same_said : {X : Type 0} (x y : X) → Some x ≡ Some y → x ≡ y
-same_said x y e = cc
-
-pub not_said : {X : Type 0} (x : X) → None ≡ Some x → ⊥
-not_said x e = cc
-
 module _ (q : Facts) (count : ℕ) (are : AreNodes q) (parents : HaveOneParent q) where
   -- the nodes among a candidate's children have lower numbers
   child_lower : (n : ℕ) (c : Arrangement) → q.is_candidate n c → (j u : ℕ) → IsChildAt c.children j u → u < n
@@ -59,11 +54,11 @@ module _ (q : Facts) (count : ℕ) (are : AreNodes q) (parents : HaveOneParent q
 
       stand_at : (v s : ℕ) → said_of starts v ≡ Some s → (n < v) ⊎ (v ≤ n) → n ≤ v → (t : Stand) × (said_of (slice_set stands n None) v ≡ Some t) × (t.start ≡ s)
       stand_at v s e (inl a) le = let (t, said, is) = walked.stand v s (omega (arith, a)) e in (t, said_else stands n v None (λ k. absurd (omega (arith, a, k))) ∙ said, is)
-      stand_at v s e (inr a) le = let same : n ≡ v = omega (arith, a, le) in absurd (not_said s (sym none ∙ (ap (said_of starts) same ∙ e)))
+      stand_at v s e (inr a) le = let same : n ≡ v = omega (arith, a, le) in absurd (not_some s (sym none ∙ (ap (said_of starts) same ∙ e)))
 
       each_at : (v : ℕ) (t : Stand) → said_of (slice_set stands n None) v ≡ Some t → (n < v) ⊎ (v ≤ n) → n ≤ v → IsPlaced q starts v t
       each_at v t e (inl a) le = walked.each v t (omega (arith, a)) (sym (said_else stands n v None (λ k. absurd (omega (arith, a, k)))) ∙ e)
-      each_at v t e (inr a) le = let same : n ≡ v = omega (arith, a, le) in absurd (not_said t (sym (said_here stands n None within) ∙ (ap (said_of (slice_set stands n None)) same ∙ e)))
+      each_at v t e (inr a) le = let same : n ≡ v = omega (arith, a, le) in absurd (not_some t (sym (said_here stands n None within) ∙ (ap (said_of (slice_set stands n None)) same ∙ e)))
 
   module _ (n s : ℕ) (starts starts' : List (Option ℕ)) (stands : List (Option Stand)) (t : Stand) (lt : n < count) (walked : IsWalkedFrom q count (n + 1) starts stands) (room : length starts' ≡ length starts) (begun : said_of starts n ≡ Some s) (visited : IsVisited q n s starts starts' t) where
     abbrev candidate : Arrangement
@@ -91,7 +86,7 @@ module _ (q : Facts) (count : ℕ) (are : AreNodes q) (parents : HaveOneParent q
         by_place : ((j : ℕ) × IsChildAt candidate.children j v) ⊎ (said_of starts' v ≡ said_of starts v) → (f : ℕ) × IsLeastAt (q.fits v x) q.last f
         by_place (inl (j, child)) =
             let is = visited.placed.begun in
-            let same : slice_index is.begins j ≡ x = same_said (slice_index is.begins j) x (sym (is.begun j v child) ∙ e) in
+            let same : slice_index is.begins j ≡ x = same_some (slice_index is.begins j) x (sym (is.begun j v child) ∙ e) in
             let P : Child → Type 0 = λ y. IsLeastAt (ChildFits q.fits y (slice_index is.begins j)) q.last (slice_index is.ends j) in
             let Q : ℕ → Type 0 = λ y. IsLeastAt (q.fits v y) q.last (slice_index is.ends j) in
             (slice_index is.ends j, subst Q same (subst P child.1 (is.laid.fits j child.0)))
@@ -101,7 +96,7 @@ module _ (q : Facts) (count : ℕ) (are : AreNodes q) (parents : HaveOneParent q
     stand_at v x e (inl a) le = let (r, said, is) = walked.stand v x (omega (arith, a)) (sym (kept_above v le) ∙ e) in (r, said_else stands n v (Some t) (λ k. absurd (omega (arith, a, k))) ∙ said, is)
     stand_at v x e (inr a) le =
         let same : n ≡ v = omega (arith, a, le) in
-        let here : s ≡ x = same_said s x (sym begun ∙ (ap (said_of starts) same ∙ (sym (kept_above v le) ∙ e))) in
+        let here : s ≡ x = same_some s x (sym begun ∙ (ap (said_of starts) same ∙ (sym (kept_above v le) ∙ e))) in
         (t, ap (said_of stands') (sym same) ∙ said_here stands n (Some t) within, visited.start ∙ here)
 
     -- the children of another node are as they were
@@ -121,7 +116,7 @@ module _ (q : Facts) (count : ℕ) (are : AreNodes q) (parents : HaveOneParent q
     each_at v r e (inl a) le = still_placed v r a (walked.each v r (omega (arith, a)) (sym (said_else stands n v (Some t) (λ k. absurd (omega (arith, a, k)))) ∙ e))
     each_at v r e (inr a) le =
         let same : n ≡ v = omega (arith, a, le) in
-        let here : t ≡ r = same_said t r (sym (said_here stands n (Some t) within) ∙ (ap (said_of stands') same ∙ e)) in
+        let here : t ≡ r = same_some t r (sym (said_here stands n (Some t) within) ∙ (ap (said_of stands') same ∙ e)) in
         let P : ℕ → Type 0 = λ w. IsPlaced q starts' w t in
         let Q : Stand → Type 0 = λ w. IsPlaced q starts' v w in
         subst Q here (subst P same visited.placed)
@@ -206,8 +201,8 @@ none_visited q count starts stands a b finishes root = record {
   stands_room = b;
   finishes = finishes;
   root = root;
-  stand = λ v s le e. absurd (not_said s (sym (said_past starts v (omega arith)) ∙ e));
-  each = λ v t le e. absurd (not_said t (sym (said_past stands v (omega arith)) ∙ e));
+  stand = λ v s le e. absurd (not_some s (sym (said_past starts v (omega arith)) ∙ e));
+  each = λ v t le e. absurd (not_some t (sym (said_past stands v (omega arith)) ∙ e));
 }
 
 -- at first only the root is begun
@@ -224,8 +219,8 @@ root_finishes q n root f lt least v s e = by_number (number_cases v root)
   where
     by_number : SameNumber v root → (g : ℕ) × IsLeastAt (q.fits v s) q.last g
     by_number (equal_numbers same t) =
-        let here : 0 ≡ s = same_said 0 s (sym (root_begun n root lt) ∙ (ap (said_of (slice_set (replicate n None) root (Some 0))) (sym same) ∙ e)) in
+        let here : 0 ≡ s = same_some 0 s (sym (root_begun n root lt) ∙ (ap (said_of (slice_set (replicate n None) root (Some 0))) (sym same) ∙ e)) in
         let P : ℕ → Type 0 = λ k. IsLeastAt (q.fits v k) q.last f in
         let Q : ℕ → Type 0 = λ k. IsLeastAt (q.fits k 0) q.last f in
         (f, subst P here (subst Q (sym same) least))
-    by_number (other_numbers other t) = absurd (not_said s (sym (unsaid n v) ∙ (sym (said_else (replicate n None) root v (Some 0) other) ∙ e)))
+    by_number (other_numbers other t) = absurd (not_some s (sym (unsaid n v) ∙ (sym (said_else (replicate n None) root v (Some 0) other) ∙ e)))

@@ -1,13 +1,14 @@
 -- Split by indices: the steps of a line lie in a window that no other step meets.
 use Rattle.std.proofs.Common.{◌≡◌, ℕ, ◌≤◌, List, [], ◌∷◌, refl, ap, subst, inl, inr, arith, ◌⊎◌, Contains, zero, suc, sym}
 use Rattle.std.specs.Prelude.{max}
+use Rattle.hv_lists.proofs.Contained.{at_head, in_tail, none_in_empty}
 use Rattle.hv_plan.specs.Trees.{Item, Task, Pre, Tree, AtOrBelow, itself, its_pre, Reached, IsPrimitive, IsTree, line_tree}
 use Rattle.hv_order.specs.Meanings.{AreOrders}
 use Rattle.hv_order.specs.Networks.{Network}
 use Rattle.hv_order.specs.Precedence.{Precedes, of_pre, of_line, of_root, IsEnd}
 use Rattle.hv_order.specs.Schedules.{begins, ends, IsSchedule, Schedule, IsWindow, for_lines, HasWindow}
 use Rattle.hv_order.specs.Laws.{WindowLaw}
-use Rattle.hv_order.proofs.Members.{not_true, at_head, in_tail, none_in_empty}
+use Rattle.hv_order.proofs.Members.{not_true}
 use Rattle.hv_order.proofs.Ancestry
 use Rattle.hv_order.proofs.Ancestry.{reached_pre, reached_child, reached_below}
 use Rattle.hv_order.proofs.End.{end_law}

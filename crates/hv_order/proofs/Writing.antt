@@ -4,10 +4,10 @@ use Rattle.std.specs.List.{AllZip}
 use Rattle.std.proofs.lemmas.List.Elements.{All-head, All-tail, All-nil, All-cons}
 use Rattle.std.proofs.lemmas.Option.{get_or_from_slice_get, slice_get_within}
 use Rattle.std.specs.Option.{option_map}
+use Rattle.hv_lists.proofs.Places.{member_at, take_one, map_end}
+use Rattle.hv_lists.proofs.Pairs.{zip_end}
 use Rattle.hv_text.specs.Names.{text_of}
 use Rattle.hv_text.specs.declared.name.Name.{Name}
-use Rattle.hv_plan.proofs.FitLemmas.{member_at}
-use Rattle.hv_match.proofs.CountLemmas.{take_one, map_end, zip_end}
 
 -- one more is written
 pub zip_more : {X A Y : Type 0} (f : X → A) (R : A → Y → Type 0) (xs : List X) (i : ℕ) (d : X) (ys : List Y) (y : Y)

@@ -1,6 +1,6 @@
 -- The least finish of a node of a plan for a start, and how many answers a node has for its starts.
 use Rattle.std.specs.Prelude.{◌≡◌, ℕ, zero, suc, ◌/◌, ◌<◌, ◌≤◌, List, [], ◌∷◌, length, Option, Contains}
-use Rattle.hv_text.specs.Lists.{Once}
+use Rattle.hv_lists.specs.Lists.{Once}
 use Rattle.hv_plan.specs.PlanTrees.{tree_of, root_number}
 use Rattle.hv_plan.specs.Trees.{line_tree}
 use Rattle.hv_order.specs.Meanings.{free_meaning, listed}

@@ -3,7 +3,7 @@
 -- place in the order. Here the network of a method holds one step more, the precondition step, which
 -- comes before all subtasks. It stays when the method has no subtask.
 use Rattle.std.specs.Prelude.{◌≡◌, ℕ, Bool, false, if◌then◌else◌, ◌==◌, List, [], ◌∷◌, ◌++◌, map, Contains}
-use Rattle.hv_text.specs.Lists.{Once}
+use Rattle.hv_lists.specs.Lists.{Once}
 use Rattle.hv_plan.specs.Trees.{Item, Act, Task, Pre, Tree, Reached, IsPrimitive}
 use Rattle.hv_order.specs.Meanings.{Choice}
 

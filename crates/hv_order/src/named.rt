@@ -2,7 +2,7 @@
 
 ghost use Rattle.std.specs.Prelude.{◌≡◌, map, IfOk};
 ghost use Rattle.std.specs.List.{All};
-ghost use Rattle.hv_text.specs.Lists.{Once};
+ghost use Rattle.hv_lists.specs.Lists.{Once};
 ghost use Rattle.hv_world.specs.WorldViews.{world_view};
 ghost use Rattle.hv_plan.specs.BuiltTrees.{tree_view};
 ghost use Rattle.hv_plan.specs.TreeViews.{child_view};
@@ -11,8 +11,8 @@ ghost use Rattle.hv_order.specs.inside.Checks.{IsPlaceIn, ArePlacesOf, AreToldAp
 
 use crate::certify::child_ids;
 use crate::memory::Memory;
-use hv_plan::{Child, Seeded, Tree, place_in, table_of_ids};
-use hv_text::Name;
+use hv_plan::{Child, Tree, place_in, table_of_ids};
+use hv_text::{Name, Seeded};
 use hv_world::{ObjectId, World};
 use indexmap::IndexSet;
 use std::alloc::Global;

@@ -3,9 +3,13 @@ use Rattle.std.proofs.Common.{Contains, ◌≡◌, ℕ, zero, suc, ◌+◌, ◌-
 use Rattle.std.specs.Prelude.{get_or, option_and_then, MatchOption}
 use Rattle.std.specs.List.{AllZip}
 use Rattle.std.proofs.Math.Path.{fun_ext}
-use Rattle.std.proofs.lemmas.Option.{get_or_from_slice_get, slice_get_past}
+use Rattle.std.proofs.lemmas.Option.{get_or_from_slice_get, slice_get_past, slice_get_within}
+use Rattle.hv_lists.proofs.Contained.{contains_first, in_tail, contains_at}
+use Rattle.hv_lists.proofs.Numbers.{either_side}
+use Rattle.hv_lists.proofs.Places.{member_at}
+use Rattle.hv_lists.proofs.Pairs.{paired_at}
 use Rattle.hv_world.specs.Bindings.{GroundAction}
-use Rattle.hv_text.specs.Lists.{Once}
+use Rattle.hv_lists.specs.Lists.{Once}
 use Rattle.hv_world.specs.Worlds.{World}
 use Rattle.hv_plan.specs.Values.{Decomposition, Plan}
 use Rattle.hv_plan.specs.Trees.{Item, Act, Task, Pre}
@@ -15,8 +19,7 @@ use Rattle.hv_plan.specs.inside.ShapeViews.{Shape, Stands, line_id, IsShape, chi
 use Rattle.hv_plan.specs.inside.FitViews.{IsDecomposed}
 use Rattle.hv_plan.specs.inside.NodeViews.{node_of, node_of_line, node_of_root, nodes_from, nodes_of}
 use Rattle.hv_plan.specs.inside.FitViews.{Decomposed}
-use Rattle.hv_plan.proofs.FitLemmas.{contains_first, contains_rest, less_or_more, member_at}
-use Rattle.hv_plan.proofs.ChildLemmas.{contains_at, mapped_at, paired_at, within_here}
+use Rattle.hv_plan.proofs.ChildLemmas.{mapped_at}
 
 -- as many nodes as places, and one more
 many_from : (p : Plan) (s : Shape) (xs : List Decomposed) (v : ℕ) (ks : List ℕ) → length (nodes_from p s xs v ks) ≡ length ks + 1
@@ -83,14 +86,14 @@ module _ (w : World) (p : Plan) (s : Shape) (is : IsShape p s) (as' : List Groun
   line_of : (v k : ℕ) (d : Decomposition) → slice_get s.lines v ≡ Some k → slice_get p.decompositions k ≡ Some d → LineOf v k d
   line_of v k d at of_line =
       let (x, of_said, said) = paired_at (IsDecomposed w) p.decompositions xs k d says of_line in
-      let below : v < length s.lines = within_here s.lines v k at in
+      let below : v < length s.lines = slice_get_within s.lines v k at in
       let here = node_here p s xs v (omega (arith, below)) in
       let is_line : option_and_then (slice_get p.decompositions) (slice_get s.lines v) ≡ Some d = ap (option_and_then (slice_get p.decompositions)) at ∙ of_line in
       let is_said : option_and_then (slice_get xs) (slice_get s.lines v) ≡ Some x = ap (option_and_then (slice_get xs)) at ∙ of_said in
       record { x = x; said = said; at = here ∙ (λ i. Some (node_of p (is_line i) (is_said i) (children_of_node s v))) }
 
   line_at : (k v : ℕ) → slice_get s.numbers k ≡ Some v → (d : Decomposition) × (slice_get p.decompositions k ≡ Some d)
-  line_at k v at = member_at p.decompositions k (let lt : k < length s.numbers = within_here s.numbers k v at in omega (arith, lt, is.as_many_numbers))
+  line_at k v at = member_at p.decompositions k (let lt : k < length s.numbers = slice_get_within s.numbers k v at in omega (arith, lt, is.as_many_numbers))
 
   root_at : (v : ℕ) → v ≡ length s.lines → slice_get nodes v ≡ Some root
   root_at v e =
@@ -104,7 +107,7 @@ module _ (w : World) (p : Plan) (s : Shape) (is : IsShape p s) (as' : List Groun
 
   -- the children of each node are those that the shape gives it
   same_children : (v : ℕ) → children_at nodes v ≡ children_of_node s v
-  same_children v = elim (less_or_more v (length s.lines)) [ inl below ↦ of_line below | inr behind ↦ elim (less_or_more (length s.lines) v) [ inl above ↦ none above | inr le ↦ of_root (omega (arith, behind, le)) ] ]
+  same_children v = elim (either_side v (length s.lines)) [ inl below ↦ of_line below | inr behind ↦ elim (either_side (length s.lines) v) [ inl above ↦ none above | inr le ↦ of_root (omega (arith, behind, le)) ] ]
     where
       of_line : v < length s.lines → children_at nodes v ≡ children_of_node s v
       of_line below =
@@ -176,7 +179,7 @@ module _ (w : World) (p : Plan) (s : Shape) (is : IsShape p s) (as' : List Groun
       go zero (suc b) d lt within e =
           let (v, at) = member_at s.numbers b (omega (arith, within)) in
           let is_v : get_or s.numbers b d ≡ v = get_or_from_slice_get s.numbers b v d at in
-          let below : v < length s.lines = within_here s.lines v b ((is.numbered v b).1 at) in
+          let below : v < length s.lines = slice_get_within s.lines v b ((is.numbered v b).1 at) in
           let same : length s.lines ≡ v = e ∙ is_v in
           omega (arith, below, same)
       go (suc a) (suc b) d lt within e =
@@ -190,10 +193,10 @@ module _ (w : World) (p : Plan) (s : Shape) (is : IsShape p s) (as' : List Groun
 
   -- each node stands in the order
   every : (v : ℕ) → v < length nodes → Contains (length s.lines ∷ s.numbers) v
-  every v lt = elim (less_or_more v (length s.lines)) [ inl below ↦ of_line below | inr behind ↦ of_root (omega (arith, lt, behind, as_long)) ]
+  every v lt = elim (either_side v (length s.lines)) [ inl below ↦ of_line below | inr behind ↦ of_root (omega (arith, lt, behind, as_long)) ]
     where
       of_line : v < length s.lines → Contains (length s.lines ∷ s.numbers) v
-      of_line below = let (k, at) = member_at s.lines v below in contains_rest (length s.lines) s.numbers v (contains_at s.numbers k v ((is.numbered v k).0 at))
+      of_line below = let (k, at) = member_at s.lines v below in in_tail (length s.lines) s.numbers v (contains_at s.numbers k v ((is.numbered v k).0 at))
 
       of_root : length s.lines ≡ v → Contains (length s.lines ∷ s.numbers) v
       of_root e = subst (Contains (length s.lines ∷ s.numbers)) e (contains_first (length s.lines) s.numbers)

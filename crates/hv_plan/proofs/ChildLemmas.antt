@@ -4,6 +4,9 @@ use Rattle.std.specs.Prelude.{Contains, option_and_then}
 use Rattle.std.specs.List.{AllZip}
 use Rattle.std.proofs.lemmas.List.{length-map}
 use Rattle.std.proofs.lemmas.List.Elements.{Contains-append_left, Contains-append_right}
+use Rattle.hv_lists.proofs.Places.{member_at}
+use Rattle.hv_lists.proofs.Pairs.{same_length, paired_at}
+use Rattle.hv_lists.proofs.Contained.{contains_first, in_tail, contains_at, mem_map}
 use Rattle.hv_world.specs.Values.{TaskName, compound, primitive}
 use Rattle.hv_world.specs.Worlds.{World, Method, task_names, action_names, task_named}
 use Rattle.hv_plan.specs.Values as text
@@ -16,7 +19,7 @@ use Rattle.hv_plan.specs.inside.ChildFaults.{IsChildFault, ChildFaultIn, IsMetho
 use Rattle.hv_plan.specs.inside.ShapeViews.{Shape, Stands, line_id, IsShape, children_of_node, items_in}
 use Rattle.hv_plan.specs.inside.FitViews.{Decomposed}
 use Rattle.std.specs.Prelude.{get_or, Result, Ok, Err, IfOk}
-use Rattle.hv_plan.proofs.FitLemmas.{method_of_name, member_at}
+use Rattle.hv_plan.proofs.FitLemmas.{method_of_name}
 use Rattle.hv_world.specs.Worlds.{method_named}
 use Rattle.hv_plan.specs.Trees.{Item, Act, Task, Pre}
 use Rattle.hv_plan.specs.Forms.{every}
@@ -34,13 +37,14 @@ use Rattle.hv_plan.specs.inside.Tallies.{HaveSameNames, IsNamesFault, count, nam
 use Rattle.hv_plan.specs.declared.cause.CauseKind.{CauseKind}
 use Rattle.hv_plan.specs.declared.cause.CauseKind.TheVariants as kinds
 use Rattle.hv_plan.specs.declared.cause.Cause.{Cause}
-use Rattle.hv_plan.proofs.FitLemmas.{same_length, contains_first, contains_rest, place_within}
+use Rattle.hv_plan.proofs.FitLemmas.{place_within}
 use Rattle.hv_plan.proofs.EarliestLemmas.{earliest_at, earliest_at_none, earliest_of_lists}
 use Rattle.hv_plan.specs.inside.LineFaults.{earlier}
 use Rattle.std.proofs.lemmas.List.{map-append}
 use Rattle.hv_plan.proofs.HeadLists.{taken_at}
 use Rattle.std.proofs.Common.{take}
-use Rattle.hv_plan.proofs.FormLaws.{names_one, contains_map}
+use Rattle.std.proofs.lemmas.Option.{slice_get_within}
+use Rattle.hv_plan.proofs.FormLaws.{names_one}
 
 -- the children of one line, of which the method and the names are known
 module _ (w : World) (p : Plan) (form : FormTree p) (q : Parent) (m : Method) (is_method : method_of w q.method ≡ Some m)
@@ -112,20 +116,6 @@ mapped_at f [] zero y e = cc
 mapped_at f [] (suc k) y e = cc
 mapped_at f (x ∷ xs) zero y e = (x, refl, cc)
 mapped_at f (x ∷ xs) (suc k) y e = mapped_at f xs k y e
-
-pub paired_at : {A B : Type 0} (R : A → B → Type 0) (xs : List A) (ys : List B) (k : ℕ) (x : A) → AllZip R xs ys → slice_get xs k ≡ Some x → (y : B) × (slice_get ys k ≡ Some y) × R x y
-paired_at R [] [] zero x all e = cc
-paired_at R [] [] (suc k) x all e = cc
-paired_at R [] (y ∷ ys) k x all e = absurd all
-paired_at R (z ∷ xs) [] k x all e = absurd all
-paired_at R (z ∷ xs) (y ∷ ys) zero x (r, all) e = (y, refl, (let same : z ≡ x = cc in subst (λ u. R u y) same r))
-paired_at R (z ∷ xs) (y ∷ ys) (suc k) x (r, all) e = paired_at R xs ys k x all e
-
-pub contains_at : {X : Type 0} (xs : List X) (k : ℕ) (x : X) → slice_get xs k ≡ Some x → Contains xs x
-contains_at [] zero x e = cc
-contains_at [] (suc k) x e = cc
-contains_at (y ∷ xs) zero x e = (let same : y ≡ x = cc in subst (λ u. Contains (y ∷ xs) u) same (contains_first y xs))
-contains_at (y ∷ xs) (suc k) x e = contains_rest y xs x (contains_at xs k x e)
 
 -- the children of the decomposition line at a place stand for its ids
 pub children_stand_at : (p : Plan) (s : Shape) (is : IsShape p s) (k v : ℕ) (d : text.Decomposition) (ys : List Item) → slice_get p.decompositions k ≡ Some d
@@ -212,7 +202,7 @@ module _ (w : World) (ts as' : ℕ) (sizes : AreSizes w ts as') where
             record {
               name = compound z.task;
               found = ap (option_and_then (λ k. option_map (λ d. compound d.task) (slice_get (decomposed_lines x.lines.now) k))) own ∙ ap (option_map (λ d. compound d.task)) at';
-              named = record { line = head d; begins = Contains-append_right p.actions (map head p.decompositions) (head d) (contains_map head p.decompositions d (contains_at p.decompositions k d at)); id = same; name = says.says.name };
+              named = record { line = head d; begins = Contains-append_right p.actions (map head p.decompositions) (head d) (mem_map head p.decompositions d (contains_at p.decompositions k d at)); id = same; name = says.says.name };
               number = j;
               numbered = numbered;
             }
@@ -263,18 +253,6 @@ module _ (w : World) (ts as' : ℕ) (sizes : AreSizes w ts as') where
           let their = names_of_items d.children ys (children_stand_at p s is k v d ys at numbered_at below) in
           earliest_of_children w p form (line_parent d) m (ap (option_and_then (slice_get w.methods)) named ∙ at_number) their.names their.named l o line (found m their.names at_number their.found)
 
--- a member that the code reads at a place
-pub slice_get_here : {X : Type 0} (xs : List X) (k : ℕ) (x : X) → k < length xs → x ≡ get_or xs k x → slice_get xs k ≡ Some x
-slice_get_here [] k x lt e = absurd (omega arith)
-slice_get_here (y ∷ xs) zero x lt e = ap Some (sym e)
-slice_get_here (y ∷ xs) (suc k) x lt e = slice_get_here xs k x (omega arith) e
-
-pub mapped_here : {X Y : Type 0} (f : X → Y) (xs : List X) (k : ℕ) (x : X) → slice_get xs k ≡ Some x → slice_get (map f xs) k ≡ Some (f x)
-mapped_here f [] zero x e = cc
-mapped_here f [] (suc k) x e = cc
-mapped_here f (y ∷ xs) zero x e = (let same : y ≡ x = cc in ap (λ u. Some (f u)) same)
-mapped_here f (y ∷ xs) (suc k) x e = mapped_here f xs k x e
-
 -- a list that the code reads at a place of lists, with each member seen through f
 pub list_here : {X Y : Type 0} (f : X → Y) (xss : List (List X)) (k : ℕ) (xs : List X) → k < length (map (map f) xss) → xs ≡ get_or xss k [] → slice_get (map (map f) xss) k ≡ Some (map f xs)
 list_here f [] k xs lt e = absurd (omega arith)
@@ -288,16 +266,10 @@ list_or_none [] (suc k) = refl
 list_or_none (xs ∷ xss) zero = refl
 list_or_none (xs ∷ xss) (suc k) = list_or_none xss k
 
-pub within_here : {X : Type 0} (xs : List X) (k : ℕ) (x : X) → slice_get xs k ≡ Some x → k < length xs
-within_here [] zero x e = cc
-within_here [] (suc k) x e = cc
-within_here (y ∷ xs) zero x e = omega arith
-within_here (y ∷ xs) (suc k) x e = let lt : k < length xs = within_here xs k x e in omega arith
-
 -- the number of a node is below how many there are
 pub node_within : (p : Plan) (s : Shape) → IsShape p s → (k v : ℕ) → slice_get s.numbers k ≡ Some v → v < length s.children
 node_within p s is k v e =
-    let lt : v < length s.lines = within_here s.lines v k ((is.numbered v k).1 e) in
+    let lt : v < length s.lines = slice_get_within s.lines v k ((is.numbered v k).1 e) in
     omega (arith, lt, is.as_many_lines, is.as_many_nodes)
 
 pub if_ok_more : {X E : Type 0} (P Q : X → Type 0) (r : Result X E) → ((x : X) → P x → Q x) → IfOk r P → IfOk r Q

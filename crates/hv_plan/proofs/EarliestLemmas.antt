@@ -5,6 +5,9 @@ use Rattle.std.specs.List.{AllZip}
 use Rattle.std.proofs.lemmas.List.{append-nil, append_assoc, map-append}
 use Rattle.std.proofs.lemmas.List.Elements.{Contains-append_cases, Contains-append_left, Contains-append_right}
 use Rattle.std.proofs.lemmas.Bool.{ltb-true, ltb-false, leb-true, leb-false, eqb-true, eqb-false}
+use Rattle.hv_lists.proofs.Contained.{contains_first}
+use Rattle.hv_lists.proofs.Numbers.{either_side, below_next}
+use Rattle.hv_lists.proofs.Pairs.{zip_end}
 use Rattle.hv_world.specs.Worlds.{World}
 use Rattle.hv_plan.specs.Causes.{number}
 use Rattle.hv_plan.specs.inside.LineFaults.{Entry, IsAtFault, IsLineFault, IsSmallest, ComesBefore, comes_before, earlier, IsEarliest, FaultIn}
@@ -13,7 +16,7 @@ use Rattle.hv_plan.specs.declared.fit.LineFault.{LineFault}
 use Rattle.hv_plan.specs.declared.fit.LineFault.TheVariants as faults
 use Rattle.hv_plan.specs.declared.cause.CauseKind.{CauseKind}
 use Rattle.hv_plan.specs.declared.cause.Cause.{Cause}
-use Rattle.hv_plan.proofs.FitLemmas.{contains_cons, contains_first, less_or_more, less_or_same}
+use Rattle.hv_plan.proofs.FitLemmas.{contains_cons}
 
 -- what the test of two causes says
 module _ (m n a b : ℕ) where
@@ -38,7 +41,7 @@ module _ (m n a b : ℕ) where
       elim (order n m le) [ inl less ↦ inl less | inr same ↦ absurd (differ (sym same)) ]
     where
       order : (i j : ℕ) → i ≤ j → (i < j) ⊎ (i ≡ j)
-      order i j le = elim (less_or_same i j (omega arith)) [ inl l ↦ inl l | inr e ↦ inr e ]
+      order i j le = elim (below_next i j (omega arith)) [ inl l ↦ inl l | inr e ↦ inr e ]
 
 module _ (c d : Cause) where
   is_before : comes_before c d ≡ true → ComesBefore c d.kind d.line
@@ -92,7 +95,7 @@ module _ {X : Type 0} (At : X → CauseKind → Type 0) (line : X → ℕ) where
   )
     where
       before : (j : CauseKind) (l : ℕ) → At x j → line x ≡ l → ComesBefore (record { kind = k; line = line x }) j l
-      before j l f same = elim (less_or_more (number j) (number k)) [ inl less ↦ absurd (smallest j less f) | inr more ↦ elim (less_or_same (number k) (number j) (omega arith)) [ inl lt ↦ inl lt | inr eq ↦ inr (eq, omega arith) ] ]
+      before j l f same = elim (either_side (number j) (number k)) [ inl less ↦ absurd (smallest j less f) | inr more ↦ elim (below_next (number k) (number j) (omega arith)) [ inl lt ↦ inl lt | inr eq ↦ inr (eq, omega arith) ] ]
 
   pub earliest_at_none : (x : X) → ((k : CauseKind) → At x k → ⊥) → IsEarliest (FaultOf (x ∷ [])) None
   earliest_at_none x none =
@@ -121,12 +124,6 @@ module _ (w : World) where
   earliest_of_both es fs c d a b = earliest_of_lists (IsAtFault w) (λ e. e.said.line) es fs c d a b
 
 -- a pair more
-pub paired_more : {A B : Type 0} (R : A → B → Type 0) (xs : List A) (ys : List B) (x : A) (y : B) → AllZip R xs ys → R x y → AllZip R (xs ++ x ∷ []) (ys ++ y ∷ [])
-paired_more R [] [] x y all r = (r, tt)
-paired_more R [] (z ∷ ys) x y all r = absurd all
-paired_more R (z ∷ xs) [] x y all r = absurd all
-paired_more R (z ∷ xs) (u ∷ ys) x y (first, all) r = (first, paired_more R xs ys x y all r)
-
 pub earlier_none : (c d : Option Cause) → earlier c d ≡ None → (c ≡ None) × (d ≡ None)
 earlier_none None None e = (refl, refl)
 earlier_none None (Some d) e = cc
@@ -154,7 +151,7 @@ module _ {D N : Type 0} (w : World) (entry : D → Entry) (Is : D → N → Type
   fitted_more view ds ns c d (Ok y) before is told =
       record {
         cause = rw (map-append entry ds (d ∷ [])) (earliest_of_both w (map entry ds) (entry d ∷ []) c None before.cause (earliest_of_none w (entry d) (sound d (view y) is)));
-        said = λ e. paired_more Is ds ns d (view y) (before.said (earlier_none c None e).0) is;
+        said = λ e. zip_end Is ds ns d (view y) (before.said (earlier_none c None e).0) is;
       }
   fitted_more view ds ns c d (Err faults.Memory) before is told = absurd told
   fitted_more view ds ns c d (Err (faults.Cause k)) before is told =

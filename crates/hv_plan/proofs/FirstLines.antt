@@ -2,19 +2,8 @@
 use Rattle.std.proofs.Common.{◌≡◌, ◌≢◌, ◌+◌, ◌<◌, ◌≤◌, ◌⊎◌, inl, inr, ℕ, Bool, true, false, List, Option, Some, None, min, max, nat_eq, nat_lt, refl, sym, ap, ◌∙◌, subst, arith, slice_index, eqb-true, eq-eqb, ltb-true, ltb-false, true≢false}
 use Rattle.std.specs.Map.{update}
 use Rattle.std.proofs.lemmas.Map.{update_here, update_apart}
+use Rattle.hv_lists.proofs.Numbers.{either, either_side, below_next}
 use Rattle.hv_plan.specs.inside.Shaping.{first_of, again_of, earlier, line_unless, IsFirst, IsRepeat, IsMissed}
-
-pub either : (i j : ℕ) → (i ≡ j) ⊎ (i ≢ j)
-either i j = by (nat_eq i j) refl where
-  by : (b : Bool) → nat_eq i j ≡ b → (i ≡ j) ⊎ (i ≢ j)
-  by true e = inl (eqb-true i j e)
-  by false e = inr (λ q. true≢false (sym (eq-eqb i j q) ∙ e))
-
-pub either_side : (i j : ℕ) → (i < j) ⊎ (j ≤ i)
-either_side i j = by (nat_lt i j) refl where
-  by : (b : Bool) → nat_lt i j ≡ b → (i < j) ⊎ (j ≤ i)
-  by true e = inl (ltb-true i j e)
-  by false e = inr (ltb-false i j e)
 
 -- the first of the lines of which one or the other holds
 pub earlier_first : (P Q R : ℕ → Type 0) (a b : Option ℕ) → IsFirst P a → IsFirst Q b → ((l : ℕ) → P l → R l) → ((l : ℕ) → Q l → R l) → ((l : ℕ) → R l → P l ⊎ Q l) → IsFirst R (earlier a b)
@@ -42,13 +31,6 @@ earlier_first P Q R (Some l) (Some n) a b of_p of_q split = (here (either_side l
 pub same_first : (P R : ℕ → Type 0) (o : Option ℕ) → IsFirst P o → ((l : ℕ) → P l → R l) → ((l : ℕ) → R l → P l) → IsFirst R o
 same_first P R None a of_p of_r = λ l r. a l (of_r l r)
 same_first P R (Some l) a of_p of_r = (of_p l a.0, λ m r. a.1 m (of_r m r))
-
--- places up to one
-pub below_next : (j k : ℕ) → j < k + 1 → (j < k) ⊎ (j ≡ k)
-below_next j k lt = by (either_side j k) where
-  by : (j < k) ⊎ (k ≤ j) → (j < k) ⊎ (j ≡ k)
-  by (inl o) = inl o
-  by (inr o) = inr (omega arith)
 
 -- the first line of places that have not passed
 module _ (passes : ℕ → Bool) (lines : List ℕ) where

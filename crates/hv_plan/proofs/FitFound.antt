@@ -2,6 +2,8 @@
 use Rattle.std.proofs.Common.{◌≡◌, ◌≢◌, ℕ, zero, suc, ◌⊎◌, inl, inr, List, [], ◌∷◌, map, length, slice_get, Option, Some, None, refl, ap, sym, subst, ◌∙◌, arith}
 use Rattle.std.specs.Prelude.{Contains, MatchOption}
 use Rattle.std.specs.List.{AllZip}
+use Rattle.hv_lists.proofs.Contained.{contains_first, in_tail}
+use Rattle.hv_lists.proofs.Numbers.{either}
 use Rattle.hv_world.specs.Types.{Of}
 use Rattle.hv_world.specs.Values.{TaskName, compound, primitive, Subtask}
 use Rattle.hv_world.specs.Bindings.{GroundAction, ground_action}
@@ -22,8 +24,7 @@ use Rattle.hv_plan.specs.PlanTrees.{IsActionOf}
 use Rattle.hv_plan.specs.declared.cause.CauseKind.{CauseKind}
 use Rattle.hv_plan.specs.declared.cause.CauseKind.TheVariants as kinds
 use Rattle.hv_plan.specs.declared.cause.Cause.{Cause}
-use Rattle.hv_plan.proofs.FirstLines.{either}
-use Rattle.hv_plan.proofs.FitLemmas.{contains_cons, contains_first, contains_rest, every_some, every_none, task_unknown, method_unknown, argument_fault, has_no_method, method_known, names_task, names_action, not_for_task, action_has_no_fault, decomposed_has_no_fault}
+use Rattle.hv_plan.proofs.FitLemmas.{contains_cons, every_some, every_none, task_unknown, method_unknown, argument_fault, has_no_method, method_known, names_task, names_action, not_for_task, action_has_no_fault, decomposed_has_no_fault}
 use Rattle.hv_plan.proofs.EarliestLemmas.{earlier_none, earliest_of_no_line, earliest_of_lists, earliest_of_one, earliest_of_none, earliest_of_both}
 use Rattle.hv_plan.proofs.FormLaws.{contains_flat, form_has_no_cause, fault_is_cause}
 use Rattle.hv_plan.proofs.TallyLemmas.{name_member}
@@ -213,7 +214,7 @@ module _ (w : World) (decided : (o t : ℕ) → Of w.typing o t ⊎ (Of w.typing
       children_cause [] among = (None, earliest_of_no_line (IsChildFault w p) (λ q. q.line))
       children_cause (q ∷ qs) among =
           let (o, one) = child_cause q (among q (contains_first q qs)) in
-          let (u, rest) = children_cause qs (λ r h. among r (contains_rest q qs r h)) in
+          let (u, rest) = children_cause qs (λ r h. among r (in_tail q qs r h)) in
           (earlier o u, earliest_of_lists (IsChildFault w p) (λ q. q.line) (q ∷ []) qs o u one rest)
 
       by_children : (o : Option Cause) × IsEarliest (ChildFaultIn w p (parents p)) o → Answer

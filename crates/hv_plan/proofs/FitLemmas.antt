@@ -4,6 +4,10 @@ use Rattle.std.specs.Prelude.{Contains}
 use Rattle.std.specs.List.{AllZip}
 use Rattle.std.specs.Prelude.{get_or}
 use Rattle.std.proofs.lemmas.List.Elements.{AllZip-get_or}
+use Rattle.hv_lists.proofs.Contained.{contains_first, in_tail}
+use Rattle.hv_lists.proofs.Pairs.{same_length}
+use Rattle.hv_lists.proofs.Numbers.{below_next}
+use Rattle.hv_lists.proofs.Places.{member_at}
 use Rattle.hv_world.specs.Types.{Of}
 use Rattle.hv_world.specs.Values.{TaskName, compound, primitive}
 use Rattle.hv_world.specs.Names.{place_in}
@@ -34,12 +38,6 @@ pub contains_cons : {X : Type 0} (x : X) (xs : List X) (y : X) → Contains (x �
 contains_cons x xs y (zero, lt, e) = inl e
 contains_cons x xs y (suc k, lt, e) = inr (k, omega arith, e)
 
-pub contains_first : {X : Type 0} (x : X) (xs : List X) → Contains (x ∷ xs) x
-contains_first x xs = (0, omega arith, refl)
-
-pub contains_rest : {X : Type 0} (x : X) (xs : List X) (y : X) → Contains xs y → Contains (x ∷ xs) y
-contains_rest x xs y (k, lt, e) = (suc k, omega arith, e)
-
 -- each member of a list that is paired with another has a partner
 pub partner : {A B : Type 0} (R : A → B → Type 0) (xs : List A) (ys : List B) (x : A) → AllZip R xs ys → Contains xs x → (y : B) × R x y
 partner R [] ys x all (k, lt, e) = absurd (omega arith)
@@ -57,13 +55,6 @@ same_partners {A} {B} f (x ∷ xs) (y ∷ ys) (z ∷ zs) (p, ps) (q, qs) = cons 
   where
     cons : {u v : B} {us vs : List B} → u ≡ v → us ≡ vs → u ∷ us ≡ v ∷ vs
     cons e es = (λ i. e i ∷ es i)
-
--- what is paired with a list is as long
-pub same_length : {A B : Type 0} (R : A → B → Type 0) (xs : List A) (ys : List B) → AllZip R xs ys → length xs ≡ length ys
-same_length R [] [] all = refl
-same_length R [] (y ∷ ys) all = absurd all
-same_length R (x ∷ xs) [] all = absurd all
-same_length R (x ∷ xs) (y ∷ ys) (r, all) = ap suc (same_length R xs ys all)
 
 -- the values of a function at each member of a list, where it has one at all
 pub every_some : {A B : Type 0} (f : A → Option B) (xs : List A) (ys : List B) → every f xs ≡ Some ys → AllZip (λ x y. f x ≡ Some y) xs ys
@@ -92,7 +83,7 @@ every_none {A} {B} f (x ∷ xs) e = go (f x) (every f xs) refl refl e (λ q. eve
     go (Some y) None p q r again = later (again q)
       where
         later : (z : A) × Contains xs z × (f z ≡ None) → (y : A) × Contains (x ∷ xs) y × (f y ≡ None)
-        later (z, in', none) = (z, contains_rest x xs z in', none)
+        later (z, in', none) = (z, in_tail x xs z in', none)
     go (Some y) (Some zs) p q r again = cc
 
 -- causes by their numbers
@@ -124,15 +115,6 @@ cause_back kinds.ChildNames = refl
 pub same_cause : (j k : CauseKind) → number j ≡ number k → j ≡ k
 same_cause j k e = sym (cause_back j) ∙ ap cause_of e ∙ cause_back k
 
-pub less_or_more : (m n : ℕ) → (m < n) ⊎ (n ≤ m)
-less_or_more zero zero = inr (omega arith)
-less_or_more zero (suc n) = inl (omega arith)
-less_or_more (suc m) zero = inr (omega arith)
-less_or_more (suc m) (suc n) = elim (less_or_more m n) [ inl a ↦ inl (omega arith) | inr b ↦ inr (omega arith) ]
-
-pub less_or_same : (m n : ℕ) → m < n + 1 → (m < n) ⊎ (m ≡ n)
-less_or_same m n lt = elim (less_or_more m n) [ inl a ↦ inl a | inr b ↦ inr (omega arith) ]
-
 module _ (w : World) (e : Entry) where
   -- a line is at fault by itself for no cause of a number below
   abbrev pub NoneBelow : ℕ → Type 0
@@ -156,7 +138,7 @@ module _ (w : World) (e : Entry) where
 
   pub none_below_next : (k : CauseKind) → NoneBelow (number k) → (IsAtFault w e k → ⊥) → NoneBelow (number k + 1)
   none_below_next k below not j lt f =
-      elim (less_or_same (number j) (number k) lt) [ inl less ↦ below j less f | inr same ↦ not (subst (λ i. IsAtFault w e i) (same_cause j k same) f) ]
+      elim (below_next (number j) (number k) lt) [ inl less ↦ below j less f | inr same ↦ not (subst (λ i. IsAtFault w e i) (same_cause j k same) f) ]
 
   module _ (t : TaskName) (named : task_named w e.said.name ≡ Some t) where
     named_is_known : IsAtFault w e kinds.UnknownTask → ⊥
@@ -359,12 +341,6 @@ place_within (m ∷ ms) n i e = go (bytes_eq n m) (place_in ms n) refl e (λ j q
     go true o p q again = let z : 0 ≡ i = cc in omega arith
     go false None p q again = cc
     go false (Some j) p q again = let z : suc j ≡ i = cc in let lt : j < length ms = again j p in omega arith
-
--- there is a member at a place within a list
-pub member_at : {X : Type 0} (xs : List X) (i : ℕ) → i < length xs → (x : X) × (slice_get xs i ≡ Some x)
-member_at [] i lt = absurd (omega arith)
-member_at (x ∷ xs) zero lt = (x, refl)
-member_at (x ∷ xs) (suc i) lt = member_at xs i (omega arith)
 
 -- the method of a name
 pub method_of_name : (w : World) (n : List ℕ) (v : ℕ) → method_named w n ≡ Some v → (m : Method) × (slice_get w.methods v ≡ Some m)

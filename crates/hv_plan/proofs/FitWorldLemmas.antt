@@ -4,6 +4,7 @@ use Rattle.std.specs.Prelude.{Contains, All, get_or, option_and_then, slice_get}
 use Rattle.std.specs.List.{AllZip}
 use Rattle.std.proofs.lemmas.Bool.{eqb-true, eqb-false}
 use Rattle.std.proofs.lemmas.List.Elements.{Contains-get_or, Contains-append_cases}
+use Rattle.hv_lists.proofs.Contained.{contains_first, in_tail, map_mem}
 use Rattle.hv_world.specs.Values.{TaskName, compound, primitive}
 use Rattle.hv_world.specs.Bindings.{GroundAction}
 use Rattle.hv_world.specs.Worlds.{World, Method, task_named}
@@ -17,8 +18,8 @@ use Rattle.hv_plan.specs.inside.ChildFaults.{ChildFaultIn}
 use Rattle.hv_plan.specs.PlanTrees.{IsActionOf}
 use Rattle.hv_plan.specs.declared.cause.CauseKind.TheVariants as kinds
 use Rattle.hv_plan.specs.inside.FitViews.{Decomposed}
-use Rattle.hv_plan.proofs.FitLemmas.{contains_cons, contains_first, contains_rest, partner, method_of_name}
-use Rattle.hv_plan.proofs.FormLaws.{contains_of_map, contains_flat}
+use Rattle.hv_plan.proofs.FitLemmas.{contains_cons, partner, method_of_name}
+use Rattle.hv_plan.proofs.FormLaws.{contains_flat}
 
 -- what holds of each member holds of all
 all_by : {X : Type 0} (P : X → Type 0) (xs : List X) → ((x : X) → Contains xs x → P x) → All P xs
@@ -56,7 +57,7 @@ module _ (w : World) (p : Plan) (form : FormTree p) (gs : List GroundAction) (xs
 
   -- the line that an id begins names a task or an action
   head_is_named : (a : text.Action) → Contains (heads p) a → (n : TaskName) × (task_named w a.name ≡ Some n)
-  head_is_named a x = elim (Contains-append_cases p.actions (map head p.decompositions) a x) [ inl y ↦ of_action y | inr y ↦ of_line (contains_of_map head p.decompositions a y) ]
+  head_is_named a x = elim (Contains-append_cases p.actions (map head p.decompositions) a x) [ inl y ↦ of_action y | inr y ↦ of_line (map_mem head p.decompositions a y) ]
     where
       of_action : Contains p.actions a → (n : TaskName) × (task_named w a.name ≡ Some n)
       of_action y = let fit = action_fits a y in (primitive fit.action, fit.says.name)
@@ -66,7 +67,7 @@ module _ (w : World) (p : Plan) (form : FormTree p) (gs : List GroundAction) (xs
 
   id_is_named : (i : ℕ) → Contains (ids p) i → (n : TaskName) × IsNamed w p i n
   id_is_named i x =
-      let (a, begins, same) = contains_of_map (λ a. a.id) (heads p) i x in
+      let (a, begins, same) = map_mem (λ a. a.id) (heads p) i x in
       let (n, name) = head_is_named a begins in
       (n, record { line = a; begins = begins; id = same; name = name })
 
@@ -74,12 +75,12 @@ module _ (w : World) (p : Plan) (form : FormTree p) (gs : List GroundAction) (xs
   names_for [] begin = ([], tt)
   names_for (i ∷ is) begin =
       let (n, named) = id_is_named i (begin i (contains_first i is)) in
-      let (ns, all) = names_for is (λ j x. begin j (contains_rest i is j x)) in
+      let (ns, all) = names_for is (λ j x. begin j (in_tail i is j x)) in
       (n ∷ ns, (named, all))
 
   -- a line that names children has a method
   pub has_method : (q : Parent) → Contains (parents p) q → (m : Method) × (method_of w q.method ≡ Some m)
-  has_method q x = elim (contains_cons (root_parent p.root) (map line_parent p.decompositions) q x) [ inl same ↦ of_root same | inr y ↦ of_line (contains_of_map line_parent p.decompositions q y) ]
+  has_method q x = elim (contains_cons (root_parent p.root) (map line_parent p.decompositions) q x) [ inl same ↦ of_root same | inr y ↦ of_line (map_mem line_parent p.decompositions q y) ]
     where
       of_root : root_parent p.root ≡ q → (m : Method) × (method_of w q.method ≡ Some m)
       of_root same = (w.top, subst (λ r. method_of w r.method ≡ Some w.top) same refl)

@@ -3,7 +3,8 @@ use Rattle.std.proofs.Common.{◌≡◌, ◌+◌, ◌<◌, ◌≤◌, ◌⊎◌,
 use Rattle.std.specs.Map.{update}
 use Rattle.std.proofs.lemmas.List.{length-set}
 use Rattle.std.proofs.lemmas.List.Elements.{Contains-append_right}
-use Rattle.hv_text.specs.Lists.{Once}
+use Rattle.hv_lists.specs.Lists.{Once}
+use Rattle.hv_lists.proofs.Numbers.{either_side}
 use Rattle.hv_plan.specs.Values.{Plan}
 use Rattle.hv_plan.specs.Shapes.{ids, all_children, IsInTextOrder, FormTree}
 use Rattle.hv_plan.specs.inside.Shaping.{first_of, again_of, earlier, line_unless, IsFirst, IsRepeat, IsMissed, is_known, is_marked, lines_of_heads, lines_of_children, place_of, places_of_lines, kids, IsMeeting, Grows, IsWalking, IsWalk}
@@ -11,7 +12,7 @@ use Rattle.hv_plan.specs.inside.ShapeCauses.{NoneBelow, IsFormFault}
 use Rattle.hv_plan.specs.declared.cause.CauseKind.TheVariants as kinds
 use Rattle.hv_plan.specs.declared.cause.Cause.{Cause}
 use Rattle.hv_plan.specs.declared.cause.TreeFault.TheVariants as faults
-use Rattle.hv_plan.proofs.FirstLines.{either_side, none_missed, missed_next, IsTable, no_lines, table_next, none_repeated, repeat_next}
+use Rattle.hv_plan.proofs.FirstLines.{none_missed, missed_next, IsTable, no_lines, table_next, none_repeated, repeat_next}
 use Rattle.hv_plan.proofs.ShapeWalks.{grows_none, grows_more, grows_by_one, grows_by_none, meets, met_fits, no_marks, walk_starts, walk_goes, walk_ends}
 use Rattle.hv_plan.proofs.ShapeTrees.{form_tree, root_within, kids_within}
 use Rattle.hv_plan.proofs.PlaceTables.{no_repeat}

@@ -5,8 +5,10 @@ use Rattle.std.specs.List.{AllZip}
 use Rattle.std.proofs.lemmas.List.Concat.{flat_map-cons}
 use Rattle.std.proofs.lemmas.List.Kept.{AllPairs-cons}
 use Rattle.std.proofs.lemmas.List.Elements.{All-contains, Contains-get_or, Contains-append_cases, Contains-append_left, Contains-append_right}
+use Rattle.hv_lists.proofs.Contained.{contains_first, in_tail, mem_map, map_mem}
+use Rattle.hv_lists.proofs.EachOnce.{once_tail, once_left, once_right, once_apart}
 use Rattle.hv_world.specs.Values.{TaskName}
-use Rattle.hv_text.specs.Lists.{Once}
+use Rattle.hv_lists.specs.Lists.{Once}
 use Rattle.hv_world.specs.Worlds.{World, task_named, method_named}
 use Rattle.hv_plan.specs.Values as text
 use Rattle.hv_plan.specs.Values.{Plan}
@@ -17,40 +19,27 @@ use Rattle.hv_plan.specs.inside.LineFaults.{Entry, action_entry, line_entry, ent
 use Rattle.hv_plan.specs.declared.cause.CauseKind.{CauseKind}
 use Rattle.hv_plan.specs.declared.cause.CauseKind.TheVariants as kinds
 use Rattle.hv_plan.specs.declared.cause.Cause.{Cause}
-use Rattle.hv_plan.proofs.FitLemmas.{contains_cons, contains_first, contains_rest, action_has_no_fault, line_has_no_fault}
-
--- members of a list that a function makes of another
-pub contains_map : {X Y : Type 0} (f : X → Y) (xs : List X) (x : X) → Contains xs x → Contains (map f xs) (f x)
-contains_map f [] x (k, lt, e) = absurd (omega arith)
-contains_map f (y ∷ xs) x in' =
-    elim (contains_cons y xs x in') [ inl e ↦ subst (λ z. Contains (f y ∷ map f xs) (f z)) e (contains_first (f y) (map f xs)) | inr rest ↦ contains_rest (f y) (map f xs) (f x) (contains_map f xs x rest) ]
-
-pub contains_of_map : {X Y : Type 0} (f : X → Y) (xs : List X) (y : Y) → Contains (map f xs) y → (x : X) × Contains xs x × (f x ≡ y)
-contains_of_map f [] y (k, lt, e) = absurd (omega arith)
-contains_of_map {X} {Y} f (x ∷ xs) y in' = elim (contains_cons (f x) (map f xs) y in') [ inl e ↦ (x, contains_first x xs, e) | inr rest ↦ later (contains_of_map f xs y rest) ]
-  where
-    later : (z : X) × Contains xs z × (f z ≡ y) → (z : X) × Contains (x ∷ xs) z × (f z ≡ y)
-    later (z, in'', e) = (z, contains_rest x xs z in'', e)
+use Rattle.hv_plan.proofs.FitLemmas.{contains_cons, action_has_no_fault, line_has_no_fault}
 
 -- a line that begins with an id, and what it says of the id
 pub entry_of_head : (p : Plan) (a : text.Action) → Contains (heads p) a → (e : Entry) × Contains (entries p) e × (e.said ≡ a)
-entry_of_head p a in' = elim (Contains-append_cases p.actions (map head p.decompositions) a in') [ inl x ↦ of_action x | inr x ↦ of_line (contains_of_map head p.decompositions a x) ]
+entry_of_head p a in' = elim (Contains-append_cases p.actions (map head p.decompositions) a in') [ inl x ↦ of_action x | inr x ↦ of_line (map_mem head p.decompositions a x) ]
   where
     of_action : Contains p.actions a → (e : Entry) × Contains (entries p) e × (e.said ≡ a)
-    of_action x = (action_entry a, Contains-append_left (map action_entry p.actions) (map line_entry p.decompositions) (action_entry a) (contains_map action_entry p.actions a x), refl)
+    of_action x = (action_entry a, Contains-append_left (map action_entry p.actions) (map line_entry p.decompositions) (action_entry a) (mem_map action_entry p.actions a x), refl)
 
     of_line : (d : text.Decomposition) × Contains p.decompositions d × (head d ≡ a) → (e : Entry) × Contains (entries p) e × (e.said ≡ a)
-    of_line (d, x, same) = (line_entry d, Contains-append_right (map action_entry p.actions) (map line_entry p.decompositions) (line_entry d) (contains_map line_entry p.decompositions d x), same)
+    of_line (d, x, same) = (line_entry d, Contains-append_right (map action_entry p.actions) (map line_entry p.decompositions) (line_entry d) (mem_map line_entry p.decompositions d x), same)
 
 module _ (w : World) (p : Plan) where
   by_head : (k : CauseKind) (a : text.Action) → Contains (heads p) a → ((e : Entry) → e.said ≡ a → IsAtFault w e k) → FaultIn w (entries p) k a.line
   by_head k a in' f = let (e, x, same) = entry_of_head p a in' in (e, x, f e same, ap (λ b. b.line) same)
 
   by_action : (k : CauseKind) (a : text.Action) → Contains p.actions a → IsAtFault w (action_entry a) k → FaultIn w (entries p) k a.line
-  by_action k a x f = (action_entry a, Contains-append_left (map action_entry p.actions) (map line_entry p.decompositions) (action_entry a) (contains_map action_entry p.actions a x), f, refl)
+  by_action k a x f = (action_entry a, Contains-append_left (map action_entry p.actions) (map line_entry p.decompositions) (action_entry a) (mem_map action_entry p.actions a x), f, refl)
 
   by_line : (k : CauseKind) (d : text.Decomposition) → Contains p.decompositions d → IsAtFault w (line_entry d) k → FaultIn w (entries p) k d.line
-  by_line k d x f = (line_entry d, Contains-append_right (map action_entry p.actions) (map line_entry p.decompositions) (line_entry d) (contains_map line_entry p.decompositions d x), f, refl)
+  by_line k d x f = (line_entry d, Contains-append_right (map action_entry p.actions) (map line_entry p.decompositions) (line_entry d) (mem_map line_entry p.decompositions d x), f, refl)
 
   -- a line qualifies by the form of the tree, by what stands on it alone, or by its children
   pub qualifies_by : (k : CauseKind) (l : ℕ) → Qualifies w p k l → (number k < 54) ⊎ (FaultIn w (entries p) k l ⊎ (61 < number k))
@@ -77,7 +66,7 @@ module _ (w : World) (p : Plan) where
   said_action a x = Contains-append_left p.actions (map head p.decompositions) a x
 
   said_line : (d : text.Decomposition) → Contains p.decompositions d → Contains (heads p) (head d)
-  said_line d x = Contains-append_right p.actions (map head p.decompositions) (head d) (contains_map head p.decompositions d x)
+  said_line d x = Contains-append_right p.actions (map head p.decompositions) (head d) (mem_map head p.decompositions d x)
 
   action_qualifies : (k : CauseKind) (a : text.Action) → Contains p.actions a → IsAtFault w (action_entry a) k → Qualifies w p k a.line
   action_qualifies kinds.RepeatedId a x f = absurd f
@@ -119,7 +108,7 @@ module _ (w : World) (p : Plan) where
   pub fault_qualifies : (k : CauseKind) (l : ℕ) → FaultIn w (entries p) k l → Qualifies w p k l
   fault_qualifies k l (e, x, f, is) =
       subst (λ n. Qualifies w p k n) is
-      (elim (Contains-append_cases (map action_entry p.actions) (map line_entry p.decompositions) e x) [ inl y ↦ of_action (contains_of_map action_entry p.actions e y) | inr y ↦ of_line (contains_of_map line_entry p.decompositions e y) ])
+      (elim (Contains-append_cases (map action_entry p.actions) (map line_entry p.decompositions) e x) [ inl y ↦ of_action (map_mem action_entry p.actions e y) | inr y ↦ of_line (map_mem line_entry p.decompositions e y) ])
     where
       of_action : (a : text.Action) × Contains p.actions a × (action_entry a ≡ e) → Qualifies w p k e.said.line
       of_action (a, y, same) = subst (λ z. Qualifies w p k z.said.line) same (action_qualifies k a y (subst (λ z. IsAtFault w z k) (sym same) f))
@@ -166,31 +155,13 @@ module _ (w : World) (p : Plan) where
 once_head : (n : ℕ) (ns : List ℕ) (m : ℕ) → Once (n ∷ ns) → Contains ns m → n ≡ m → ⊥
 once_head n ns m once (k, lt, e) same = once 0 (suc k) m (omega arith) (omega arith) (same ∙ sym e)
 
-once_tail : (n : ℕ) (ns : List ℕ) → Once (n ∷ ns) → Once ns
-once_tail n ns once i j d lt within = once (suc i) (suc j) d (omega arith) (omega arith)
-
 once_by : {X : Type 0} (f : X → ℕ) (xs : List X) → Once (map f xs) → (x y : X) → Contains xs x → Contains xs y → f x ≡ f y → x ≡ y
 once_by f [] once x y (k, lt, e) in' same = absurd (omega arith)
 once_by f (z ∷ xs) once x y inx iny same =
     elim (contains_cons z xs x inx) [
-      | inl ex ↦ elim (contains_cons z xs y iny) [ inl ey ↦ sym ex ∙ ey | inr ry ↦ absurd (once_head (f z) (map f xs) (f y) once (contains_map f xs y ry) (ap f ex ∙ same)) ]
-      | inr rx ↦ elim (contains_cons z xs y iny) [ inl ey ↦ absurd (once_head (f z) (map f xs) (f x) once (contains_map f xs x rx) (ap f ey ∙ sym same)) | inr ry ↦ once_by f xs (once_tail (f z) (map f xs) once) x y rx ry same ]
+      | inl ex ↦ elim (contains_cons z xs y iny) [ inl ey ↦ sym ex ∙ ey | inr ry ↦ absurd (once_head (f z) (map f xs) (f y) once (mem_map f xs y ry) (ap f ex ∙ same)) ]
+      | inr rx ↦ elim (contains_cons z xs y iny) [ inl ey ↦ absurd (once_head (f z) (map f xs) (f x) once (mem_map f xs x rx) (ap f ey ∙ sym same)) | inr ry ↦ once_by f xs (once_tail (f z) (map f xs) once) x y rx ry same ]
     ]
-
-once_apart : (xs ys : List ℕ) (n : ℕ) → Once (xs ++ ys) → Contains xs n → Contains ys n → ⊥
-once_apart [] ys n once (k, lt, e) in' = omega arith
-once_apart (x ∷ xs) ys n once inx iny =
-    elim (contains_cons x xs n inx) [ inl e ↦ once_head x (xs ++ ys) n once (Contains-append_right xs ys n iny) e | inr rest ↦ once_apart xs ys n (once_tail x (xs ++ ys) once) rest iny ]
-
-once_left : (xs ys : List ℕ) → Once (xs ++ ys) → Once xs
-once_left [] ys once = λ i j d lt within. absurd (omega arith)
-once_left (x ∷ xs) ys once =
-    AllPairs-cons ◌≢◌ x xs (λ k d lt e. once_head x (xs ++ ys) (get_or xs k d) once (Contains-append_left xs ys (get_or xs k d) (Contains-get_or xs k d lt)) e)
-    (once_left xs ys (once_tail x (xs ++ ys) once))
-
-once_right : (xs ys : List ℕ) → Once (xs ++ ys) → Once ys
-once_right [] ys once = once
-once_right (x ∷ xs) ys once = once_right xs ys (once_tail x (xs ++ ys) once)
 
 -- lists of lists of numbers
 module _ {X : Type 0} (f : X → List ℕ) where
@@ -229,7 +200,7 @@ module _ (w : World) (p : Plan) (form : FormTree p) where
       let lines : q.line ≡ r.line = ap (λ q. q.line) one in
       omega arith
   form_has_no_cause _ _ (child_twice q x twice) below = twice (once_among (λ q. q.children) (parents p) q form.once x)
-  form_has_no_cause _ _ (unreached a x none) below = none (form.reached a.id (contains_map (λ a. a.id) (heads p) a x))
+  form_has_no_cause _ _ (unreached a x none) below = none (form.reached a.id (mem_map (λ a. a.id) (heads p) a x))
   form_has_no_cause _ _ (unknown_task a x none) below = omega arith
   form_has_no_cause _ _ (unknown_method d x none) below = omega arith
   form_has_no_cause _ _ (unknown_object a n x y none) below = omega arith
@@ -261,7 +232,7 @@ module _ (w : World) (p : Plan) (form : FormTree p) where
     -- no line is at fault by itself
     no_fault : (k : CauseKind) (l : ℕ) → FaultIn w (entries p) k l → ⊥
     no_fault k l (e, x, f, is) =
-        elim (Contains-append_cases (map action_entry p.actions) (map line_entry p.decompositions) e x) [ inl y ↦ of_action (contains_of_map action_entry p.actions e y) | inr y ↦ of_line (contains_of_map line_entry p.decompositions e y) ]
+        elim (Contains-append_cases (map action_entry p.actions) (map line_entry p.decompositions) e x) [ inl y ↦ of_action (map_mem action_entry p.actions e y) | inr y ↦ of_line (map_mem line_entry p.decompositions e y) ]
       where
         of_action : (a : text.Action) × Contains p.actions a × (action_entry a ≡ e) → ⊥
         of_action (a, y, same) =

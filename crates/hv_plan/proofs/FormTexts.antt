@@ -8,6 +8,7 @@ use Rattle.std.proofs.lemmas.Fmt.{decimal_by_steps}
 use Rattle.std.proofs.lemmas.Grind.{common_steps}
 use Rattle.std.proofs.lemmas.Bool.Decides.{leb_tells}
 use Rattle.std.proofs.lemmas.Slice.Eq.{bytes_eq-Decides}
+use Rattle.hv_lists.proofs.Bools.{both_true}
 use Rattle.hv_text.specs.Bytes.{is_word_byte, is_word}
 use Rattle.hv_text.specs.Words.{Piece, word, pieces, first_bad}
 use Rattle.hv_text.specs.declared.span.Span.{Span}
@@ -17,7 +18,7 @@ use Rattle.hv_plan.specs.Forms.{Form, blank, action, decomposition, root, is_dig
 use Rattle.hv_plan.specs.Spellings.{Each, no_more, one_more, SpellsId, an_id, SpellsName, a_name, SpellsArrow, an_arrow, bare, SpellsForm, an_action, a_decomposition, a_root, Says}
 use Rattle.hv_plan.specs.Canonical.{words_text}
 use Rattle.hv_plan.proofs.Lemmas.{are_digits, digits_same}
-use Rattle.hv_plan.proofs.LineTexts.{IsTidy, AreTidy, IsWordAt, a_word, both_true, line_pieces}
+use Rattle.hv_plan.proofs.LineTexts.{IsTidy, AreTidy, IsWordAt, a_word, line_pieces}
 
 -- the words of the line of what is said
 abbrev pub head_of : Form → List ℕ

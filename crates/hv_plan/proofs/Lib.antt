@@ -31,3 +31,4 @@ pub mod FitFound
 pub mod OneCause
 pub mod SmallPlans
 pub mod FitWorldLemmas
+pub mod Cited

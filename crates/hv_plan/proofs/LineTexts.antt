@@ -3,6 +3,7 @@ use Rattle.std.proofs.Common.{◌≡◌, ◌==◌, ◌&&◌, ◌||◌, ◌+◌, 
 use Rattle.std.proofs.lemmas.Grind.{common_steps}
 use Rattle.std.proofs.lemmas.List.Sums.{take_while-cons}
 use Rattle.std.specs.List.{take_while, prefix_len, list_all}
+use Rattle.hv_lists.proofs.Bools.{both_true}
 use Rattle.hv_text.specs.Bytes.{is_word_byte, is_word, lower}
 use Rattle.hv_text.specs.Words.{Piece, word, class_of, in_comment, uncommented, beginning, pieces_from, pieces, span}
 use Rattle.hv_text.specs.declared.span.Span.{Span}
@@ -23,10 +24,6 @@ AreTidy (w ∷ ws) = IsTidy w × AreTidy ws
 -- a piece that is this word
 pub data IsWordAt : Piece → List ℕ → Type 0 where
   a_word : (w : List ℕ) (s : Span) → IsWordAt (word w s) w
-
-pub both_true : (a b : Bool) → (a && b) ≡ true → (a ≡ true) × (b ≡ true)
-both_true true b e = (refl, e)
-both_true false b e = absurd cc
 
 inner_of_word_byte : (b : ℕ) → is_word_byte b ≡ true → class_of b ≡ Inner
 inner_of_word_byte b e = grind (arith, common_steps)

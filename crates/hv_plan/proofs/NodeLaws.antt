@@ -2,13 +2,13 @@
 use Rattle.std.proofs.Common.{◌≡◌, ◌+◌, ◌<◌, inl, inr, ℕ, ◌∷◌, Option, Some, None, slice_get, refl, ap, ◌∙◌, subst, arith, length, Contains}
 use Rattle.std.specs.Prelude.{MatchOption, IsSome, is_some}
 use Rattle.std.proofs.lemmas.Option.{slice_get-get_or, slice_get_within}
+use Rattle.hv_lists.proofs.Contained.{contains_at}
+use Rattle.hv_lists.proofs.Pairs.{zip_back}
 use Rattle.hv_world.specs.Worlds.{World}
 use Rattle.hv_plan.specs.Values.{Decomposition, Plan}
 use Rattle.hv_plan.specs.Trees.{Item, Task}
 use Rattle.hv_plan.specs.PlanTrees.{Node, PlanTree, children_of, children_at, IsNodeOf, NodeIs, IsTreeOf}
 use Rattle.hv_plan.proofs.FitLemmas.{contains_cons}
-use Rattle.hv_plan.proofs.ChildLemmas.{contains_at}
-use Rattle.hv_plan.proofs.OneTree.{zip_back}
 
 module _ (w : World) (p : Plan) (t : PlanTree) (is : IsTreeOf w p t) where
   pub line_of : (v : ℕ) → v + 1 < length t.nodes → (d : Decomposition) × Contains p.decompositions d × NodeIs t (IsNodeOf w t d) v

@@ -1,5 +1,6 @@
 -- Lines form a tree that fits a world, or have one cause that is reported, at one line.
 use Rattle.std.proofs.Common.{◌≡◌, ◌<◌, ◌≤◌, ◌⊎◌, inl, inr, ℕ, sym, subst, arith}
+use Rattle.hv_lists.proofs.Numbers.{either_side}
 use Rattle.hv_world.specs.Types.{Of}
 use Rattle.hv_world.specs.Worlds.{World}
 use Rattle.hv_plan.specs.Values.{Plan}
@@ -8,12 +9,12 @@ use Rattle.hv_plan.specs.Fits.{FitWorld}
 use Rattle.hv_plan.specs.Causes.{number, Qualifies, IsCause}
 use Rattle.hv_plan.specs.declared.cause.CauseKind.{CauseKind}
 use Rattle.hv_plan.specs.declared.cause.Cause.{Cause}
-use Rattle.hv_plan.proofs.FitLemmas.{less_or_more, same_cause}
+use Rattle.hv_plan.proofs.FitLemmas.{same_cause}
 use Rattle.hv_plan.proofs.FormFound.{FormCause, form_or_cause}
 use Rattle.hv_plan.proofs.FitFound.{fit_or_cause}
 
 pub one_cause : (w : World) (p : Plan) (c d : Cause) → IsCause w p c → IsCause w p d → c ≡ d
-one_cause w p c d is other = by (less_or_more (number c.kind) (number d.kind)) (less_or_more (number d.kind) (number c.kind))
+one_cause w p c d is other = by (either_side (number c.kind) (number d.kind)) (either_side (number d.kind) (number c.kind))
   where
     same : c.kind ≡ d.kind → c ≡ d
     same k =

@@ -7,8 +7,13 @@ use Rattle.std.proofs.lemmas.List.{length-map, map-append}
 use Rattle.std.proofs.lemmas.List.Elements.{Contains-append_cases}
 use Rattle.std.proofs.lemmas.Map.Views.{list_any-from_Contains, Contains-from_any}
 use Rattle.std.proofs.lemmas.Option.{slice_get-get_or, get_or_from_slice_get, slice_get_within, same_Some}
+use Rattle.hv_lists.proofs.Contained.{contains_first, in_tail, contains_at}
+use Rattle.hv_lists.proofs.Pairs.{same_length, zip_back}
+use Rattle.hv_lists.proofs.Places.{map_some}
+use Rattle.hv_lists.proofs.EachOnce.{same_place, once_apart, once_right, once_left}
+use Rattle.hv_lists.proofs.Numbers.{either, either_side}
 use Rattle.hv_world.specs.Bindings.{GroundAction}
-use Rattle.hv_text.specs.Lists.{Once}
+use Rattle.hv_lists.specs.Lists.{Once}
 use Rattle.hv_world.specs.Names.{place_in}
 use Rattle.hv_world.specs.Values.{primitive, compound}
 use Rattle.hv_world.specs.Worlds.{World, task_named}
@@ -16,11 +21,8 @@ use Rattle.hv_plan.specs.Values.{Action, Decomposition, Plan}
 use Rattle.hv_plan.specs.Shapes.{FormTree}
 use Rattle.hv_plan.specs.Trees.{Item, Act, Task, Pre}
 use Rattle.hv_plan.specs.PlanTrees.{Node, PlanTree, children_of, children_at, node_numbers, child_nodes, countdown, StandsFor, IsActionOf, IsNodeOf, IsRootOf, NodeIs, IsTreeOf}
-use Rattle.hv_plan.proofs.FirstLines.{either, either_side}
-use Rattle.hv_plan.proofs.FitLemmas.{contains_cons, contains_first, contains_rest, same_partners, same_length}
-use Rattle.hv_plan.proofs.ChildLemmas.{mapped_here, contains_at}
+use Rattle.hv_plan.proofs.FitLemmas.{contains_cons, same_partners}
 use Rattle.hv_plan.proofs.HeadLists.{action_ids, decomposition_ids, ids_are}
-use Rattle.hv_plan.proofs.ShapeWalks.{same_place, once_apart, once_right, once_left}
 
 -- parts of one list that are as long at its front are one
 same_front : {A : Type 0} (as' bs cs ds : List A) → as' ++ bs ≡ cs ++ ds → length as' ≡ length cs → as' ≡ cs
@@ -55,14 +57,6 @@ same_on g h (y ∷ ys) x e c =
     let there : map g ys ≡ map h ys = cc in
     elim (contains_cons y ys x c) [ inl q ↦ sym (ap g q) ∙ here ∙ ap h q | inr d ↦ same_on g h ys x there d ]
 
--- members of paired lists, by places of the second
-pub zip_back : {A B : Type 0} (R : A → B → Type 0) (xs : List A) (ys : List B) (k : ℕ) (y : B) → AllZip R xs ys → slice_get ys k ≡ Some y → (x : A) × (slice_get xs k ≡ Some x) × R x y
-zip_back R [] [] k y all e = cc
-zip_back R [] (z ∷ zs) k y all e = absurd all
-zip_back R (x ∷ xs) [] k y all e = absurd all
-zip_back R (x ∷ xs) (z ∷ zs) zero y all e = (x, refl, subst (R x) (same_Some z y e) all.0)
-zip_back R (x ∷ xs) (z ∷ zs) (suc k) y all e = zip_back R xs zs k y all.1 e
-
 -- what two lists that are paired with a third pair with each of its members is one
 same_zips : {A B : Type 0} (R S : A → B → Type 0) (xs : List A) (ys zs : List B) → ((x : A) (y z : B) → R x y → S x z → y ≡ z) → AllZip R xs ys → AllZip S xs zs → ys ≡ zs
 same_zips R S [] [] [] one r s = refl
@@ -89,9 +83,9 @@ upper_split f n (suc k) =
 -- the nodes among items are tasks of theirs
 task_of : (xs : List Item) (u : ℕ) → Contains (flat_map node_numbers xs) u → Contains xs (Task u)
 task_of [] u c = let w : c.0 < 0 = c.1 in absurd (omega (arith, w))
-task_of (Act k ∷ xs) u c = contains_rest (Act k) xs (Task u) (task_of xs u c)
-task_of (Task v ∷ xs) u c = elim (contains_cons v (flat_map node_numbers xs) u c) [ inl q ↦ (0, omega arith, ap Task q) | inr d ↦ contains_rest (Task v) xs (Task u) (task_of xs u d) ]
-task_of (Pre k ∷ xs) u c = contains_rest (Pre k) xs (Task u) (task_of xs u c)
+task_of (Act k ∷ xs) u c = in_tail (Act k) xs (Task u) (task_of xs u c)
+task_of (Task v ∷ xs) u c = elim (contains_cons v (flat_map node_numbers xs) u c) [ inl q ↦ (0, omega arith, ap Task q) | inr d ↦ in_tail (Task v) xs (Task u) (task_of xs u d) ]
+task_of (Pre k ∷ xs) u c = in_tail (Pre k) xs (Task u) (task_of xs u c)
 
 -- the nodes among the children of nodes up to n are below n
 low : (f : ℕ → List Item) → ((v u : ℕ) → Contains (f v) (Task u) → u < v) → (n u : ℕ) → Contains (child_nodes f (suc n)) u → u < n
@@ -104,7 +98,7 @@ low f lower n u c = by n (Contains-append_cases (flat_map node_numbers (f n)) (c
 
 counted : (n v : ℕ) → v < n → Contains (countdown n) v
 counted zero v lt = absurd (omega (arith, lt))
-counted (suc n) v lt = elim (either v n) [ inl e ↦ subst (Contains (n ∷ countdown n)) (sym e) (contains_first n (countdown n)) | inr d ↦ contains_rest n (countdown n) v (counted n v (omega (arith, lt, d))) ]
+counted (suc n) v lt = elim (either v n) [ inl e ↦ subst (Contains (n ∷ countdown n)) (sym e) (contains_first n (countdown n)) | inr d ↦ in_tail n (countdown n) v (counted n v (omega (arith, lt, d))) ]
 
 -- a node below the root is among the children of the nodes above it
 above_has : (f : ℕ → List Item) → ((v u : ℕ) → Contains (f v) (Task u) → u < v) → (root v k : ℕ) → suc v + k ≡ suc root → child_nodes f (suc root) ≡ countdown root → v < root
@@ -159,7 +153,7 @@ once_children (x ∷ ds) (suc k) d once e = ap (λ b. cond b x.children (childre
     by : (b : Bool) → nat_eq x.id d.id ≡ b → nat_eq x.id d.id ≡ false
     by true t =
         let q : x.id ≡ d.id = eqb-true x.id d.id t in
-        absurd (once_apart (x.id ∷ []) (map (λ d. d.id) ds) d.id once (subst (Contains (x.id ∷ [])) q (contains_first x.id [])) (contains_at (map (λ d. d.id) ds) k d.id (mapped_here (λ d. d.id) ds k d e)))
+        absurd (once_apart (x.id ∷ []) (map (λ d. d.id) ds) d.id once (subst (Contains (x.id ∷ [])) q (contains_first x.id [])) (contains_at (map (λ d. d.id) ds) k d.id (map_some (λ d. d.id) ds k d e)))
     by false t = t
 
 module _ (w : World) (p : Plan) (form : FormTree p) where
@@ -175,8 +169,8 @@ module _ (w : World) (p : Plan) (form : FormTree p) where
   -- one place of a line of an id
   one_line : (j k : ℕ) (c d : Decomposition) → slice_get p.decompositions j ≡ Some c → slice_get p.decompositions k ≡ Some d → c.id ≡ d.id → j ≡ k
   one_line j k c d e f same =
-      let a : slice_get (decomposition_ids p) j ≡ Some c.id = mapped_here (λ d. d.id) p.decompositions j c e in
-      let b : slice_get (decomposition_ids p) k ≡ Some d.id = mapped_here (λ d. d.id) p.decompositions k d f in
+      let a : slice_get (decomposition_ids p) j ≡ Some c.id = map_some (λ d. d.id) p.decompositions j c e in
+      let b : slice_get (decomposition_ids p) k ≡ Some d.id = map_some (λ d. d.id) p.decompositions k d f in
       same_place (decomposition_ids p) lines_once j k (slice_get_within (decomposition_ids p) j c.id a) (slice_get_within (decomposition_ids p) k d.id b)
       (get_or_from_slice_get (decomposition_ids p) j c.id 0 a ∙ same ∙ sym (get_or_from_slice_get (decomposition_ids p) k d.id 0 b))
 
@@ -255,7 +249,7 @@ module _ (w : World) (p : Plan) (form : FormTree p) where
         by (of_line k d n f g at node) =
             let some : id_at t v ≡ Some d.id = ap id_in at ∙ node.id in
             let same : d.id ≡ i = cc in
-            (k, mapped_here (λ d. d.id) p.decompositions k d f ∙ ap Some same, g)
+            (k, map_some (λ d. d.id) p.decompositions k d f ∙ ap Some same, g)
 
     -- nodes of one id are one
     one_node : (u v i : ℕ) → u < suc count → v < suc count → id_at t u ≡ Some i → id_at t v ≡ Some i → u ≡ v

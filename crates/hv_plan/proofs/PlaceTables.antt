@@ -6,12 +6,14 @@ use Rattle.std.proofs.lemmas.List.{length-map, map-append, get_or-map}
 use Rattle.std.proofs.lemmas.Map.{update_here, update_apart}
 use Rattle.std.proofs.lemmas.Option.{same_Some}
 use Rattle.std.proofs.Math.Seq.{take-append_seam, drop-append_seam}
-use Rattle.hv_text.specs.Lists.{Once}
+use Rattle.hv_lists.specs.Lists.{Once}
+use Rattle.hv_lists.proofs.Places.{stands_at, contained_at}
+use Rattle.hv_lists.proofs.Numbers.{either}
 use Rattle.hv_plan.specs.inside.Shaping.{place_of, is_known, IsFirst, IsRepeat, IsMissed}
 use Rattle.hv_plan.specs.inside.Tables.{small_or, is_within}
-use Rattle.hv_plan.proofs.FirstLines.{either, same_first, IsLine, IsTable}
+use Rattle.hv_plan.proofs.FirstLines.{same_first, IsLine, IsTable}
 use Rattle.hv_plan.proofs.ShapePlaces.{absent_place, id_at_place, place_is, place_within, within_known}
-use Rattle.hv_plan.proofs.ShapeWalks.{stands_at, contained_at, once_from}
+use Rattle.hv_plan.proofs.ShapeWalks.{once_from}
 
 -- no id has a place at first
 none_in : (n i : ℕ) (other : Option ℕ) → other ≡ None → small_or (slice_get (replicate n None) i) other ≡ None

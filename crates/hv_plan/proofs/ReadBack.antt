@@ -1,4 +1,5 @@
 -- The canonical text of a plan holds that plan, the numbers of its lines aside.
+use Rattle.hv_lists.proofs.Bools.{or_right}
 use Rattle.hv_text.specs.declared.fault.TheConstants.{MOST_BYTES}
 use Rattle.std.proofs.Common.{◌≡◌, ◌||◌, ◌+◌, ◌≤◌, ℕ, Bool, true, false, List, [], ◌∷◌, ◌++◌, map, length, refl, sym, ap, subst, ◌∙◌, codes}
 use Rattle.std.specs.Prelude.{decimal}
@@ -101,13 +102,9 @@ body_before n (f ∷ fs) h =
     let inner = line_is_inner n f h.0 in
     rw inner (ap (λ xs. record { number = n; bytes = line_of f } ∷ xs) (body_before (n + 1) fs h.1))
 
-or_true : (b c : Bool) → c ≡ true → (b || c) ≡ true
-or_true true c e = refl
-or_true false c e = e
-
 body_ends : (n : ℕ) (fs : List Form) → list_any is_end (numbered n (body_of fs)) ≡ true
 body_ends n [] = refl
-body_ends n (f ∷ fs) = or_true (is_end (record { number = n; bytes = line_of f })) (list_any is_end (numbered (n + 1) (body_of fs))) (body_ends (n + 1) fs)
+body_ends n (f ∷ fs) = or_right (is_end (record { number = n; bytes = line_of f })) (list_any is_end (numbered (n + 1) (body_of fs))) (body_ends (n + 1) fs)
 
 lines_say : (n : ℕ) (fs : List Form) → AreSound fs → Each Says (numbered n (map line_of fs)) (placed_from n fs)
 lines_say n [] h = no_more

@@ -5,7 +5,10 @@ use Rattle.std.proofs.Math.ListN.{get_or-append}
 use Rattle.std.proofs.lemmas.List.{length-map, get_or-map, get_or-append_right}
 use Rattle.std.proofs.lemmas.List.Elements.{Contains-append_right, Contains-get_or}
 use Rattle.std.proofs.lemmas.Option.{slice_get-get_or, same_Some}
-use Rattle.hv_text.specs.Lists.{Once}
+use Rattle.hv_lists.specs.Lists.{Once}
+use Rattle.hv_lists.proofs.Places.{stands_at, contained_at}
+use Rattle.hv_lists.proofs.EachOnce.{once_at, once_tail}
+use Rattle.hv_lists.proofs.Numbers.{either, either_side}
 use Rattle.hv_world.specs.Worlds.{World}
 use Rattle.hv_plan.specs.Values.{Action, Decomposition, Plan}
 use Rattle.hv_plan.specs.Shapes.{heads, ids, Parent, line_parent, parents, all_children, line_numbers, IsReached, IsInTextOrder}
@@ -16,8 +19,8 @@ use Rattle.hv_plan.specs.declared.cause.CauseKind.{CauseKind}
 use Rattle.hv_plan.specs.declared.cause.CauseKind.TheVariants as kinds
 use Rattle.hv_plan.specs.declared.cause.TreeFault.TheVariants as faults
 use Rattle.hv_plan.proofs.HeadLists.{lines_are}
-use Rattle.hv_plan.proofs.FirstLines.{either, either_side, same_first}
-use Rattle.hv_plan.proofs.ShapeWalks.{stands_at, contained_at, once_at, once_from}
+use Rattle.hv_plan.proofs.FirstLines.{same_first}
+use Rattle.hv_plan.proofs.ShapeWalks.{once_from}
 use Rattle.hv_plan.proofs.ShapePlaces.{known_is, unknown_is, is_unknown, place_is}
 use Rattle.hv_plan.proofs.ShapeTrees.{met_reached, reached_met}
 
@@ -339,9 +342,6 @@ pub data Pair (qs : List Parent) (j k : ℕ) : Type 0 where
 abbrev pub numbers_of : List Parent → List ℕ
 numbers_of qs = map (λ q. q.line) qs
 
-once_rest : (x : ℕ) (xs : List ℕ) → Once (x ∷ xs) → Once xs
-once_rest x xs h = λ a b d o w. h (suc a) (suc b) d (omega (arith, o)) (omega (arith, w))
-
 first_apart : (q r : Parent) (qs : List Parent) → Once (numbers_of (q ∷ qs)) → Contains qs r → q.line ≢ r.line
 first_apart q r qs once h e =
     let l : length (numbers_of qs) ≡ length qs = length-map qs (λ (y : Parent). y.line) in
@@ -352,7 +352,7 @@ pub pair_at : (qs : List Parent) → Once (numbers_of qs) → (j k : ℕ) → j 
 pair_at [] once j k o w e = absurd (no_place k w) where
   no_place : (k : ℕ) → k < 0 → ⊥
   no_place k w = omega arith
-pair_at (q ∷ qs) once j k o w e = by (either_side j (length q.children)) (either_side k (length q.children)) (λ a b x y z. pair_at qs (once_rest q.line (numbers_of qs) once) a b x y z)
+pair_at (q ∷ qs) once j k o w e = by (either_side j (length q.children)) (either_side k (length q.children)) (λ a b x y z. pair_at qs (once_tail q.line (numbers_of qs) once) a b x y z)
   where
     long : length (q.children ++ children_in qs) ≡ length q.children + length (children_in qs)
     long = length-append q.children (children_in qs)

@@ -12,15 +12,16 @@ use Rattle.std.proofs.lemmas.List.{length-map, get_or-map}
 use Rattle.std.proofs.lemmas.Map.Views.{list_any-from_Contains}
 use Rattle.std.proofs.lemmas.Map.Steps.{le-length_from_below}
 use Rattle.std.proofs.lemmas.Option.{slice_get-get_or, get_or_from_slice_get, slice_get_within, slice_get_past}
-use Rattle.hv_text.specs.Lists.{Once}
+use Rattle.hv_lists.specs.Lists.{Once}
+use Rattle.hv_lists.proofs.Places.{stands_at, contained_at}
+use Rattle.hv_lists.proofs.EachOnce.{same_place, once_apart, once_right, once_left}
+use Rattle.hv_lists.proofs.Numbers.{either_side}
 use Rattle.hv_plan.specs.Values.{Decomposition, Plan}
 use Rattle.hv_plan.specs.Shapes.{ids, all_children}
 use Rattle.hv_plan.specs.PlanTrees.{node_numbers, child_nodes, countdown}
 use Rattle.hv_plan.specs.Trees.{Item, Act, Task, Pre, AtOrBelow, itself, its_pre, its_child, Reached, IsSubtask, IsTree}
 use Rattle.hv_plan.specs.inside.Shaping.{place_of, places_of_lines, kids, line_in, backward, is_marked, IsWalk, Comes, of_root, of_one, IsNumbering, item, items_at, children_by_number}
 use Rattle.hv_plan.specs.inside.ShapeViews.{Shape, IsShape, items_in, children_of_node, shape_tree, line_id, Stands}
-use Rattle.hv_plan.proofs.FirstLines.{either_side}
-use Rattle.hv_plan.proofs.ShapeWalks.{stands_at, contained_at, same_place, once_apart, once_right, once_left}
 use Rattle.hv_plan.proofs.ShapePlaces.{place_within, id_at_place}
 use Rattle.hv_plan.proofs.ShapeTrees.{mapped_to, member_of, all_zip_map, all_zip_at, are_apart, once_line, flat, among_flat, one_line, ids_long, action_at, line_at, list_of_line, decomposition_at, kid_of, root_kid, root_child, line_child}
 

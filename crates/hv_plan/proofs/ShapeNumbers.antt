@@ -2,10 +2,11 @@
 use Rattle.std.proofs.Common.{◌≡◌, ◌≢◌, ◌+◌, ◌-◌, ◌<◌, ◌≤◌, ◌⊎◌, inl, inr, ℕ, zero, suc, Bool, true, false, cond, nat_lt, refl, drop, ltb-true, ltb-false, List, [], ◌∷◌, ◌++◌, sym, ap, ◌∙◌, arith, length, set, slice_index, length-set, get_or-set_same, get_or-set_other}
 use Rattle.std.specs.List.{flat_map}
 use Rattle.std.proofs.Math.Seq.{drop-cons}
-use Rattle.hv_text.specs.Lists.{Once}
+use Rattle.hv_lists.specs.Lists.{Once}
+use Rattle.hv_lists.proofs.Places.{push_front, push_last, length_pushed, below_pushed}
+use Rattle.hv_lists.proofs.EachOnce.{same_place}
+use Rattle.hv_lists.proofs.Numbers.{either_side}
 use Rattle.hv_plan.specs.inside.Shaping.{IsNumbering, line_in, backward}
-use Rattle.hv_plan.proofs.FirstLines.{either_side}
-use Rattle.hv_plan.proofs.ShapeWalks.{push_front, push_last, length_pushed, below_pushed, same_place}
 
 drop-length : (xs : List ℕ) → drop (length xs) xs ≡ []
 drop-length [] = refl

@@ -6,10 +6,11 @@ use Rattle.std.proofs.lemmas.List.{take_more, length-take-le, get_or-take}
 use Rattle.std.proofs.lemmas.List.Sums.{passes_at_first, fails_before_first, position_or_len_is}
 use Rattle.std.proofs.lemmas.Map.Views.{list_any-from_Contains, Contains-from_any}
 use Rattle.indexmap.specs.IndexSet.{insert_key}
-use Rattle.hv_text.specs.Lists.{Once}
+use Rattle.hv_lists.specs.Lists.{Once}
+use Rattle.hv_lists.proofs.Places.{stands_at, contained_at}
+use Rattle.hv_lists.proofs.EachOnce.{once_at}
+use Rattle.hv_lists.proofs.Numbers.{either_side}
 use Rattle.hv_plan.specs.inside.Shaping.{place_of, is_known}
-use Rattle.hv_plan.proofs.FirstLines.{either_side}
-use Rattle.hv_plan.proofs.ShapeWalks.{stands_at, contained_at, once_at}
 
 -- an id that is among others, and one that is not
 pub known_is : (ks ids : List ℕ) (k : ℕ) → is_known ks ids k ≡ true → Contains ks (slice_index ids k)

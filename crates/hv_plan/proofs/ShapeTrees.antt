@@ -5,7 +5,11 @@ use Rattle.std.proofs.Math.ListN.{get_or-append, get_or-eq_default}
 use Rattle.std.proofs.lemmas.List.{length-map, get_or-map, get_or-append_right}
 use Rattle.std.proofs.lemmas.List.Elements.{Contains-append_left, Contains-append_right}
 use Rattle.std.proofs.lemmas.Option.{slice_get-map, slice_get-get_or, get_or_from_slice_get, slice_get_within, same_Some}
-use Rattle.hv_text.specs.Lists.{Once}
+use Rattle.hv_lists.specs.Lists.{Once}
+use Rattle.hv_lists.proofs.Places.{stands_at, contained_at}
+use Rattle.hv_lists.proofs.EachOnce.{once_apart, once_right, once_left}
+use Rattle.hv_lists.proofs.Numbers.{either_side}
+use Rattle.hv_lists.proofs.Contained.{contains_at}
 use Rattle.hv_plan.specs.Values.{Action, Decomposition, Plan}
 use Rattle.hv_plan.specs.Shapes.{head, heads, ids, parents, line_parent, all_children, IsReached, FormTree}
 use Rattle.hv_plan.specs.Shapes as form
@@ -13,8 +17,7 @@ use Rattle.hv_plan.specs.Trees.{Item}
 use Rattle.hv_plan.specs.inside.Shaping.{place_of, places_of_lines, kids, is_marked, AreApart, IsWalk, Comes, of_root, of_one}
 use Rattle.hv_plan.specs.inside.ShapeViews.{line_id}
 use Rattle.hv_plan.proofs.HeadLists.{action_ids, decomposition_ids, ids_are}
-use Rattle.hv_plan.proofs.FirstLines.{either_side}
-use Rattle.hv_plan.proofs.ShapeWalks.{stands_at, contained_at, once_apart, once_right, once_left, once_map, once_none}
+use Rattle.hv_plan.proofs.ShapeWalks.{once_map, once_none}
 use Rattle.hv_plan.proofs.ShapePlaces.{place_within, id_at_place, place_is}
 
 -- what a mapped list contains comes from the list
@@ -197,9 +200,6 @@ root_child p i h = Contains-append_left p.root.ids (flat p.decompositions) i h
 pub line_child : (p : Plan) (k : ℕ) (d : Decomposition) (i : ℕ) → slice_get p.decompositions k ≡ Some d → Contains d.children i → Contains (all_children p) i
 line_child p k d i e h = Contains-append_right p.root.ids (flat p.decompositions) i (among_flat p.decompositions k d i e h)
 
-pub among : {X : Type 0} (xs : List X) (k : ℕ) (x : X) → slice_get xs k ≡ Some x → Contains xs x
-among xs k x e = (k, slice_get_within xs k x e, get_or_from_slice_get xs k x x e)
-
 -- what is reached by children is met by the walk, and the other way
 module _ (p : Plan) (root : List ℕ) (lists : List (List ℕ)) (met : List ℕ) (marks : List Bool)
     (root_is : root ≡ map (place_of (ids p)) p.root.ids) (lists_are : lists ≡ places_of_lines (ids p) p) (once : Once (ids p))
@@ -218,7 +218,7 @@ module _ (p : Plan) (root : List ℕ) (lists : List (List ℕ)) (met : List ℕ)
           let e : slice_index (ids p) (slice_index met b) ≡ k.id = ap (slice_index (ids p)) k.is ∙ id_at_place (ids p) k.id (known k.id (line_child p k.number k.line k.id k.at k.named)) in
           let f : slice_index (ids p) (slice_index met a) ≡ k.line.id = ap (slice_index (ids p)) k.behind ∙ line_has p k.number k.line k.at in
           let above : IsReached p k.line.id = subst (IsReached p) f (earlier a (omega (arith, o, below)) (omega (arith, o, w))) in
-          subst (IsReached p) (sym e) (form.of_line k.line (among p.decompositions k.number k.line k.at) above k.named)
+          subst (IsReached p) (sym e) (form.of_line k.line (contains_at p.decompositions k.number k.line k.at) above k.named)
 
   pub reached_met : {i : ℕ} → IsReached p i → Contains met (place_of (ids p) i)
   reached_met (form.of_root {i = i} h) =
@@ -279,7 +279,7 @@ module _ (p : Plan) (root : List ℕ) (lists : List (List ℕ)) (root_is : root 
   one_id i j h g e = sym (id_at_place (ids p) i (known i h)) ∙ ap (slice_index (ids p)) e ∙ id_at_place (ids p) j (known j g)
 
   once_places : (is : List ℕ) → Once is → ((i : ℕ) → Contains is i → Contains (all_children p) i) → Once (map (place_of (ids p)) is)
-  once_places is once among = once_map (place_of (ids p)) is (λ i j h g. one_id i j (among i h) (among j g)) once
+  once_places is once contains_at = once_map (place_of (ids p)) is (λ i j h g. one_id i j (contains_at i h) (contains_at j g)) once
 
   pub once_line : (ds : List Decomposition) (k : ℕ) (d : Decomposition) → Once (flat ds) → slice_get ds k ≡ Some d → Once d.children
   once_line [] k d once e = absurd (cc)

@@ -10,32 +10,13 @@ use Rattle.std.proofs.lemmas.Map.Keys.{IsDistinct-from_apart}
 use Rattle.std.proofs.lemmas.Map.Steps.{length-le_from_distinct_below}
 use Rattle.std.proofs.lemmas.Map.Views.{Contains-from_any}
 use Rattle.std.proofs.lemmas.List.Elements.{Contains-append_left, Contains-append_right, Contains-append_cases, Contains-push}
-use Rattle.hv_text.specs.Lists.{Once}
+use Rattle.hv_lists.specs.Lists.{Once}
+use Rattle.hv_lists.proofs.Places.{push_front, push_last, length_pushed, below_pushed, stands_at, contained_at}
+use Rattle.hv_lists.proofs.EachOnce.{once_at, once_apart, once_right, once_left}
+use Rattle.hv_lists.proofs.Numbers.{either, either_side, below_next}
 use Rattle.hv_plan.specs.inside.Shaping.{is_marked, IsMeeting, Grows, AreApart, Comes, of_root, of_one, IsWalking}
-use Rattle.hv_plan.proofs.FirstLines.{either, either_side, below_next}
-
-pub push_front : (xs : List ℕ) (y k : ℕ) → k < length xs → slice_index (xs ++ y ∷ []) k ≡ slice_index xs k
-push_front xs y k h = get_or-append xs (y ∷ []) 0 k h
-
-pub push_last : (xs : List ℕ) (y : ℕ) → slice_index (xs ++ y ∷ []) (length xs) ≡ y
-push_last xs y = get_or-append_seam xs y [] 0
-
-pub length_pushed : (xs : List ℕ) (y : ℕ) → length (xs ++ y ∷ []) ≡ length xs + 1
-length_pushed xs y = length-append xs (y ∷ [])
-
-pub below_pushed : (xs : List ℕ) (y k : ℕ) → k < length (xs ++ y ∷ []) → (k < length xs) ⊎ (k ≡ length xs)
-below_pushed xs y k h = below_next k (length xs) (let e : length (xs ++ y ∷ []) ≡ length xs + 1 = length_pushed xs y in omega (arith, h, e))
 
 -- what a list contains stands at a place
-pub stands_at : (xs : List ℕ) (x : ℕ) (h : Contains xs x) → slice_index xs h.0 ≡ x
-stands_at xs x h = sym (get_or_default_zero xs h.0 x h.1) ∙ h.2
-
-pub contained_at : (xs : List ℕ) (k x : ℕ) → k < length xs → slice_index xs k ≡ x → Contains xs x
-contained_at xs k x w e = (k, w, get_or_default_zero xs k x w ∙ e)
-
-pub once_at : (xs : List ℕ) → Once xs → (a b : ℕ) → a < b → b < length xs → slice_index xs a ≢ slice_index xs b
-once_at xs h a b o w = h a b 0 o w
-
 pub once_from : (xs : List ℕ) → ((a b : ℕ) → a < b → b < length xs → slice_index xs a ≢ slice_index xs b) → Once xs
 once_from xs h = λ a b d o w e. h a b o w (sym (get_or_default_zero xs a d (omega (arith, o, w))) ∙ e ∙ get_or_default_zero xs b d w)
 
@@ -48,44 +29,7 @@ once_pushed xs y h n = once_from (xs ++ y ∷ []) (λ a b o w. by a b o (below_p
         let w : a < length xs = omega (arith, o, q) in
         n (contained_at xs a y w (sym (push_front xs y a w) ∙ e ∙ ap (slice_index (xs ++ y ∷ [])) q ∙ push_last xs y))
 
-pub same_place : (xs : List ℕ) → Once xs → (a b : ℕ) → a < length xs → b < length xs → slice_index xs a ≡ slice_index xs b → a ≡ b
-same_place xs h a b v w e = by (either a b) where
-  cut : a ≢ b → (a < b) ⊎ (b ≤ a) → a ≡ b
-  cut n (inl o) = absurd (once_at xs h a b o w e)
-  cut n (inr o) = absurd (once_at xs h b a (omega (arith, n, o)) v (sym e))
-
-  by : (a ≡ b) ⊎ (a ≢ b) → a ≡ b
-  by (inl q) = q
-  by (inr n) = cut n (either_side a b)
-
 -- lists in which each stands once
-pub once_apart : (xs ys : List ℕ) (i : ℕ) → Once (xs ++ ys) → Contains xs i → Contains ys i → ⊥
-once_apart xs ys i once h g =
-    let v : h.0 < length xs = h.1 in
-    let w : g.0 < length ys = g.1 in
-    let l : length (xs ++ ys) ≡ length xs + length ys = length-append xs ys in
-    once h.0 (length xs + g.0) i (omega (arith, v)) (omega (arith, w, l))
-    ((get_or-append xs ys i h.0 v ∙ h.2) ∙ sym (get_or-append_right xs ys (length xs) (length xs + g.0) i refl (omega arith) ∙ ap (λ j. get_or ys j i) (back g.0) ∙ g.2))
-  where
-    back : (j : ℕ) → (length xs + j) - length xs ≡ j
-    back j = omega arith
-
-pub once_right : (xs ys : List ℕ) → Once (xs ++ ys) → Once ys
-once_right xs ys once = λ a b d o w e.
-    let l : length (xs ++ ys) ≡ length xs + length ys = length-append xs ys in
-    once (length xs + a) (length xs + b) d (omega (arith, o)) (omega (arith, w, l)) (at a d ∙ e ∙ sym (at b d))
-  where
-    at : (j d : ℕ) → get_or (xs ++ ys) (length xs + j) d ≡ get_or ys j d
-    at j d = get_or-append_right xs ys (length xs) (length xs + j) d refl (omega arith) ∙ ap (λ k. get_or ys k d) (back j)
-      where
-        back : (j : ℕ) → (length xs + j) - length xs ≡ j
-        back j = omega arith
-
-pub once_left : (xs ys : List ℕ) → Once (xs ++ ys) → Once xs
-once_left xs ys once = λ a b d o w e.
-    let l : length (xs ++ ys) ≡ length xs + length ys = length-append xs ys in
-    once a b d o (omega (arith, w, l)) (get_or-append xs ys d a (omega (arith, o, w)) ∙ e ∙ sym (get_or-append xs ys d b w))
-
 pub once_none : Once {X = ℕ} []
 once_none = λ a b d o w e. absurd (no_place b w)
   where

@@ -5,6 +5,7 @@ use Rattle.std.specs.Char.{to_ascii_lowercase}
 use Rattle.std.proofs.lemmas.Grind.{common_steps}
 use Rattle.std.proofs.lemmas.List.Sums.{take_while-cons}
 use Rattle.std.proofs.lemmas.Str.Ascii.{lowercase-lowercase}
+use Rattle.hv_lists.proofs.Bools.{both_true}
 use Rattle.hv_text.specs.Bytes.{is_word_byte, is_word, lower}
 use Rattle.hv_text.specs.Words.{Piece, word, left, right, bad, class_of, uncommented, beginning, pieces_from, pieces}
 use Rattle.hv_text.specs.declared.words.Class.{Class}
@@ -13,7 +14,7 @@ use Rattle.hv_plan.specs.Values.{Plan}
 use Rattle.hv_plan.specs.Lines.{NumberedLine}
 use Rattle.hv_plan.specs.Forms.{Form, blank, action, decomposition, root, is_id, fits}
 use Rattle.hv_plan.specs.Spellings.{Each, no_more, one_more, SpellsName, a_name, SpellsTask, bare, in_parentheses, SpellsForm, no_words, an_action, a_decomposition, a_root, Says, SayPlan, actions_among, decompositions_among, roots_among}
-use Rattle.hv_plan.proofs.LineTexts.{IsTidy, both_true}
+use Rattle.hv_plan.proofs.LineTexts.{IsTidy}
 use Rattle.hv_plan.proofs.FormTexts.{IsName, AreNames, IsSound}
 
 -- the words among pieces are tidy

@@ -6,12 +6,13 @@ use Rattle.std.proofs.lemmas.Bool.{ltb-true, eqb-true}
 use Rattle.std.proofs.lemmas.Bool.Decides.{nat_tests}
 use Rattle.std.proofs.lemmas.List.Sums.{sum_by-cons, sum_by-take-le, count_by_more_yes}
 use Rattle.std.proofs.lemmas.List.Elements.{All-contains, All-cons, All-nil}
+use Rattle.hv_lists.proofs.Contained.{contains_first, in_tail}
 use Rattle.hv_world.specs.Values.{TaskName, compound, primitive}
 use Rattle.hv_world.specs.Alike.{same_name}
 use Rattle.hv_plan.specs.Forms.{every}
 use Rattle.hv_plan.specs.Fits.{multiplicity}
 use Rattle.hv_plan.specs.inside.Tallies.{times, number_in}
-use Rattle.hv_plan.proofs.FitLemmas.{contains_cons, contains_first, contains_rest, partner, every_none}
+use Rattle.hv_plan.proofs.FitLemmas.{contains_cons, partner, every_none}
 
 -- a number at a place stands more often in all than before the place
 pub times_at : (n : ℕ) (xs : List ℕ) (i d : ℕ) → i < length xs → get_or xs i d ≡ n → times n (take i xs) < times n xs
@@ -34,7 +35,7 @@ counted_member {X} test Is sound (x ∷ xs) lt =
         nothing_more lt = omega arith
 
         later : (y : X) × Contains xs y × Is y → (y : X) × Contains (x ∷ xs) y × Is y
-        later (y, in', is) = (y, contains_rest x xs y in', is)
+        later (y, in', is) = (y, in_tail x xs y in', is)
 
 pub times_member : (n : ℕ) (xs : List ℕ) → 0 < times n xs → Contains xs n
 times_member n xs lt =

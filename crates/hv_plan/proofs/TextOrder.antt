@@ -4,7 +4,7 @@ use Rattle.std.specs.Prelude.{Result, Ok, Err, IfOk}
 use Rattle.std.specs.List.Sorted.{IsStrictlyIncreasing}
 use Rattle.std.proofs.lemmas.List.{append_assoc}
 use Rattle.hv_text.specs.Words.{Piece}
-use Rattle.hv_text.specs.Lists.{Once}
+use Rattle.hv_lists.specs.Lists.{Once}
 use Rattle.hv_plan.specs.Values.{Action, Decomposition, Root, Plan}
 use Rattle.hv_plan.specs.Lines.{NumberedLine, numbered, lines, is_start, is_end, behind_start, before_end, between}
 use Rattle.hv_plan.specs.Forms.{Form, blank, action, decomposition, root}

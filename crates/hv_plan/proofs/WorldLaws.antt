@@ -3,6 +3,7 @@ use Rattle.std.proofs.Common.{◌≡◌, ℕ, ◌<◌, inl, inr, List, map, Some
 use Rattle.std.specs.Prelude.{Contains}
 use Rattle.std.specs.List.{AllZip}
 use Rattle.std.proofs.lemmas.List.Elements.{Contains-append_cases}
+use Rattle.hv_lists.proofs.Contained.{map_mem}
 use Rattle.hv_world.specs.Worlds.{World}
 use Rattle.hv_world.specs.Bindings.{GroundAction}
 use Rattle.hv_plan.specs.Values as text
@@ -18,7 +19,7 @@ use Rattle.hv_plan.specs.declared.cause.CauseKind.{CauseKind}
 use Rattle.hv_plan.specs.declared.cause.CauseKind.TheVariants as kinds
 use Rattle.hv_plan.specs.declared.cause.Cause.{Cause}
 use Rattle.hv_plan.proofs.FitLemmas.{partner, action_has_no_fault, decomposed_has_no_fault}
-use Rattle.hv_plan.proofs.FormLaws.{contains_of_map, form_has_no_cause, qualifies_by}
+use Rattle.hv_plan.proofs.FormLaws.{form_has_no_cause, qualifies_by}
 
 -- a line that qualifies for a cause past 61 does so by its children
 by_children : {w : World} {p : Plan} (k : CauseKind) (l : ℕ) → Qualifies w p k l → 61 < number k → ChildFaultIn w p (parents p) k l
@@ -43,7 +44,7 @@ module _ (w : World) (p : Plan) (form : FormTree p) (gs : List GroundAction) (xs
   -- no line is at fault by itself
   pub none_at_fault : (k : CauseKind) (l : ℕ) → FaultIn w (entries p) k l → ⊥
   none_at_fault k l (e, x, f, is) =
-      elim (Contains-append_cases (map action_entry p.actions) (map line_entry p.decompositions) e x) [ inl y ↦ of_action (contains_of_map action_entry p.actions e y) | inr y ↦ of_line (contains_of_map line_entry p.decompositions e y) ]
+      elim (Contains-append_cases (map action_entry p.actions) (map line_entry p.decompositions) e x) [ inl y ↦ of_action (map_mem action_entry p.actions e y) | inr y ↦ of_line (map_mem line_entry p.decompositions e y) ]
     where
       of_action : (a : text.Action) × Contains p.actions a × (action_entry a ≡ e) → ⊥
       of_action (a, y, same) =

@@ -3,7 +3,7 @@ use Rattle.std.specs.Prelude.{◌≡◌, ◌≢◌, ℕ, zero, suc, ◌+◌, ◌
 use Rattle.std.specs.List.{AllZip}
 use Rattle.hv_world.specs.Values.{compound, primitive}
 use Rattle.hv_world.specs.Bindings.{GroundAction}
-use Rattle.hv_text.specs.Lists.{Once}
+use Rattle.hv_lists.specs.Lists.{Once}
 use Rattle.hv_world.specs.Worlds.{World, method_named}
 use Rattle.hv_plan.specs.Values.{Action, Decomposition, Root, Plan}
 use Rattle.hv_plan.specs.Shapes.{head, FormTree}

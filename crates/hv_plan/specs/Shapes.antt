@@ -1,7 +1,7 @@
 -- When the lines of a plan form a tree below `root`.
 use Rattle.std.specs.Prelude.{ℕ, List, ◌∷◌, ◌++◌, map, flat_map, Contains, Option, None, Some}
 use Rattle.std.specs.List.Sorted.{IsStrictlyIncreasing}
-use Rattle.hv_text.specs.Lists.{Once}
+use Rattle.hv_lists.specs.Lists.{Once}
 use Rattle.hv_plan.specs.Values.{Action, Decomposition, Root, Plan}
 
 -- what a decomposition line says before its arrow, where it is as an action line

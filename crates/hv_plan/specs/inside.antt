@@ -9,5 +9,4 @@ pub mod ShapeViews
 pub mod Tallies
 pub mod ChildFaults
 pub mod NodeViews
-pub mod IdTables
 pub mod Tables

@@ -1,43 +1,26 @@
 //! Tables of ids, and what they are hashed from.
 
-ghost use Rattle.std.specs.Prelude.{◌≡◌, IfOk};
-ghost use Rattle.hv_text.specs.Lists.{Once};
-ghost use Rattle.hv_plan.specs.inside.IdTables.{start_of};
+ghost use Rattle.std.specs.Prelude.{◌≡◌, IfOk, fold};
+ghost use Rattle.std.specs.List.{flat_map};
+ghost use Rattle.std.specs.Hash as fed;
+ghost use Rattle.std.specs.Hash.DefaultHasher as sip;
+ghost use Rattle.hv_lists.specs.Lists.{Once};
+ghost use Rattle.hv_text.specs.Seeds.{start_of};
 ghost use Rattle.hv_plan.specs.inside.Shaping.{place_of};
 
-use hv_text::Memory;
+use hv_text::{Memory, Seeded};
 use indexmap::IndexSet;
 use std::alloc::Global;
-use std::hash::{BuildHasher, DefaultHasher, Hasher};
 
-/// The hasher of a table of ids. Its start has taken in every id of the table, so that whoever wants
-/// ids that collide has to find them under a start that each of them changes.
-#[derive(Clone, Copy)]
-pub struct Seeded {
-    start: DefaultHasher,
-}
-
-impl Seeded {
-    /// The start that has taken in these ids.
-    pub(crate) fn of(ids: &[u64]) -> Seeded
-        ensures { result.start ≡ start_of ids.now }
-    {
-        let mut start = DefaultHasher::new();
-        for id in ids {
-            start.write_u64(*id);
-        }
-        Seeded { start }
+/// The hasher of a table of these ids: its start has taken in all of them.
+pub(crate) fn seed_of(ids: &[u64]) -> Seeded
+    ensures { start_of result ≡ fold sip.write sip.initial (flat_map fed.u64 ids.now) }
+{
+    let mut seed = Seeded::new();
+    for id in ids {
+        seed.take_in(id);
     }
-}
-
-impl BuildHasher for Seeded {
-    type Hasher = DefaultHasher;
-
-    ghost build_hasher = { λ s. s.start };
-
-    fn build_hasher(&self) -> DefaultHasher {
-        self.start
-    }
+    seed
 }
 
 /// The table of ids of which each stands once, each with its place.
@@ -49,7 +32,7 @@ pub fn table_of_ids(alloc: Global, ids: &[u64]) -> Result<IndexSet<u64, Seeded>,
     requires { Once ids.now }
     ensures { IfOk result (λ t. t.keys ≡ ids.now) }
 {
-    let mut table = IndexSet::with_capacity_and_hasher(alloc, ids.len(), Seeded::of(ids))?;
+    let mut table = IndexSet::with_capacity_and_hasher(alloc, ids.len(), seed_of(ids))?;
     for id in ids {
         table.insert(*id)?;
     }

@@ -22,7 +22,7 @@ mod tree;
 
 pub use cause::{Cause, CauseKind, TreeFault};
 pub use fault::PlanFault;
-pub use id_table::{Seeded, place_in, table_of_ids};
+pub use id_table::{place_in, table_of_ids};
 pub use laws::{
     a_plan_has_one_tree, a_plan_or_a_fault, a_tree_or_a_cause, forms_are_spelled, nodes_are_lines,
     plans_are_read_back, plans_are_small, plans_are_spelled,

@@ -12,7 +12,7 @@ mod table;
 mod walk;
 
 ghost use Rattle.std.specs.Prelude.{◌≡◌, ◌+◌, None, length, IfOk, IfErr, OnOk};
-ghost use Rattle.hv_text.specs.Lists.{Once};
+ghost use Rattle.hv_lists.specs.Lists.{Once};
 ghost use Rattle.hv_plan.specs.Causes.{number};
 ghost use Rattle.hv_plan.specs.LineViews.{plan_view};
 ghost use Rattle.hv_plan.specs.Shapes.{ids, all_children, FormTree};

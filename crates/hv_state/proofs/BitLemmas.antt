@@ -6,9 +6,10 @@ use Rattle.std.proofs.lemmas.Bool.{cases_eq, cases_lt}
 use Rattle.std.proofs.lemmas.List.{get_or_default}
 use Rattle.std.proofs.lemmas.List.Elements.{Contains-push, Contains-push_cases, Contains-append_left}
 use Rattle.std.proofs.lemmas.Nat.Bits.{bit_at_ones, bit_at_set_same, bit_at_set_other, bit_at_clear_same, bit_at_clear_other}
+use Rattle.hv_lists.proofs.Contained.{contains_first, in_tail, none_in_empty}
 use Rattle.hv_state.specs.inside.Rows.{IsBelow, Ascend}
 use Rattle.hv_state.specs.inside.Bits.{Has, Bits, Lit, Knows}
-use Rattle.hv_state.proofs.RowLemmas.{below_itself, contains_cases, contains_first, contains_later, contains_none}
+use Rattle.hv_state.proofs.RowLemmas.{below_itself, contains_cases}
 
 -- one word of several changes
 module _ (ws : List ℕ) (s : ℕ) (w : s / 64 < length ws) where
@@ -118,7 +119,7 @@ module _ {X : Type 0} (now new : X → Type 0) (x : X) (rest : List X) (Q : X �
     where
       from : new r ⊎ Contains rest r → Q r
       from (inl m) = elim ((one r).0 m) [ inl o ↦ (before r).0 (inl o) | inr e ↦ (before r).0 (inr (subst (λ y. Contains (y ∷ rest) r) e (contains_first r rest))) ]
-      from (inr m) = (before r).0 (inr (contains_later r x rest m))
+      from (inr m) = (before r).0 (inr (in_tail x rest r m))
 
       to : now r ⊎ Contains (x ∷ rest) r → new r ⊎ Contains rest r
       to (inl m) = inl ((one r).1 (inl m))
@@ -133,15 +134,15 @@ module _ {X : Type 0} (now new : X → Type 0) (x : X) (rest : List X) (Q : X �
       to : Q r → new r × (Contains rest r → ⊥)
       to q =
           let o = (before r).1 q in
-          ((one r).1 (o.0, λ e. o.1 (subst (λ y. Contains (y ∷ rest) r) e (contains_first r rest))), λ l. o.1 (contains_later r x rest l))
+          ((one r).1 (o.0, λ e. o.1 (subst (λ y. Contains (y ∷ rest) r) e (contains_first r rest))), λ l. o.1 (in_tail x rest r l))
 
 -- nothing is left
 module _ {X : Type 0} (now : X → Type 0) (left : List X) (none : left ≡ []) (Q : X → Type 0) where
   pub all_set : ((r : X) → (now r ⊎ Contains left r) ↔ Q r) → (r : X) → now r ↔ Q r
-  all_set before r = (λ m. (before r).0 (inl m), λ q. elim ((before r).1 q) [ inl m ↦ m | inr l ↦ absurd (contains_none r (subst (λ xs. Contains xs r) none l)) ])
+  all_set before r = (λ m. (before r).0 (inl m), λ q. elim ((before r).1 q) [ inl m ↦ m | inr l ↦ absurd (none_in_empty r (subst (λ xs. Contains xs r) none l)) ])
 
   pub all_cleared : ((r : X) → (now r × (Contains left r → ⊥)) ↔ Q r) → (r : X) → now r ↔ Q r
-  all_cleared before r = (λ m. (before r).0 (m, λ l. contains_none r (subst (λ xs. Contains xs r) none l)), λ q. ((before r).1 q).0)
+  all_cleared before r = (λ m. (before r).0 (m, λ l. none_in_empty r (subst (λ xs. Contains xs r) none l)), λ q. ((before r).1 q).0)
 
 -- the rows below a place whose bits are set
 abbrev pub LitBelow : Bits → ℕ → List ℕ → Type 0

@@ -1,6 +1,7 @@
 -- What changes tell of the states of a plan.
 use Rattle.std.proofs.Common.{◌≡◌, ◌<◌, ◌≤◌, ◌+◌, ◌++◌, ◌↔◌, ◌⊎◌, inl, inr, ℕ, zero, suc, Bool, true, false, IsTrue, nat_le, List, [], ◌∷◌, Option, None, Some, if◌then◌else◌, refl, sym, ◌∙◌, subst, arith}
 use Rattle.std.proofs.lemmas.Bool.{cases_lt}
+use Rattle.hv_lists.proofs.Bools.{if_true, if_false}
 use Rattle.hv_world.specs.Types.{Typing}
 use Rattle.hv_world.specs.Values.{Formula, Formulas, holds, and, or, not, imply, forall, exists, equal, no_formulas, more_formulas}
 use Rattle.hv_world.specs.Bindings.{GroundAtom, atom_under}
@@ -19,14 +20,6 @@ is_from n k le = grind arith
 
 is_later : (n k : ℕ) → k < n → nat_le n k ≡ false
 is_later n k lt = grind arith
-
-pub if_true : {A : Type 0} (b : Bool) (x y : A) → b ≡ true → (if b then x else y) ≡ x
-if_true true x y e = refl
-if_true false x y e = absurd cc
-
-pub if_false : {A : Type 0} (b : Bool) (x y : A) → b ≡ false → (if b then x else y) ≡ y
-if_false true x y e = absurd cc
-if_false false x y e = refl
 
 module _ (p : Plan) (g : GroundAtom) where
   -- behind the last change nothing is told anew

@@ -7,6 +7,7 @@ use Rattle.std.proofs.lemmas.Bool.{cases_lt}
 use Rattle.std.proofs.lemmas.List.{get_or-map, length-map, length-append, map_push}
 use Rattle.std.proofs.lemmas.List.Elements.{Contains-append_left, Contains-push, Contains-push_cases}
 use Rattle.std.proofs.lemmas.List.Quantifiers.{all_pairs_push}
+use Rattle.hv_lists.proofs.Bools.{if_true, if_false}
 use Rattle.hv_state.specs.declared.history.Change as code
 use Rattle.hv_state.specs.declared.history.History.{History}
 use Rattle.hv_state.specs.declared.rows.Row.{Row}
@@ -17,7 +18,7 @@ use Rattle.hv_state.specs.inside.Notes.{Before, EndsAt, IsTurned, IsTurnedAt, re
 use Rattle.hv_state.proofs.RowLemmas.{below_itself}
 use Rattle.hv_state.proofs.PlanLemmas.{read_there}
 use Rattle.hv_state.proofs.ChangeLemmas.{is_from, told_push}
-use Rattle.hv_state.proofs.HistoryLemmas.{if_true, if_false, is_row, no_row, tail_ascends, beside_at, last_is}
+use Rattle.hv_state.proofs.HistoryLemmas.{is_row, no_row, tail_ascends, beside_at, last_is}
 
 -- one of the code's histories
 pub set_replaces : (hs : List History) (i : ℕ) (h new : History) → i < length hs → h ≡ get_or hs i h → new.row ≡ h.row → map history_view (set hs i new) ≡ replaced (map history_view hs) i (changes_of new)

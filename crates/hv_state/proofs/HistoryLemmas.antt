@@ -5,6 +5,8 @@ use Rattle.std.specs.List.Sorted.{IsNonDecreasingBy, IsPartitionPoint}
 use Rattle.std.specs.Cmp.Lexicographic.{bytes_decides}
 use Rattle.std.proofs.lemmas.Bool.{cases_lt}
 use Rattle.std.proofs.lemmas.List.{get_or-map, get_or_default, length-map}
+use Rattle.hv_lists.proofs.Bools.{if_true, if_false}
+use Rattle.hv_lists.proofs.Contained.{none_in_empty}
 use Rattle.hv_state.specs.declared.history.Change as code
 use Rattle.hv_state.specs.declared.history.History.{History}
 use Rattle.hv_world.specs.Bindings.{GroundAtom}
@@ -12,7 +14,7 @@ use Rattle.hv_state.specs.inside.Bits.{Has}
 use Rattle.hv_state.specs.inside.Rows.{row_of, atom_of, IsBelow, Ascend, IsPlace}
 use Rattle.hv_state.specs.Changes.{Change, told_from, told}
 use Rattle.hv_state.specs.inside.Histories.{Table, Rise, beside, rows_of, change_view, changes_of, history_view, kept, AreFlagged}
-use Rattle.hv_state.proofs.RowLemmas.{below_itself, contains_cases, contains_none}
+use Rattle.hv_state.proofs.RowLemmas.{below_itself, contains_cases}
 
 -- the rows of histories
 abbrev pub numbers : History → List ℕ
@@ -51,14 +53,6 @@ abbrev at_place : Option Bool → List code.Change → ℕ → Option Bool
 at_place o cs zero = o
 at_place o [] (suc i) = o
 at_place o (c ∷ cs) (suc i) = at_place (Some c.is_true) cs i
-
-pub if_true : {A : Type 0} (b : Bool) (x y : A) → b ≡ true → (if b then x else y) ≡ x
-if_true true x y e = refl
-if_true false x y e = absurd cc
-
-pub if_false : {A : Type 0} (b : Bool) (x y : A) → b ≡ false → (if b then x else y) ≡ y
-if_false true x y e = absurd cc
-if_false false x y e = refl
 
 told_by : (k : ℕ) (o : Option Bool) (cs : List code.Change) (i : ℕ) → i ≤ length cs → ((j : ℕ) (d : code.Change) → j < i → nat_le (get_or cs j d).from k ≡ true) → ((j : ℕ) (d : code.Change) → i ≤ j → j < length cs → nat_le (get_or cs j d).from k ≡ false)
     → told_from o k (map change_view cs) ≡ at_place o cs i
@@ -153,4 +147,4 @@ flagged_more old new rows left rest row n is more raised before r m = by (before
     by (inr l) = elim (contains_cases r row rest (subst (λ xs. Contains xs r) more l)) [ inl e ↦ inl (raised (atom_of r).predicate (inr (ap (λ x. (atom_of x).predicate) e ∙ sym is))) | inr k ↦ inr k ]
 
 pub flagged_all : (flags : List ℕ) (rows left : List (List ℕ)) → left ≡ [] → FlaggedBut flags rows left → AreFlagged flags rows
-flagged_all flags rows left none but r m = elim (but r m) [ inl h ↦ h | inr l ↦ absurd (contains_none r (subst (λ xs. Contains xs r) none l)) ]
+flagged_all flags rows left none but r m = elim (but r m) [ inl h ↦ h | inr l ↦ absurd (none_in_empty r (subst (λ xs. Contains xs r) none l)) ]

@@ -16,8 +16,8 @@ pub mod MadeLemmas
 pub mod NextLemmas
 pub mod DecisionLemmas
 pub mod WordLemmas
-pub mod BetweenLemmas
 pub mod BitLemmas
 pub mod LitLemmas
 pub mod TakeLemmas
 pub mod GuessLemmas
+pub mod Cited

@@ -1,6 +1,7 @@
 -- What a change of the rows that are lit is to a state.
 use Rattle.std.proofs.Common.{◌≡◌, ◌≤◌, ◌<◌, ◌*◌, ◌++◌, ◌↔◌, ◌⊎◌, inl, inr, ℕ, List, [], length, map, Result, Ok, Err, IfOk, get_or, ◌+◌, ◌∷◌, refl, sym, subst, ◌∙◌, ap, arith}
 use Rattle.std.specs.List.{Contains}
+use Rattle.hv_lists.proofs.Contained.{none_in_empty}
 use Rattle.hv_state.specs.declared.rows.Row.{Row}
 use Rattle.std.proofs.lemmas.List.{get_or_default, get_or-map, length-map, map_push}
 use Rattle.std.proofs.lemmas.List.Elements.{Contains-append_left, Contains-append_right, Contains-append_cases, Contains-push, Contains-push_cases}
@@ -8,7 +9,7 @@ use Rattle.hv_world.specs.Bindings.{GroundAtom}
 use Rattle.hv_state.specs.Atoms.{Same, After}
 use Rattle.hv_state.specs.inside.Rows.{row_of, rows_in, Ascend, HasSameRows}
 use Rattle.hv_state.specs.inside.Bits.{Has, Bits, Lit, Shown, Knows, AreBits, AreLit, AreDark, AreLacking, IsChanged}
-use Rattle.hv_state.proofs.RowLemmas.{contains_cases, contains_none}
+use Rattle.hv_state.proofs.RowLemmas.{contains_cases}
 use Rattle.hv_state.proofs.StateLemmas.{atom_listed, row_listed}
 use Rattle.hv_state.proofs.BitLemmas.{LitBelow, one_place, lit_more, dark_more}
 
@@ -86,7 +87,7 @@ module _ (rows more new rest : List (List ℕ)) (row : List ℕ) (so_far : IsLac
 
 pub lacks_all : (rows more new left : List (List ℕ)) → left ≡ [] → IsLackingUpTo rows more new left → AreLacking rows more new
 lacks_all rows more new left none so_far = record {
-  all = λ r m. elim (so_far.0 r m) [ inl known ↦ known | inr l ↦ absurd (contains_none r (subst (λ xs. Contains xs r) none l)) ];
+  all = λ r m. elim (so_far.0 r m) [ inl known ↦ known | inr l ↦ absurd (none_in_empty r (subst (λ xs. Contains xs r) none l)) ];
   apart = so_far.1;
 }
 

@@ -3,6 +3,7 @@ use Rattle.std.proofs.Common.{◌≡◌, ◌++◌, ◌↔◌, ◌⊎◌, inl, in
 use mathlib.Core.Bool.{beq}
 use Rattle.std.specs.List.{Contains}
 use Rattle.std.proofs.lemmas.List.{append-nil, append_assoc}
+use Rattle.hv_lists.proofs.Contained.{contains_first, in_tail, none_in_empty}
 use Rattle.hv_world.specs.Bindings.{GroundAtom}
 use Rattle.hv_world.specs.Effects.{Makes, itself, for_objects, SomeMakes, first, later}
 use Rattle.hv_world.specs.Groundings.{AreOf}
@@ -14,7 +15,6 @@ use Rattle.hv_state.specs.Atoms.{Atoms, Same}
 use Rattle.hv_state.specs.Truth.{ForSome}
 use Rattle.hv_state.specs.inside.Makings.{IsMadeBy, IsMadeBySome}
 use Rattle.hv_state.specs.inside.Rows.{row_of, atom_of, IsRowOf}
-use Rattle.hv_state.proofs.RowLemmas.{contains_first, contains_later, contains_none}
 use Rattle.hv_state.proofs.SomeLemmas.{SomeOf}
 use Rattle.hv_state.proofs.StateLemmas.{same_atom, atom_listed, row_listed}
 
@@ -111,11 +111,11 @@ rows_again [] S are = refl
 rows_again (r ∷ rows) S are =
     let x = are r (contains_first r rows) in
     let this : r ≡ row_of (atom_of r) = sym x.2 ∙ ap (λ y. row_of (atom_of y)) x.2 in
-    ap (λ y. y ∷ rows) this ∙ ap (λ ys. row_of (atom_of r) ∷ ys) (rows_again rows S (λ y m. are y (contains_later y r rows m)))
+    ap (λ y. y ∷ rows) this ∙ ap (λ ys. row_of (atom_of r) ∷ ys) (rows_again rows S (λ y m. are y (in_tail r rows y m)))
 
 module _ (rows : List (List ℕ)) (S : Atoms) (joined : Joined [] S rows) where
   of_atoms : (r : List ℕ) → Contains rows r → IsRowOf S r
-  of_atoms r m = elim ((joined r).0 m) [ inl l ↦ absurd (contains_none r l) | inr x ↦ x ]
+  of_atoms r m = elim ((joined r).0 m) [ inl l ↦ absurd (none_in_empty r l) | inr x ↦ x ]
 
   pub rows_of_atoms : rows ≡ map row_of (map atom_of rows)
   rows_of_atoms = rows_again rows S of_atoms

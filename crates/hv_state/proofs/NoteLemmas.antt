@@ -5,6 +5,8 @@ use Rattle.std.specs.List.{Contains}
 use Rattle.std.specs.Cmp.Lexicographic.{bytes_decides}
 use Rattle.std.proofs.lemmas.Bool.{cases_lt}
 use Rattle.std.proofs.lemmas.List.{length-append, at_drop_more}
+use Rattle.hv_lists.proofs.Bools.{if_true}
+use Rattle.hv_lists.proofs.Contained.{contains_first, in_tail, none_in_empty}
 use Rattle.hv_world.specs.Bindings.{GroundAtom, GroundAction}
 use Rattle.hv_world.specs.Effects.{Adds, Deletes}
 use Rattle.hv_world.specs.Worlds.{World, Action}
@@ -16,20 +18,20 @@ use Rattle.hv_state.specs.Plans.{Plan, AfterAction, StateAt, IsApplicableIn, IsA
 use Rattle.hv_state.specs.Changes.{Change, Stays, AreChanges, none_yet, stays, turns, told, Tells, TrueAfter}
 use Rattle.hv_state.specs.inside.Histories.{Table, beside, rows_of, kept}
 use Rattle.hv_state.specs.inside.Notes.{TouchedBy, TouchedIn, AreDone, Before, IsTurned, Turns, IsOn, IsSet, IsReady, IsPassed, IsRecorded}
-use Rattle.hv_state.proofs.RowLemmas.{contains_first, contains_later, contains_cases, contains_none}
+use Rattle.hv_state.proofs.RowLemmas.{contains_cases}
 use Rattle.hv_state.proofs.StateLemmas.{same_atom, atom_listed, row_listed}
 use Rattle.hv_state.proofs.PlanLemmas.{read_there, applies, acted, applicable_same, applicable_if, only_if, same_back, same_through, after_same, next_state, push_at, deleted_is_not, other_stays}
 use Rattle.hv_state.proofs.GrowLemmas.{empty_rows}
-use Rattle.hv_state.proofs.ChangeLemmas.{told_push, if_true, is_from, late, Says, tells}
+use Rattle.hv_state.proofs.ChangeLemmas.{told_push, is_from, late, Says, tells}
 
 -- whether a list has an atom
 row_decided : (xs : List (List ℕ)) (x : List ℕ) → Contains xs x ⊎ (Contains xs x → ⊥)
-row_decided [] x = inr (contains_none x)
+row_decided [] x = inr (none_in_empty x)
 row_decided (y ∷ ys) x = by (bytes_eq x y) (bytes_decides x y).0 (bytes_decides x y).1 (row_decided ys x)
   where
     by : (b : Bool) → (b ≡ true → x ≡ y) → (x ≡ y → b ≡ true) → Contains ys x ⊎ (Contains ys x → ⊥) → Contains (y ∷ ys) x ⊎ (Contains (y ∷ ys) x → ⊥)
     by true is not rest = inl (subst (λ z. Contains (z ∷ ys) x) (is refl) (contains_first x ys))
-    by false is not (inl m) = inl (contains_later x y ys m)
+    by false is not (inl m) = inl (in_tail y ys x m)
     by false is not (inr out) = inr (λ m. elim (contains_cases x y ys m) [ inl e ↦ true≢false (sym (not e)) | inr l ↦ out l ])
 
 pub decided : (gs : List GroundAtom) (g : GroundAtom) → Contains gs g ⊎ (Contains gs g → ⊥)

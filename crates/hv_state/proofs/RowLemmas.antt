@@ -1,5 +1,6 @@
 -- Facts on rows in order.
 use Rattle.std.proofs.Common.{◌≡◌, ◌<◌, ◌≤◌, ◌+◌, ◌-◌, ◌++◌, ◌↔◌, ◌⊎◌, inl, inr, ℕ, zero, suc, List, [], ◌∷◌, length, map, take, drop, get_or, Result, Ok, Err, IsOk, is_ok, if◌then◌else◌, true≢false, true, refl, sym, ap, ◌∙◌, subst, arith}
+use Rattle.hv_lists.proofs.Contained.{contains_first, none_in_empty, in_tail}
 use Rattle.hv_state.specs.declared.rows.Row.{Row}
 use Rattle.std.specs.List.{Contains, insert, remove}
 use Rattle.std.specs.List.Sorted.{IsNonDecreasingBy, IsSearchInRange, IsBinarySearchResult}
@@ -240,12 +241,6 @@ module _ {X : Type 0} (f : X → List ℕ) (vs new : List X) (i : ℕ) (v : X) (
   insert_with = rw seen_inserted (inserted (map f vs) i (f v) gap)
 
 -- one row less to take out, one less to put in
-pub contains_first : {X : Type 0} (x : X) (xs : List X) → Contains (x ∷ xs) x
-contains_first x xs = (0, omega arith, refl)
-
-pub contains_later : {X : Type 0} (x y : X) (xs : List X) → Contains xs x → Contains (y ∷ xs) x
-contains_later x y xs m = (suc m.0, omega (arith, m.1), m.2)
-
 pub contains_cases : {X : Type 0} (x y : X) (xs : List X) → Contains (y ∷ xs) x → (x ≡ y) ⊎ Contains xs x
 contains_cases x y xs (zero, lt, e) = inl (sym e)
 contains_cases x y xs (suc k, lt, e) = inr (k, omega arith, e)
@@ -260,7 +255,7 @@ take_out_more now new rest row Q without before r = (from, to)
     to : Q r → Contains new r × (Contains rest r → ⊥)
     to q =
         let old = (before r).1 q in
-        ((without r).1 (old.0, λ e. old.1 (subst (λ x. Contains (x ∷ rest) r) e (contains_first r rest))), λ l. old.1 (contains_later r row rest l))
+        ((without r).1 (old.0, λ e. old.1 (subst (λ x. Contains (x ∷ rest) r) e (contains_first r rest))), λ l. old.1 (in_tail row rest r l))
 
 pub put_in_more : {X : Type 0} (f : X → List ℕ) (now new : List (List ℕ)) (left : List X) (all : List (List ℕ)) (v : X) (Q : List ℕ → Type 0) → IsWith now (f v) new → all ≡ map f (left ++ v ∷ [])
     → ((r : List ℕ) → (Contains now r ⊎ Contains all r) ↔ Q r) → (r : List ℕ) → (Contains new r ⊎ Contains (map f left) r) ↔ Q r
@@ -289,18 +284,15 @@ put_there (Ok a) there old new ok e = e
 put_there (Err b) there old new ok e = absurd (true≢false (sym ok))
 
 -- nothing is left to take out, or to put in
-pub contains_none : {X : Type 0} (x : X) → Contains [] x → ⊥
-contains_none x m = omega (arith, m.1)
-
 pub taken_out : (now left : List (List ℕ)) (Q : List ℕ → Type 0) → left ≡ [] → ((r : List ℕ) → (Contains now r × (Contains left r → ⊥)) ↔ Q r) → (r : List ℕ) → Contains now r ↔ Q r
-taken_out now left Q done before r = (λ m. (before r).0 (m, λ l. contains_none r (subst (λ xs. Contains xs r) done l)), λ q. ((before r).1 q).0)
+taken_out now left Q done before r = (λ m. (before r).0 (m, λ l. none_in_empty r (subst (λ xs. Contains xs r) done l)), λ q. ((before r).1 q).0)
 
 pub put_in : (now left : List (List ℕ)) (Q : List ℕ → Type 0) → left ≡ [] → ((r : List ℕ) → (Contains now r ⊎ Contains left r) ↔ Q r) → (r : List ℕ) → Contains now r ↔ Q r
 put_in now left Q done before r = (λ m. (before r).0 (inl m), λ q. by ((before r).1 q))
   where
     by : Contains now r ⊎ Contains left r → Contains now r
     by (inl m) = m
-    by (inr l) = absurd (contains_none r (subst (λ xs. Contains xs r) done l))
+    by (inr l) = absurd (none_in_empty r (subst (λ xs. Contains xs r) done l))
 
 pub none_left : {X : Type 0} (xs : List X) → length xs ≡ 0 → xs ≡ []
 none_left [] e = refl

@@ -25,10 +25,6 @@ pub on_err_weaker : {T E P Q : Type 0} (r : Result T E) → (P → Q) → OnErr 
 on_err_weaker (Ok x) h p = tt
 on_err_weaker (Err e) h p = h p
 
-pub on_err : {T E : Type 0} (r : Result T E) (P : Type 0) → P → OnErr r P
-on_err (Ok x) P p = tt
-on_err (Err e) P p = p
-
 pub begun : (rows new : List (List ℕ)) (gs : List GroundAtom) → rows ≡ map row_of gs → HasSameRows rows new → Same (Listed new) (Contains gs)
 begun rows new gs is same g = (λ m. atom_listed gs g (subst (λ xs. Contains xs (row_of g)) is ((same (row_of g)).0 m)), λ m. (same (row_of g)).1 (subst (λ xs. Contains xs (row_of g)) (sym is) (row_listed gs g m)))
 

@@ -4,6 +4,7 @@ use Rattle.std.specs.Global.{Vec}
 use Rattle.std.specs.List.{Contains}
 use Rattle.std.proofs.lemmas.List.{append-nil, append_assoc}
 use Rattle.std.proofs.lemmas.List.Elements.{Contains-append_left, Contains-append_right, Contains-append_cases}
+use Rattle.hv_lists.proofs.Contained.{contains_first, in_tail, none_in_empty}
 use Rattle.hv_world.specs.Bindings.{GroundAtom, atom_under}
 use Rattle.hv_world.specs.Types.{Typing}
 use Rattle.hv_world.specs.Values.{Atom, becomes}
@@ -15,21 +16,21 @@ use Rattle.hv_state.specs.inside.Notes.{IsSet}
 use Rattle.hv_state.specs.inside.Rows.{row_of, rows_in, IsRowOf, HaveCome, HaveJoined}
 use Rattle.hv_state.specs.inside.Takings.{TakenInTurn, no_more, one_more, HaveBeenTaken}
 use Rattle.hv_state.proofs.NoteLemmas.{set_both, set_like, set_nothing}
-use Rattle.hv_state.proofs.RowLemmas.{contains_cases, contains_first, contains_later, contains_none}
+use Rattle.hv_state.proofs.RowLemmas.{contains_cases}
 use Rattle.hv_state.proofs.SomeLemmas.{SomeOf, some_more, taken}
 use Rattle.hv_state.proofs.StateLemmas.{row_listed}
 
 -- the first of a list, and the others
 pub first_or_later : (g : GroundAtom) (gs : List GroundAtom) → Same (λ h. (g ≡ h) ⊎ Contains gs h) (Contains (g ∷ gs))
 first_or_later g gs h =
-    (λ m. elim m [ inl e ↦ subst (Contains (g ∷ gs)) e (contains_first g gs) | inr l ↦ contains_later h g gs l ], λ m. elim (contains_cases h g gs m) [ inl e ↦ inl (sym e) | inr l ↦ inr l ])
+    (λ m. elim m [ inl e ↦ subst (Contains (g ∷ gs)) e (contains_first g gs) | inr l ↦ in_tail g gs h l ], λ m. elim (contains_cases h g gs m) [ inl e ↦ inl (sym e) | inr l ↦ inr l ])
 
 module _ {X : Type 0} (takes : GroundAtom → X → X → Type 0) where
   pub taken_none : (S : Atoms) → ((g : GroundAtom) → S g → ⊥) → (x : X) → HaveBeenTaken takes S x x
-  taken_none S out x = ([], (λ g. (λ m. absurd (contains_none g m), λ m. absurd (out g m))), no_more)
+  taken_none S out x = ([], (λ g. (λ m. absurd (none_in_empty g m), λ m. absurd (out g m))), no_more)
 
   pub taken_one : (g : GroundAtom) (x y : X) → takes g x y → HaveBeenTaken takes (λ h. g ≡ h) x y
-  taken_one g x y one = (g ∷ [], (λ h. (λ m. elim ((first_or_later g [] h).1 m) [ inl e ↦ e | inr l ↦ absurd (contains_none h l) ], λ e. (first_or_later g [] h).0 (inl e))), one_more one no_more)
+  taken_one g x y one = (g ∷ [], (λ h. (λ m. elim ((first_or_later g [] h).1 m) [ inl e ↦ e | inr l ↦ absurd (none_in_empty h l) ], λ e. (first_or_later g [] h).0 (inl e))), one_more one no_more)
 
   pub taken_like : (S T : Atoms) → Same S T → (x y : X) → HaveBeenTaken takes S x y → HaveBeenTaken takes T x y
   taken_like S T same x y (gs, all, turn) = (gs, (λ g. (λ m. (same g).0 ((all g).0 m), λ m. (all g).1 ((same g).1 m))), turn)
@@ -70,8 +71,8 @@ rows_put _ old _ no_more = sym (append-nil (rows_in old.items))
 rows_put _ old new (one_more {g} {gs} {y = mid} one rest) = rows_put gs mid new rest ∙ ap (λ rows. rows ++ map row_of gs) one ∙ append_assoc (rows_in old.items) (row_of g ∷ []) (map row_of gs)
 
 row_of_some : (gs : List GroundAtom) (r : List ℕ) → Contains (map row_of gs) r → IsRowOf (Contains gs) r
-row_of_some [] r m = absurd (contains_none r m)
-row_of_some (g ∷ gs) r m = elim (contains_cases r (row_of g) (map row_of gs) m) [ inl e ↦ (g, contains_first g gs, sym e) | inr l ↦ (let (h, at, is) = row_of_some gs r l in (h, contains_later h g gs at, is)) ]
+row_of_some [] r m = absurd (none_in_empty r m)
+row_of_some (g ∷ gs) r m = elim (contains_cases r (row_of g) (map row_of gs) m) [ inl e ↦ (g, contains_first g gs, sym e) | inr l ↦ (let (h, at, is) = row_of_some gs r l in (h, in_tail g gs h at, is)) ]
 
 pub rows_joined : (S : Atoms) (old new : Vec Row) → HaveBeenTaken PutsRow S old new → HaveJoined old.items S new.items
 rows_joined S old new (gs, all, turn) r = (λ m. from (Contains-append_cases (rows_in old.items) (map row_of gs) r (subst (λ rows. Contains rows r) put m)), λ m. subst (λ rows. Contains rows r) (sym put) (to m))
@@ -89,6 +90,6 @@ rows_joined S old new (gs, all, turn) r = (λ m. from (Contains-append_cases (ro
 
 -- atoms set in turn
 pub set_in_turn : (start : Atoms) (from : ℕ) (b : Bool) (gs : List GroundAtom) (t u : Table) → TakenInTurn (λ g. IsSet start (λ h. g ≡ h) from b) gs t u → IsSet start (Contains gs) from b t u
-set_in_turn start from b _ t _ no_more = set_nothing start (Contains []) from b contains_none t
+set_in_turn start from b _ t _ no_more = set_nothing start (Contains []) from b none_in_empty t
 set_in_turn start from b _ t u (one_more {g} {gs} {y = mid} one rest) =
     set_like start (λ h. (g ≡ h) ⊎ Contains gs h) (Contains (g ∷ gs)) from b (first_or_later g gs) t u (set_both start (λ h. g ≡ h) (Contains gs) from b t mid u one (set_in_turn start from b gs mid u rest))

@@ -26,7 +26,7 @@ use std::cell::Cell;
 use std::marker::Model;
 
 /// The atoms that a plan's actions touch, in order, each with its changes; guesses of where an atom
-/// stands, and where those stood that changed last; and for each predicate a bit, which is set where
+/// stands, and where those stood that were found last; and for each predicate a bit, which is set where
 /// an atom of it stands there.
 #[derive(Drop)]
 pub(crate) struct Changes {

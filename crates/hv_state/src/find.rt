@@ -2,17 +2,15 @@
 
 ghost use Rattle.std.specs.Prelude.{◌≡◌, ◌↔◌, ℕ, List, Ok, IsTrue, map, MatchOption, IfOk};
 ghost use Rattle.std.specs.List.{Contains};
-ghost use Rattle.std.specs.declared.cmp.Ordering.TheVariants.{Less, Greater};
 ghost use Rattle.hv_state.specs.Atoms.{atom_read};
 ghost use Rattle.hv_state.specs.inside.Hashes.{TellRows};
-ghost use Rattle.hv_state.specs.inside.Rows.{row_of, Ascend, IsPlace, IsComparedAt};
+ghost use Rattle.hv_state.specs.inside.Rows.{row_of, Ascend, IsPlace};
 
 use crate::atom::AtomView;
 use crate::guesses::{Guesses, hash_of, hash_of_row};
 use crate::rows::{compare, is_row};
 use hv_text::Memory;
 use std::alloc::Global;
-use std::cmp::Ordering;
 
 /// What has a row, by which lists of it are in order.
 pub(crate) trait HasRow {
@@ -50,40 +48,6 @@ fn stands_at<T: HasRow>(list: &[T], place: usize, atom: &AtomView<'_>) -> bool
     }
 }
 
-// Whether there is a row at a place, and it is before that of an atom.
-fn is_before<T: HasRow>(list: &[T], place: usize, atom: &AtomView<'_>) -> bool
-    ensures { IsTrue result →
-        IsComparedAt (map T.numbers list.now) place (row_of (atom_read atom.now)) Less }
-{
-    match list.get(place) {
-        Some(it) => matches!(compare(it.row(), atom), Ordering::Less),
-        None => false,
-    }
-}
-
-// Whether there is a row at a place, and it is behind that of an atom.
-fn is_behind<T: HasRow>(list: &[T], place: usize, atom: &AtomView<'_>) -> bool
-    ensures { IsTrue result →
-        IsComparedAt (map T.numbers list.now) place (row_of (atom_read atom.now)) Greater }
-{
-    match list.get(place) {
-        Some(it) => matches!(compare(it.row(), atom), Ordering::Greater),
-        None => false,
-    }
-}
-
-// Whether the row of an atom would stand between the row at a place and the next.
-fn is_between<T: HasRow>(list: &[T], place: usize, atom: &AtomView<'_>) -> bool
-    requires { Ascend (map T.numbers list.now) }
-    ensures { IsTrue result →
-        Contains (map T.numbers list.now) (row_of (atom_read atom.now)) → ⊥ }
-{
-    match place.checked_add(1) {
-        Some(next) => is_before(list, place, atom) && is_behind(list, next, atom),
-        None => false,
-    }
-}
-
 /// Where the row of an atom stands, if it does: at one of the guesses; else, where there was no room
 /// for all of them, by halving.
 pub(crate) fn look_up<T: HasRow>(
@@ -110,7 +74,7 @@ pub(crate) fn look_up<T: HasRow>(
     }
 }
 
-/// The same, where the row may well stand at this place, or would stand beside it.
+/// The same, where the row may well stand at this place.
 pub(crate) fn look_up_at<T: HasRow>(
     list: &[T],
     guesses: &Guesses,
@@ -125,9 +89,6 @@ pub(crate) fn look_up_at<T: HasRow>(
 {
     if stands_at(list, likely, atom) {
         return Some(likely);
-    }
-    if is_between(list, likely.wrapping_sub(1), atom) || is_between(list, likely, atom) {
-        return None;
     }
     look_up(list, guesses, atom)
 }

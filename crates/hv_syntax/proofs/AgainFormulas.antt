@@ -2,6 +2,7 @@
 use Rattle.std.proofs.Common.{◌≡◌, ℕ, Bool, true, false, List, [], ◌∷◌, length, map, nat_le, Option, Some, None, option_map, refl, sym, ap, ◌∙◌, if◌then◌else◌}
 use Rattle.std.proofs.lemmas.List.{length-map}
 use Rattle.std.specs.Prelude.{IfSome, option_and_then}
+use Rattle.hv_lists.proofs.Options.{not_some}
 use Rattle.hv_text.specs.Trees.{Tree, word, list, Trees, none, more}
 use Rattle.hv_text.specs.declared.span.Span.{Span}
 use Rattle.hv_syntax.specs.declared.word.Head.{Head}
@@ -144,13 +145,10 @@ abbrev pub IsLiteralAgain : Literal → Type 0
 IsLiteralAgain l = literal_of (literal_expression l) ≡ Some (bare_literal l)
 
 -- the expression of an atom is no negation
-none_is_some : {A : Type 0} (x : A) → None ≡ Some x → ⊥
-none_is_some x e = cc
-
 clash : (a : Atom) → IsReadAgain atom_of atom_expression bare_atom a → head_of a.symbol.text ≡ heads.Not → ⊥
 clash a k e =
     let none_read : atom_of (atom_expression a) ≡ None = rw e refl in
-    none_is_some (bare_atom a) (sym none_read ∙ k)
+    not_some (bare_atom a) (sym none_read ∙ k)
 
 atom_stands : (a : Atom) → IsReadAgain atom_of atom_expression bare_atom a → (h : Head) → head_of a.symbol.text ≡ h → negated (atom_expression a) ≡ None
 atom_stands a k heads.Symbol e = rw e refl

@@ -1,6 +1,7 @@
 -- The fields of a list are its pairs.
 use Rattle.std.proofs.Common.{◌≡◌, inl, inr, ◌↔◌, ◌||◌, ℕ, Bool, true, false, not, List, [], ◌∷◌, Option, Some, None, refl, sym, ap, ◌∙◌, subst, if◌then◌else◌}
 use Rattle.std.specs.Option.{is_some}
+use Rattle.hv_lists.proofs.Options.{same_some}
 use Rattle.hv_text.specs.Trees.{Tree, word, list, Trees, none, more}
 use Rattle.hv_text.specs.declared.span.Span.{Span}
 use Rattle.hv_syntax.specs.declared.word.Head.{Head}
@@ -34,12 +35,9 @@ can_be_found : (allowed : List Slot) (s : Slot) → is_in allowed s ≡ true →
 can_be_found [] s h = let clash : false ≡ true = h in cc
 can_be_found (r ∷ rs) s h = either_same r s (same_slot r s) (is_in rs s) refl (can_be_found rs s) h
 
-some_is : {A : Type 0} (a b : A) → Some a ≡ Some b → a ≡ b
-some_is a b e = cc
-
 found_if : (k : Slot) (e : Tree) (o : Option Tree) (fs : List (Slot × Tree)) (s : Slot) (t : Tree) (b : Bool) → same_slot k s ≡ b → (o ≡ Some t → IsOneOf (s, t) fs)
     → (if b then Some e else o) ≡ Some t → IsOneOf (s, t) ((k, e) ∷ fs)
-found_if k e o fs s t true same f h = inl (λ j. (same_slots k s same j, some_is e t h j))
+found_if k e o fs s t true same f h = inl (λ j. (same_slots k s same j, same_some e t h j))
 found_if k e o fs s t false same f h = inr (f h)
 
 found : (ts : Trees) (fs : List (Slot × Tree)) → ArePairs ts fs → (s : Slot) (t : Tree) → field s ts ≡ Some t → IsOneOf (s, t) fs

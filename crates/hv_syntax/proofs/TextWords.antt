@@ -4,6 +4,7 @@ use Rattle.std.proofs.lemmas.Grind.{common_steps}
 use Rattle.std.proofs.lemmas.List.{append-nil, append_assoc, map-append}
 use Rattle.std.proofs.lemmas.List.Sums.{take_while-cons}
 use Rattle.std.specs.List.{take_while, list_all}
+use Rattle.hv_lists.proofs.Bools.{both_true}
 use Rattle.hv_text.specs.Bytes.{is_word_byte, is_word, lower}
 use Rattle.hv_text.specs.Trees.{Tree, word, list, Trees, none, more, trees_of}
 use Rattle.hv_text.specs.Words as found
@@ -59,10 +60,6 @@ mutual
   all_shown : (ts : Trees) → map bare_piece (spelled_all ts) ≡ shown_all ts
   all_shown none = refl
   all_shown (more t ts) = map-append bare_piece (spelled t) (spelled_all ts) ∙ ap (λ x. x ++ map bare_piece (spelled_all ts)) (spelled_shown t) ∙ ap (λ x. shown t ++ x) (all_shown ts)
-
-both_true : (a b : Bool) → (a && b) ≡ true → (a ≡ true) × (b ≡ true)
-both_true true b e = (refl, e)
-both_true false b e = absurd cc
 
 inner_of_word_byte : (b : ℕ) → is_word_byte b ≡ true → class_of b ≡ Inner
 inner_of_word_byte b e = grind (arith, common_steps)

@@ -13,3 +13,4 @@ pub mod ShapeLemmas
 pub mod RestLemmas
 pub mod TextFaults
 pub mod WriteLemmas
+pub mod Cited

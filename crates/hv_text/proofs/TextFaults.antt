@@ -1,6 +1,8 @@
 -- A text has expressions or one fault, never both.
-use Rattle.std.proofs.Common.{◌≡◌, ◌<◌, ◌≤◌, ◌+◌, ◌-◌, ◌==◌, ◌++◌, ◌⊎◌, inl, inr, ℕ, zero, suc, Bool, true, false, List, [], ◌∷◌, length, Option, Some, None, refl, ap, subst, arith, if◌then◌else◌}
+use Rattle.std.proofs.Common.{◌≡◌, ◌<◌, ◌≤◌, ◌+◌, ◌-◌, ◌==◌, ◌++◌, ◌⊎◌, inl, inr, ℕ, Bool, true, false, List, [], ◌∷◌, length, Option, Some, None, refl, ap, subst, arith, if◌then◌else◌}
 use Rattle.std.specs.List.{slice_get}
+use Rattle.std.proofs.lemmas.Option.{slice_get_within}
+use Rattle.hv_lists.proofs.Numbers.{Compared, less, equal, more, compare}
 use Rattle.hv_text.specs.Words.{Piece, word, left, right, bad, pieces, nowhere}
 use Rattle.hv_text.specs.Trees.{Trees}
 use Rattle.hv_text.specs.Sexps.{fault_at, open_before, IsSound, IsFirstFault, IsUnclosed, AreExpressions, HasExpressions, IsTextFault, IsOwnFault, HasOwnFault}
@@ -11,22 +13,6 @@ use Rattle.hv_text.specs.declared.span.Span.{Span}
 use Rattle.hv_text.specs.declared.fault.TextKind.{TextKind}
 use Rattle.hv_text.specs.declared.fault.TheConstants.{MOST_BYTES, MOST_OPEN}
 use Rattle.hv_text.specs.declared.fault.TextKind.TheVariants as kinds
-
--- two numbers: one is less, or they are equal
-pub data Compared (j k : ℕ) : Type 0 where
-  less : j < k → Compared j k
-  equal : j ≡ k → Compared j k
-  more : k < j → Compared j k
-
-pub compare : (j k : ℕ) → Compared j k
-compare zero zero = equal refl
-compare zero (suc k) = less (omega arith)
-compare (suc j) zero = more (omega arith)
-compare (suc j) (suc k) = next (compare j k) where
-  next : Compared j k → Compared (suc j) (suc k)
-  next (less h) = less (omega arith)
-  next (equal e) = equal (ap suc e)
-  next (more h) = more (omega arith)
 
 -- one fault, by its kind and place
 pub record SameFault (k l : TextKind) (s t : Span) : Type 0 where
@@ -46,14 +32,9 @@ one_first ps k l s t (i, here, before) (j, there, earlier) = at (compare i j) wh
       record { kind = ap (λ (f : TextKind × Span). f.0) same; place = ap (λ (f : TextKind × Span). f.1) same }
   at (more h) = let none = before j h in absurd (cc)
 
-within_get : {X : Type 0} (xs : List X) (k : ℕ) (x : X) → slice_get xs k ≡ Some x → k < length xs
-within_get [] k x e = let bad : None ≡ Some x = e in cc
-within_get (y ∷ ys) zero x e = omega arith
-within_get (y ∷ ys) (suc k) x e = let h = within_get ys k x e in omega arith
-
 not_closed : (ps : List Piece) (s : Span) → open_before ps (length ps) ≡ 0 → IsUnclosed ps s → ⊥
 not_closed ps s closed (k, (here, stays), last) =
-    let within = within_get ps k (left s) here in
+    let within = slice_get_within ps k (left s) here in
     let deeper = stays (length ps) within (omega arith) in
     omega arith
 

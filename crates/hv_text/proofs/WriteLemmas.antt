@@ -1,5 +1,5 @@
 -- What was written where a later write fails.
-use Rattle.std.proofs.Common.{◌≡◌, ◌<◌, ◌+◌, ◌++◌, ◌∷◌, ℕ, List, Option, suc, Result, Ok, Err, OnErr, length, take, drop, sym, ◌∙◌, ap, subst, get_or, append_assoc}
+use Rattle.std.proofs.Common.{◌≡◌, ◌<◌, ◌+◌, ◌++◌, ◌∷◌, ℕ, List, Option, suc, length, take, drop, sym, ◌∙◌, ap, subst, get_or, append_assoc}
 use Rattle.std.proofs.lemmas.List.{take-append-drop}
 use Rattle.std.proofs.lemmas.Grind.{flat_map-append}
 use Rattle.std.proofs.Math.Seq.{take-append-add, take-append_seam, drop-cons}
@@ -32,8 +32,3 @@ item_fails {X} f a b c xs i d text h e w v =
     let whole : flat_map f xs ≡ (flat_map f front ++ f x) ++ flat_map f rest =
     ap (flat_map f) split ∙ (flat_map-append f front (x ∷ rest) ∙ sym (append_assoc (flat_map f front) (f x) (flat_map f rest))) in
     subst (AppendsBeginning a c) (sym whole) (longer a c (flat_map f front ++ f x) (flat_map f rest) (behind a b c (flat_map f front) (f x) w (subst (AppendsBeginning b c) e v)))
-
--- what holds in any case holds of a failure
-pub on_err : {T E : Type 0} (r : Result T E) (P : Type 0) → P → OnErr r P
-on_err (Ok x) P p = tt
-on_err (Err e) P p = p

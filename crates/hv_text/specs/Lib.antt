@@ -9,5 +9,5 @@ pub mod Rests
 pub mod Cursors
 pub mod Io
 pub mod Memory
-pub mod Lists
+pub mod Seeds
 pub mod inside

@@ -1,8 +1,8 @@
 -- What a name means, and how names compare.
 use Rattle.std.specs.Prelude.{ℕ, List}
+use Rattle.std.specs.Cmp.Lexicographic.{bytes_decides}
 use Rattle.std.specs.Str.{bytes_eq}
 use Rattle.std.specs.Hash.{HashWrites, Alike, on_Alike, same_Alike}
-use Rattle.std.proofs.lemmas.Slice.Eq.{bytes_eq-Decides}
 use Rattle.hv_text.specs.Bytes.{lower, words_of}
 use Rattle.hv_text.specs.declared.name.Name.{Name}
 
@@ -20,4 +20,4 @@ hash_input_of n = words_of (text_of n)
 
 -- names that are equal are hashed alike
 pub same_hash : Alike (λ (a b : Name). bytes_eq (text_of a) (text_of b)) hash_input_of
-same_hash = on_Alike text_of (same_Alike words_of bytes_eq-Decides)
+same_hash = on_Alike text_of (same_Alike words_of bytes_decides)

@@ -9,6 +9,7 @@ use Rattle.std.proofs.Math.Seq.{take-append_seam}
 use Rattle.std.proofs.lemmas.Slice.Eq.{bytes_eq-Decides}
 use Rattle.std.proofs.lemmas.List.{append-nil}
 use Rattle.indexmap.specs.IndexMap.{insert_entry}
+use Rattle.hv_lists.proofs.Bools.{both_true}
 use Rattle.hv_world.specs.contracts.alike.KeyPartialEq.TheImpl.{eq-value as key-value}
 use Rattle.hv_world.specs.declared.alike.Key as code_key
 use Rattle.hv_world.specs.contracts.id.TaskNamePartialEq.TheImpl.{eq-value}
@@ -114,18 +115,14 @@ fixed_objects_same f g h k [] = refl
 fixed_objects_same f g h k (object o ∷ xs) = rw (h k, fixed_objects_same f g h (k + 1) xs) refl
 fixed_objects_same f g h k (variable v ∷ xs) = fixed_objects_same f g h (k + 1) xs
 
-both : (a b : Bool) → (a && b) ≡ true → (a ≡ true) × (b ≡ true)
-both true b e = (refl, e)
-both false b e = cc
-
 -- at a fixed position each subtask of the name has an object
 pub fixed_has : (ss : List Subtask) (s : Subtask) (k : ℕ) → Contains ss s → is_fixed ss s.name k ≡ true → has_object s.terms k ≡ true
 fixed_has [] s k (i, h, e) f = absurd (omega arith)
 fixed_has (z ∷ ss) s k (zero, h, e) f =
     let same : same_name z.name s.name ≡ true = ap (λ r. same_name r.name s.name) e ∙ same_itself s.name in
-    let first : (if same_name z.name s.name then has_object z.terms k else true) ≡ true = (both _ _ f).0 in
+    let first : (if same_name z.name s.name then has_object z.terms k else true) ≡ true = (both_true _ _ f).0 in
     sym (ap (λ r. has_object r.terms k) e) ∙ sym (ap (λ b. if b then has_object z.terms k else true) same) ∙ first
-fixed_has (z ∷ ss) s k (suc i, h, e) f = fixed_has ss s k (i, omega arith, e) (both _ _ f).1
+fixed_has (z ∷ ss) s k (suc i, h, e) f = fixed_has ss s k (i, omega arith, e) (both_true _ _ f).1
 
 pub none_at_end : (xs : List Term) → has_object xs (length xs) ≡ false
 none_at_end [] = refl
@@ -136,7 +133,7 @@ none_at_end (variable v ∷ xs) = none_at_end xs
 
 pub key_same : (j k : Key) → same_key j k ≡ true → j ≡ k
 key_same j k e =
-    let h = both _ _ e in
+    let h = both_true _ _ e in
     let n : j.name ≡ k.name = name_same j.name k.name h.0 in
     let o : j.objects ≡ k.objects = (bytes_eq-Decides j.objects k.objects).0 h.1 in
     λ i. record { name = n i; objects = o i }

@@ -4,6 +4,8 @@ use Rattle.std.specs.List.{slice_get}
 use Rattle.std.proofs.lemmas.List.{length-map}
 use Rattle.std.proofs.lemmas.List.Elements.{All-weaker, All-map}
 use Rattle.std.proofs.lemmas.List.Quantifiers.{position-Some}
+use Rattle.std.proofs.lemmas.Option.{slice_get_within}
+use Rattle.hv_lists.proofs.Places.{first_none}
 use Rattle.hv_syntax.specs.Values as text
 use Rattle.hv_syntax.specs.Values.{WordAt, Variable, Predicate, Domain, Problem}
 use Rattle.hv_world.specs.declared.fault.StaticKind.{StaticKind}
@@ -17,7 +19,7 @@ use Rattle.hv_world.specs.Worlds.{World, world_of, either_number, number_of_type
 use Rattle.hv_world.specs.Values.{Formula, Effects}
 use Rattle.hv_world.specs.Eithers.{are_same, either_place}
 use Rattle.hv_world.specs.Bounds.{IsType, IsBoundTerm, AreBoundTerms, IsBoundAtom, IsBoundFormula, AreBoundFormulas, IsBoundEffect, AreBoundEffects}
-use Rattle.hv_world.proofs.NoFaults.{first_none, last_none, none_of_each, no_fault}
+use Rattle.hv_world.proofs.NoFaults.{last_none, none_of_each, no_fault}
 use Rattle.hv_world.proofs.AmongLemmas.{number_within, some_within}
 use Rattle.hv_world.proofs.StaticLemmas.{object_is_type}
 
@@ -60,11 +62,6 @@ known_head : (kind : StaticKind) (s : Side) (w : WordAt) (o : Option Signature) 
 known_head kind s w None n e = absurd (cc)
 known_head kind s w (Some g) n e = (g, refl)
 
-pub got_within : {A : Type 0} (xs : List A) (i : ℕ) (x : A) → slice_get xs i ≡ Some x → i < length xs
-got_within [] i x e = absurd (cc)
-got_within (y ∷ ys) zero x e = omega arith
-got_within (y ∷ ys) (suc i) x e = let lt = got_within ys i x e in omega arith
-
 number_at : (ps : List Predicate) (o : Option ℕ) (g : Signature) → signature_at ps o ≡ Some g → g.number < length ps
 number_at ps None g e = absurd (cc)
 number_at ps (Some i) g e = go (slice_get ps i) refl e
@@ -74,7 +71,7 @@ number_at ps (Some i) g e = go (slice_get ps i) refl e
 
     go : (o : Option Predicate) → slice_get ps i ≡ o → elim o [ None ↦ None | Some q ↦ Some (signature i (length q.parameters)) ] ≡ Some g → g.number < length ps
     go None p h = absurd (cc)
-    go (Some q) p h = subst (λ x. x < length ps) (number_is (signature i (length q.parameters)) h) (got_within ps i q p)
+    go (Some q) p h = subst (λ x. x < length ps) (number_is (signature i (length q.parameters)) h) (slice_get_within ps i q p)
 
 module _ (d : Domain) (p : Problem) where
   abbrev k : Known

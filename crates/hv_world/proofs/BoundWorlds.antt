@@ -4,8 +4,9 @@ use Rattle.std.specs.Prelude.{MatchOption}
 use Rattle.std.specs.List.{slice_get, prefix_len}
 use Rattle.std.proofs.lemmas.Bool.Decides.{nat_tests}
 use Rattle.std.proofs.lemmas.List.{length-map}
-use Rattle.std.proofs.lemmas.Option.{get_or_from_slice_get, slice_get-map}
+use Rattle.std.proofs.lemmas.Option.{get_or_from_slice_get, slice_get-map, slice_get_within}
 use Rattle.std.proofs.lemmas.List.Elements.{All-cons, All-nil, All-weaker, All-map, All-append, All-drop, All-take, All-filter}
+use Rattle.hv_lists.proofs.Places.{first_none}
 use Rattle.hv_syntax.specs.Values as text
 use Rattle.hv_syntax.specs.Values.{WordAt, Variable, Domain, Problem}
 use Rattle.hv_text.specs.declared.span.Span.{Span}
@@ -19,11 +20,11 @@ use Rattle.hv_world.specs.Scopes.{Scope, parameters, size}
 use Rattle.hv_world.specs.StaticRules.{at_word_if, head_faults, declared_arity, arity_of_task, variable_faults, atom_faults, literals_faults, term_faults, task_faults, subtask_faults, network_faults, method_faults, action_faults, htn_faults, goal_faults, IsStatic}
 use Rattle.hv_world.specs.Worlds.{World, world_of, variable_type, types_of, term_in, terms_in, atom_in, formula_in, task_of, task_in, constraint_in, network_in, method_in, top_in, task_by, action_in, effects_in}
 use Rattle.hv_world.specs.Bounds.{IsType, IsBoundAtom, IsBoundFormula, AreBoundEffects, TaskTakes, ActionTakes, Takes, IsBoundSubtask, IsBoundConstraint, IsBoundNetwork, IsBoundTask, IsBoundMethod, IsBoundAction, IsBoundGoal, IsBound}
-use Rattle.hv_world.proofs.NoFaults.{first_none, last_none, none_of_each, no_fault}
-use Rattle.hv_world.proofs.BoundLemmas.{IsScope, parameters_scope, got_within, terms_bound, term_bound, atom_bound, types_bound, as_many, formula_bound, effects_bound}
+use Rattle.hv_world.proofs.NoFaults.{last_none, none_of_each, no_fault}
+use Rattle.hv_world.proofs.BoundLemmas.{IsScope, parameters_scope, terms_bound, term_bound, atom_bound, types_bound, as_many, formula_bound, effects_bound}
 
 got : {A : Type 0} (P : A → Type 0) (xs : List A) (i : ℕ) (x : A) → slice_get xs i ≡ Some x → All P xs → P x
-got P xs i x e h = subst P (get_or_from_slice_get xs i x x e) (h i x (got_within xs i x e))
+got P xs i x e h = subst P (get_or_from_slice_get xs i x x e) (h i x (slice_get_within xs i x e))
 
 at_get : {A : Type 0} (P : A → Type 0) (xs : List A) (o : Option ℕ) (x : A) → at_place xs o ≡ Some x → All P xs → P x
 at_get P xs None x e h = absurd (cc)

@@ -4,6 +4,7 @@ use Rattle.std.specs.List.{list_any, range_with_len, Contains, All, slice_index_
 use Rattle.std.proofs.lemmas.List.FromFn.{get_or-range_with_len, length-range_with_len}
 use Rattle.std.proofs.lemmas.List.Folds.{Any-from_list_any, list_any-from_Any}
 use Rattle.std.proofs.lemmas.Bool.{cases_eq, eqb-true, eq-eqb, ltb-true, lt-ltb}
+use Rattle.hv_lists.proofs.Bools.{both_true, or_cases, or_left, or_right, and_both}
 use Rattle.hv_world.specs.Orders.{Written, IsPaired, one_step, more_steps, Before, IsCyclic}
 use Rattle.hv_world.specs.Cycles.{is_pair, is_paired, leads, is_cyclic}
 
@@ -13,28 +14,8 @@ plain i = omega arith
 last_or_less : (m k : ℕ) → m < suc k → (m ≡ k) ⊎ (m < k)
 last_or_less m k lt = elim (cases_eq m k) [ inl e ↦ inl e | inr other ↦ inr (omega (arith, other, lt)) ]
 
-or_split : (a b : Bool) → (a || b) ≡ true → (a ≡ true) ⊎ (b ≡ true)
-or_split true b e = inl refl
-or_split false b e = inr e
-
-and_split : (a b : Bool) → (a && b) ≡ true → (a ≡ true) × (b ≡ true)
-and_split true b e = (refl, e)
-and_split false b e = cc
-
-or_left : (a b : Bool) → a ≡ true → (a || b) ≡ true
-or_left true b e = refl
-or_left false b e = cc
-
-or_right : (a b : Bool) → b ≡ true → (a || b) ≡ true
-or_right true b e = refl
-or_right false b e = e
-
-and_both : (a b : Bool) → a ≡ true → b ≡ true → (a && b) ≡ true
-and_both true b e f = f
-and_both false b e f = cc
-
 same_pair : (i j : ℕ) (p : ℕ × ℕ) → is_pair i j p ≡ true → p ≡ (i, j)
-same_pair i j p e = let f = and_split (nat_eq p.0 i) (nat_eq p.1 j) e in ap₂ (λ a b. (a, b)) (eqb-true p.0 i f.0) (eqb-true p.1 j f.1)
+same_pair i j p e = let f = both_true (nat_eq p.0 i) (nat_eq p.1 j) e in ap₂ (λ a b. (a, b)) (eqb-true p.0 i f.0) (eqb-true p.1 j f.1)
 
 pair_found : (i j : ℕ) (ps : List (ℕ × ℕ)) → list_any (is_pair i j) ps ≡ true → Contains ps (i, j)
 pair_found i j ps e =
@@ -50,10 +31,10 @@ module _ (n : Written) where
       ⊎_elim
       (λ f. inl (pair_found i j n.pairs f))
       (λ f.
-      let g = and_split (n.is_ordered && nat_lt i j) (nat_lt j n.len) f in
-      let h = and_split n.is_ordered (nat_lt i j) g.0 in
+      let g = both_true (n.is_ordered && nat_lt i j) (nat_lt j n.len) f in
+      let h = both_true n.is_ordered (nat_lt i j) g.0 in
       inr (h.0, ltb-true i j h.1, ltb-true j n.len g.1))
-      (or_split (list_any (is_pair i j) n.pairs) (n.is_ordered && nat_lt i j && nat_lt j n.len) e)
+      (or_cases (list_any (is_pair i j) n.pairs) (n.is_ordered && nat_lt i j && nat_lt j n.len) e)
 
   is_there : (i j : ℕ) → IsPaired n i j → is_paired n i j ≡ true
   is_there i j p =
@@ -72,8 +53,8 @@ module _ (n : Written) where
   sound (suc k) i j e =
       ⊎_elim
       (λ f. sound k i j f)
-      (λ f. let g = and_split (leads n k i k) (leads n k k j) f in joined (sound k i k g.0) (sound k k j g.1))
-      (or_split (leads n k i j) (leads n k i k && leads n k k j) e)
+      (λ f. let g = both_true (leads n k i k) (leads n k k j) f in joined (sound k i k g.0) (sound k k j g.1))
+      (or_cases (leads n k i j) (leads n k i k && leads n k k j) e)
 
   further : (k i j : ℕ) → leads n k i j ≡ true → leads n (suc k) i j ≡ true
   further k i j e = or_left (leads n k i j) _ e
@@ -83,10 +64,10 @@ module _ (n : Written) where
 
   -- the k-th is not needed between where it is an end
   to_last : (k i : ℕ) → leads n (suc k) i k ≡ true → leads n k i k ≡ true
-  to_last k i e = ⊎_elim (λ f. f) (λ f. (and_split (leads n k i k) (leads n k k k) f).0) (or_split (leads n k i k) (leads n k i k && leads n k k k) e)
+  to_last k i e = ⊎_elim (λ f. f) (λ f. (both_true (leads n k i k) (leads n k k k) f).0) (or_cases (leads n k i k) (leads n k i k && leads n k k k) e)
 
   from_last : (k j : ℕ) → leads n (suc k) k j ≡ true → leads n k k j ≡ true
-  from_last k j e = ⊎_elim (λ f. f) (λ f. (and_split (leads n k k k) (leads n k k j) f).1) (or_split (leads n k k j) (leads n k k k && leads n k k j) e)
+  from_last k j e = ⊎_elim (λ f. f) (λ f. (both_true (leads n k k k) (leads n k k j) f).1) (or_cases (leads n k k j) (leads n k k k && leads n k k j) e)
 
   -- a stop below k is allowed
   stopped : (k i m j : ℕ) → m < k → leads n k i m ≡ true → leads n k m j ≡ true → leads n k i j ≡ true
@@ -100,15 +81,15 @@ module _ (n : Written) where
       (λ a.
       ⊎_elim
       (λ b. further k i j (stopped k i m j less a b))
-      (λ b. let c = and_split (leads n k m k) (leads n k k j) b in through k i j (stopped k i m k less a c.0) c.1)
-      (or_split (leads n k m j) (leads n k m k && leads n k k j) f))
+      (λ b. let c = both_true (leads n k m k) (leads n k k j) b in through k i j (stopped k i m k less a c.0) c.1)
+      (or_cases (leads n k m j) (leads n k m k && leads n k k j) f))
       (λ a.
-      let d = and_split (leads n k i k) (leads n k k m) a in
+      let d = both_true (leads n k i k) (leads n k k m) a in
       ⊎_elim
       (λ b. through k i j d.0 (stopped k k m j less d.1 b))
-      (λ b. let c = and_split (leads n k m k) (leads n k k j) b in through k i j d.0 c.1)
-      (or_split (leads n k m j) (leads n k m k && leads n k k j) f))
-      (or_split (leads n k i m) (leads n k i k && leads n k k m) e) in
+      (λ b. let c = both_true (leads n k m k) (leads n k k j) b in through k i j d.0 c.1)
+      (or_cases (leads n k m j) (leads n k m k && leads n k k j) f))
+      (or_cases (leads n k i m) (leads n k i k && leads n k k m) e) in
       ⊎_elim last inner (last_or_less m k lt)
 
   at_once : (k i j : ℕ) → is_paired n i j ≡ true → leads n k i j ≡ true

@@ -2,6 +2,7 @@
 use Rattle.std.proofs.Common.{◌≡◌, ℕ, suc, ◌+◌, ◌<◌, ◌≤◌, Bool, true, false, List, [], ◌∷◌, ◌++◌, map, length, Option, Some, None, if◌then◌else◌, All, arith}
 use Rattle.std.specs.List.{flat_map}
 use Rattle.std.proofs.lemmas.List.Elements.{All-nil, All-head, All-tail, All-weaker, All-map, All-append, All-filter, All-push}
+use Rattle.hv_lists.proofs.Places.{first_none}
 use Rattle.hv_syntax.specs.Values as text
 use Rattle.hv_syntax.specs.Values.{WordAt, Variable, Domain, Problem}
 use Rattle.hv_world.specs.declared.fault.StaticKind.TheVariants as kinds
@@ -13,7 +14,7 @@ use Rattle.hv_world.specs.Eithers.{formula_variables, formulas_variables, effect
 use Rattle.hv_world.specs.Scopes.{Scope, parameters, inside}
 use Rattle.hv_world.specs.StaticRules.{types_faults, type_word_faults, variable_types_faults, variable_faults, formula_faults, all_formula_faults, effect_faults, item_faults, method_faults, action_faults, htn_faults, goal_faults, IsStatic}
 use Rattle.hv_world.specs.Worlds.{either_pairs, eithers_pairs}
-use Rattle.hv_world.proofs.NoFaults.{first_none, last_none, none_of_each, no_fault}
+use Rattle.hv_world.proofs.NoFaults.{last_none, none_of_each, no_fault}
 use Rattle.hv_world.proofs.AmongLemmas.{number_within}
 
 -- each name of the type of a variable is declared

@@ -29,3 +29,4 @@ pub mod GroundingLemmas
 pub mod GatherLemmas
 pub mod EitherTables
 pub mod UnionLemmas
+pub mod Cited

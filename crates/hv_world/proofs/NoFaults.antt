@@ -2,16 +2,13 @@
 use Rattle.std.proofs.Common.{◌≡◌, Bool, true, false, not, List, [], ◌∷◌, ◌++◌, All, refl}
 use Rattle.std.specs.List.{flat_map}
 use Rattle.std.proofs.lemmas.List.Elements.{All-cons, All-nil}
+use Rattle.hv_lists.proofs.Places.{first_none}
 use Rattle.hv_syntax.specs.Values.{WordAt}
 use Rattle.hv_world.specs.declared.fault.StaticKind.{StaticKind}
 use Rattle.hv_world.specs.declared.fault.Side.{Side}
 use Rattle.hv_world.specs.StaticRules.{at_word_if}
 
 -- where two lists are nothing together, each is
-pub first_none : {A : Type 0} (xs ys : List A) → xs ++ ys ≡ [] → xs ≡ []
-first_none [] ys e = refl
-first_none (x ∷ xs) ys e = absurd (cc)
-
 pub last_none : {A : Type 0} (xs ys : List A) → xs ++ ys ≡ [] → ys ≡ []
 last_none [] ys e = e
 last_none (x ∷ xs) ys e = absurd (cc)

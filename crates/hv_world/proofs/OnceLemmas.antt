@@ -7,7 +7,8 @@ use Rattle.std.proofs.lemmas.List.{length-map, map-append}
 use Rattle.std.proofs.lemmas.List.Kept.{AllPairs-cons}
 use Rattle.std.proofs.lemmas.Option.{get_or_from_slice_get, slice_get_within, slice_get-map}
 use Rattle.std.proofs.lemmas.List.Quantifiers.{all_pairs_push}
-use Rattle.hv_text.specs.Lists.{Once}
+use Rattle.hv_lists.specs.Lists.{Once}
+use Rattle.hv_lists.proofs.Places.{first_none}
 use Rattle.hv_syntax.specs.Values.{WordAt, Domain, Problem}
 use Rattle.hv_syntax.specs.Values as text
 use Rattle.hv_world.specs.declared.fault.StaticKind.{StaticKind}
@@ -26,7 +27,7 @@ use Rattle.hv_world.specs.Worlds.{World, Task, Action, world_of, task_names, act
 use Rattle.hv_world.proofs.BuildLemmas.{of_mapped, predicates_named, tasks_named, actions_named, methods_named}
 use Rattle.hv_world.proofs.NameLemmas.{same_name}
 use Rattle.hv_world.proofs.PlaceLemmas.{pairs_nil, pairs_head, pairs_tail, pairs_front, pairs_back, pairs_cross, by_place_apart}
-use Rattle.hv_world.proofs.NoFaults.{first_none, last_none}
+use Rattle.hv_world.proofs.NoFaults.{last_none}
 use Rattle.hv_world.proofs.AmongLemmas.{among_append}
 use Rattle.hv_world.proofs.StaticLemmas.{methods_arrangeable, top_arrangeable, typing_in_range}
 

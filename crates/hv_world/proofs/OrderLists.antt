@@ -3,24 +3,16 @@ use Rattle.std.proofs.Common.{◌≡◌, ◌≢◌, ◌<◌, ◌++◌, ◌∷◌
 use Rattle.std.proofs.lemmas.Grind.{common_steps}
 use Rattle.std.proofs.lemmas.List.{map-set}
 use Rattle.std.specs.declared.alloc.Global.{Global}
+use Rattle.hv_lists.proofs.Contained.{none_in_empty, in_tail}
 use Rattle.hv_world.specs.inside.OrderWalks.{list_at, lists_of, AreEarlier}
 
 -- what a list contains
-pub contains_first : {X : Type 0} (x : X) (xs : List X) → Contains (x ∷ xs) x
-contains_first x xs = (0, omega arith, refl)
-
-pub contains_next : {X : Type 0} (x y : X) (xs : List X) → Contains xs y → Contains (x ∷ xs) y
-contains_next x y xs h = (suc h.0, omega (arith, h.1), h.2)
-
 cases_at : {X : Type 0} (x y : X) (xs : List X) (k : ℕ) → k < length (x ∷ xs) → get_or (x ∷ xs) k y ≡ y → (x ≡ y) ⊎ Contains xs y
 cases_at x y xs zero h e = inl e
 cases_at x y xs (suc k) h e = inr (k, omega (arith, h), e)
 
 pub contains_cases : {X : Type 0} (x y : X) (xs : List X) → Contains (x ∷ xs) y → (x ≡ y) ⊎ Contains xs y
 contains_cases x y xs h = cases_at x y xs h.0 h.1 h.2
-
-pub nothing_contained : {X : Type 0} (y : X) → Contains [] y → ⊥
-nothing_contained y h = omega (arith, h.1)
 
 -- a row of lists
 pub one_more_empty : (xss : List (List ℕ)) → ((j : ℕ) → list_at xss j ≡ []) → (j : ℕ) → list_at (xss ++ [] ∷ []) j ≡ []
@@ -60,7 +52,7 @@ one_pair_more pairs xss i j rest w h k = more_by xss i j k rest (earlier_of pair
 
 named_at : (a b i j : ℕ) (ps : List (ℕ × ℕ)) → b ≡ j → (a ≡ i) ⊎ Contains ps (i, j) → Contains ((a, b) ∷ ps) (i, j)
 named_at a b i j ps q (inl e) = (0, omega arith, ap (λ x. (x, b)) e ∙ ap (λ y. (i, y)) q)
-named_at a b i j ps q (inr g) = contains_next (a, b) (i, j) ps g
+named_at a b i j ps q (inr g) = in_tail (a, b) ps (i, j) g
 
 in_second : {A B C : Type 0} → (B → C) → A ⊎ B → A ⊎ C
 in_second f (inl a) = inl a
@@ -69,14 +61,14 @@ in_second f (inr b) = inr (f b)
 named_by : (a b i j : ℕ) (ps : List (ℕ × ℕ)) (t : Bool) → (b == j) ≡ t → (Contains (earlier_of ps j) i → Contains ps (i, j))
     → Contains (if b == j then a ∷ earlier_of ps j else earlier_of ps j) i → Contains ((a, b) ∷ ps) (i, j)
 named_by a b i j ps true e again h = named_at a b i j ps (eqb-true b j e) (in_second again (contains_cases a i (earlier_of ps j) (subst (λ t. Contains (if t then a ∷ earlier_of ps j else earlier_of ps j) i) e h)))
-named_by a b i j ps false e again h = contains_next (a, b) (i, j) ps (again (subst (λ t. Contains (if t then a ∷ earlier_of ps j else earlier_of ps j) i) e h))
+named_by a b i j ps false e again h = in_tail (a, b) ps (i, j) (again (subst (λ t. Contains (if t then a ∷ earlier_of ps j else earlier_of ps j) i) e h))
 
 pub earlier_named : (ps : List (ℕ × ℕ)) (i j : ℕ) → Contains (earlier_of ps j) i → Contains ps (i, j)
-earlier_named [] i j h = absurd (nothing_contained i h)
+earlier_named [] i j h = absurd (none_in_empty i h)
 earlier_named ((a, b) ∷ ps) i j h = named_by a b i j ps (b == j) refl (earlier_named ps i j) h
 
 earlier_behind : (a b i j : ℕ) (ps : List (ℕ × ℕ)) (t : Bool) → (b == j) ≡ t → Contains (earlier_of ps j) i → Contains (if b == j then a ∷ earlier_of ps j else earlier_of ps j) i
-earlier_behind a b i j ps true e g = subst (λ t. Contains (if t then a ∷ earlier_of ps j else earlier_of ps j) i) (sym e) (contains_next a i (earlier_of ps j) g)
+earlier_behind a b i j ps true e g = subst (λ t. Contains (if t then a ∷ earlier_of ps j else earlier_of ps j) i) (sym e) (in_tail a (earlier_of ps j) i g)
 earlier_behind a b i j ps false e g = subst (λ t. Contains (if t then a ∷ earlier_of ps j else earlier_of ps j) i) (sym e) g
 
 earlier_by : (a b i j : ℕ) (ps : List (ℕ × ℕ)) → (Contains ps (i, j) → Contains (earlier_of ps j) i) → ◌≡◌ {A = ℕ × ℕ} (a, b) (i, j) ⊎ Contains ps (i, j)
@@ -85,7 +77,7 @@ earlier_by a b i j ps again (inl e) = subst (λ t. Contains (if t then a ∷ ear
 earlier_by a b i j ps again (inr g) = earlier_behind a b i j ps (b == j) refl (again g)
 
 pub named_earlier : (ps : List (ℕ × ℕ)) (i j : ℕ) → Contains ps (i, j) → Contains (earlier_of ps j) i
-named_earlier [] i j h = absurd (nothing_contained (i, j) h)
+named_earlier [] i j h = absurd (none_in_empty (i, j) h)
 named_earlier ((a, b) ∷ ps) i j h = earlier_by a b i j ps (named_earlier ps i j) (contains_cases (a, b) (i, j) ps h)
 
 pub all_listed : (n : ℕ) (pairs : List (ℕ × ℕ)) (xss : List (List ℕ)) → length xss ≡ n → HasRest pairs xss [] → AreEarlier n pairs xss

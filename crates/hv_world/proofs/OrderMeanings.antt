@@ -4,11 +4,14 @@ use Rattle.std.proofs.Math.Seq.{drop-cons}
 use Rattle.std.proofs.lemmas.List.{get_or_default, length-map}
 use Rattle.std.proofs.Common.{Vec}
 use Rattle.std.specs.declared.alloc.Global.{Global}
+use Rattle.hv_lists.proofs.Numbers.{either}
+use Rattle.hv_lists.proofs.Places.{stands_at, contained_at}
+use Rattle.hv_lists.proofs.Contained.{contains_first, none_in_empty}
 use Rattle.hv_world.specs.Orders.{Written, written, IsPaired, Leads, one_step, more_steps, Before, HasCycle, IsCyclic, IsRow, IsArrangement, IsDirect, AreDirect}
 use Rattle.hv_world.specs.inside.OrderWalks.{IsListed, list_at, lists_of, AreEarlier}
 use Rattle.hv_world.specs.inside.OrderViews.{IsAsWritten}
-use Rattle.hv_world.proofs.OrderLists.{contains_first, contains_cases, nothing_contained}
-use Rattle.hv_world.proofs.OrderWalk.{either, place_of, contained_at, once_from}
+use Rattle.hv_world.proofs.OrderLists.{contains_cases}
+use Rattle.hv_world.proofs.OrderWalk.{once_from}
 
 -- the last pair of a chain
 last_pair : {R : ℕ → ℕ → Type 0} {i j : ℕ} → Leads R i j → R i j ⊎ ((r : ℕ) × Leads R i r × R r j)
@@ -28,7 +31,7 @@ only : (x y : ℕ) → Contains (x ∷ []) y → x ≡ y
 only x y h = by (contains_cases x y [] h) where
   by : (x ≡ y) ⊎ Contains [] y → x ≡ y
   by (inl e) = e
-  by (inr q) = absurd (nothing_contained y q)
+  by (inr q) = absurd (none_in_empty y q)
 
 pub row_direct : (n : Written) (row : List ℕ) (j : ℕ) → IsAsWritten n row → 0 < j → j < n.len → AreDirect n j (take (j - (j - 1)) (drop (j - 1) row))
 row_direct n row j h z w = subst (AreDirect n j) (sym cut) direct where
@@ -56,8 +59,8 @@ row_direct n row j h z w = subst (AreDirect n j) (sym cut) direct where
 -- nothing stands before the first, or before a number that none has
 pub row_none_direct : (n : Written) (row : List ℕ) (j : ℕ) → IsAsWritten n row → (0 < j → j < n.len → ⊥) → AreDirect n j []
 row_none_direct n row j h none = record {
-  direct = λ i. (λ c. absurd (nothing_contained i c), at i);
-  sound = λ i c. absurd (nothing_contained i c);
+  direct = λ i. (λ c. absurd (none_in_empty i c), at i);
+  sound = λ i c. absurd (none_in_empty i c);
   whole = λ i b. let q = (h.before i j).0 b in absurd (none (omega (arith, q.0)) q.1);
 } where
   at : (i : ℕ) → IsDirect n i j → Contains [] i
@@ -100,7 +103,7 @@ row_as n m row f e h = record {
 pub row_has_no_cycle : (Comes : ℕ → ℕ → Type 0) (n : ℕ) (row : List ℕ) → IsRow Comes n row → (i : ℕ) → i < n → Comes i i → ⊥
 row_has_no_cycle Comes n row h i w c =
     let p = h.whole i w in
-    let at : i ≡ slice_index row p.0 = sym (place_of row i p) in
+    let at : i ≡ slice_index row p.0 = sym (stands_at row i p) in
     let o : p.0 < p.0 = h.in_order p.0 p.0 p.1 p.1 (subst (λ t. Comes t t) at c) in
     omega (arith, o)
 
@@ -154,7 +157,7 @@ module _ (n : ℕ) (pairs : List (ℕ × ℕ)) (below : AreBelow n pairs) where
 
     pub row_as_written : (row : List ℕ) → length row ≡ n → ((k : ℕ) → k < n → slice_index row k ≡ k) → IsArrangement (written n true pairs) row
     row_as_written row c e = record {
-      within = λ i h. omega (arith, h.1, c, e h.0, place_of row i h);
+      within = λ i h. omega (arith, h.1, c, e h.0, stands_at row i h);
       whole = λ i w. contained_at row i i (omega (arith, c, w)) (e i w);
       once = once_from row (λ a b o w q. omega (arith, o, q, e a (omega (arith, o, w, c)), e b (omega (arith, w, c))));
       in_order = λ p q a b l. omega (arith, lower l, e p (omega (arith, a, c)), e q (omega (arith, b, c)));

@@ -6,8 +6,11 @@ use Rattle.std.proofs.lemmas.Grind.{get_or_default_zero}
 use Rattle.std.proofs.lemmas.List.{get_or_default}
 use Rattle.std.proofs.lemmas.List.Elements.{Contains-push}
 use Rattle.std.proofs.lemmas.List.Sums.{sum_by-set}
+use Rattle.hv_lists.proofs.Numbers.{either, either_side}
+use Rattle.hv_lists.proofs.Places.{push_front, push_last, length_pushed, below_pushed, stands_at, contained_at}
+use Rattle.hv_lists.proofs.EachOnce.{once_at, same_place}
 use Rattle.hv_world.specs.Orders.{Leads, one_step, more_steps, IsRow}
-use Rattle.hv_text.specs.Lists.{Once}
+use Rattle.hv_lists.specs.Lists.{Once}
 use Rattle.hv_world.specs.declared.order.walk.Mark.{Mark}
 use Rattle.hv_world.specs.declared.order.walk.Mark.TheVariants as marks
 use Rattle.hv_world.specs.inside.OrderWalks.{IsListed, list_at, mark_at, changes, EndsWith, IsWalk}
@@ -17,35 +20,7 @@ pub led : {R : ℕ → ℕ → Type 0} {i k j : ℕ} → Leads R i k → Leads R
 led (one_step h) g = more_steps h g
 led (more_steps h r) g = more_steps h (led r g)
 
--- a number that is another, or not
-pub either : (i j : ℕ) → (i ≡ j) ⊎ (i ≢ j)
-either i j = by (i == j) refl where
-  by : (b : Bool) → (i == j) ≡ b → (i ≡ j) ⊎ (i ≢ j)
-  by true e = inl (eqb-true i j e)
-  by false e = inr (λ q. true≢false (sym (eq-eqb i j q) ∙ e))
-
-pub either_side : (i j : ℕ) → (i < j) ⊎ (j ≤ i)
-either_side i j = by (nat_lt i j) refl where
-  by : (b : Bool) → nat_lt i j ≡ b → (i < j) ⊎ (j ≤ i)
-  by true e = inl (ltb-true i j e)
-  by false e = inr (ltb-false i j e)
-
 -- a list with one more at its end
-push_front : (xs : List ℕ) (y k : ℕ) → k < length xs → slice_index (xs ++ y ∷ []) k ≡ slice_index xs k
-push_front xs y k h = get_or-append xs (y ∷ []) 0 k h
-
-push_last : (xs : List ℕ) (y : ℕ) → slice_index (xs ++ y ∷ []) (length xs) ≡ y
-push_last xs y = get_or-append_seam xs y [] 0
-
-length_pushed : (xs : List ℕ) (y : ℕ) → length (xs ++ y ∷ []) ≡ length xs + 1
-length_pushed xs y = length-append xs (y ∷ [])
-
-below_pushed : (xs : List ℕ) (y k : ℕ) → k < length (xs ++ y ∷ []) → (k < length xs) ⊎ (k ≡ length xs)
-below_pushed xs y k h = by (either k (length xs)) where
-  by : (k ≡ length xs) ⊎ (k ≢ length xs) → (k < length xs) ⊎ (k ≡ length xs)
-  by (inl e) = inr e
-  by (inr n) = inl (omega (arith, n, h, length_pushed xs y))
-
 each_pushed : (P : ℕ → Type 0) (xs : List ℕ) (y : ℕ) → ((a : ℕ) → a < length xs → P (slice_index xs a)) → P y → (a : ℕ) → a < length (xs ++ y ∷ []) → P (slice_index (xs ++ y ∷ []) a)
 each_pushed P xs y each last a w = by (below_pushed xs y a w) where
   by : (a < length xs) ⊎ (a ≡ length xs) → P (slice_index (xs ++ y ∷ []) a)
@@ -71,15 +46,6 @@ contains_other xs y x h n = by (below_pushed xs y h.0 h.1) where
   by (inr e) = absurd (n (sym h.2 ∙ ap (λ k. get_or (xs ++ y ∷ []) k x) e ∙ get_or-append_seam xs y [] x))
 
 -- what a list contains stands at a place
-pub place_of : (xs : List ℕ) (x : ℕ) (h : Contains xs x) → slice_index xs h.0 ≡ x
-place_of xs x h = sym (get_or_default_zero xs h.0 x h.1) ∙ h.2
-
-pub contained_at : (xs : List ℕ) (k x : ℕ) → k < length xs → slice_index xs k ≡ x → Contains xs x
-contained_at xs k x w e = (k, w, get_or_default_zero xs k x w ∙ e)
-
-pub once_at : (xs : List ℕ) → Once xs → (a b : ℕ) → a < b → b < length xs → slice_index xs a ≢ slice_index xs b
-once_at xs h a b o w = h a b 0 o w
-
 pub once_from : (xs : List ℕ) → ((a b : ℕ) → a < b → b < length xs → slice_index xs b ≢ slice_index xs a) → Once xs
 once_from xs h = λ a b d o w e. h a b o w (sym (get_or_default_zero xs b d w) ∙ sym e ∙ get_or_default_zero xs a d (omega (arith, o, w)))
 
@@ -91,16 +57,6 @@ once_front xs y h = once_from xs (λ a b o w e. once_at (xs ++ y ∷ []) h a b o
 
 once_last : (xs : List ℕ) (y : ℕ) → Once (xs ++ y ∷ []) → (a : ℕ) → a < length xs → slice_index xs a ≢ y
 once_last xs y h a w e = once_at (xs ++ y ∷ []) h a (length xs) w (omega (arith, length_pushed xs y)) (push_front xs y a w ∙ e ∙ sym (push_last xs y))
-
-pub same_place : (xs : List ℕ) → Once xs → (a b : ℕ) → a < length xs → b < length xs → slice_index xs a ≡ slice_index xs b → a ≡ b
-same_place xs h a b v w e = by (either a b) where
-  cut : a ≢ b → (a < b) ⊎ (b ≤ a) → a ≡ b
-  cut n (inl o) = absurd (once_at xs h a b o w e)
-  cut n (inr o) = absurd (once_at xs h b a (omega (arith, n, o)) v (sym e))
-
-  by : (a ≡ b) ⊎ (a ≢ b) → a ≡ b
-  by (inl q) = q
-  by (inr n) = cut n (either_side a b)
 
 -- marks
 mark_here : (ms : List Mark) (s : ℕ) (m : Mark) → s < length ms → mark_at (set ms s m) s ≡ m
@@ -196,7 +152,7 @@ placed_walk xss ms left rest row s w h z = record {
   path_at a b o k = subst (λ t. Leads (IsListed xss) t (slice_index rest a)) (push_front rest s b k) (subst (Leads (IsListed xss) (slice_index (rest ++ s ∷ []) b)) (push_front rest s a (omega (arith, o, k))) (h.path a b o (omega (arith, k, length_pushed rest s))))
 
   found : (i : ℕ) → IsListed xss i s → Contains row i
-  found i l = subst (Contains row) (place_of (list_at xss s) i l) (h.looked s l.0 (omega (arith, z)) l.1)
+  found i l = subst (Contains row) (stands_at (list_at xss s) i l) (h.looked s l.0 (omega (arith, z)) l.1)
 
   closed_at : (q i : ℕ) → IsListed xss i (slice_index (row ++ s ∷ []) q) → (q < length row) ⊎ (q ≡ length row) → (p : ℕ) × (p < q) × (slice_index (row ++ s ∷ []) p ≡ i)
   closed_at q i l (inl k) =
@@ -204,7 +160,7 @@ placed_walk xss ms left rest row s w h z = record {
       (c.0, c.1, push_front row s c.0 (omega (arith, c.1, k)) ∙ c.2)
   closed_at q i l (inr e) =
       let f = found i (subst (IsListed xss i) (ap (slice_index (row ++ s ∷ [])) e ∙ push_last row s) l) in
-      (f.0, omega (arith, f.1, e), push_front row s f.0 f.1 ∙ place_of row i f)
+      (f.0, omega (arith, f.1, e), push_front row s f.0 f.1 ∙ stands_at row i f)
 
 -- one more of the earlier ones of s is placed
 pub looked_walk : (xss : List (List ℕ)) (ms : List Mark) (left trail row : List ℕ) (s k : ℕ) → s < length xss → IsWalk xss ms left trail row → slice_index left s ≡ k + 1
@@ -260,7 +216,7 @@ pub open_is_cyclic : (xss : List (List ℕ)) (ms : List Mark) (left trail row : 
     → mark_at ms i ≡ marks.Open → (j : ℕ) × Leads (IsListed xss) j j
 open_is_cyclic xss ms left trail row s i h z e l o =
     let c = h.opened i o in
-    (i, subst (Leads (IsListed xss) i) (place_of trail i c) (before_trail xss ms left trail row s i h z e l c.0 c.1))
+    (i, subst (Leads (IsListed xss) i) (stands_at trail i c) (before_trail xss ms left trail row s i h z e l c.0 c.1))
 
 pub popped : (trail rest : List ℕ) (r : Option ℕ) (s n : ℕ) → n ≡ length trail → r ≡ Some (slice_index trail (n - 1)) → slice_index trail (length trail - 1) ≡ s → trail ≡ rest ++ option_to_list r → trail ≡ rest ++ s ∷ []
 popped trail rest r s n k v e q = q ∙ ap (λ o. rest ++ option_to_list o) (v ∙ ap (λ m. Some (slice_index trail (m - 1))) k ∙ ap (λ t. Some t) e)
@@ -296,7 +252,7 @@ stands xss ms left trail row i j h (more_steps l g) q k e =
 
 pub ended_walk : (xss : List (List ℕ)) (ms : List Mark) (left row : List ℕ) → IsWalk xss ms left [] row → ((j : ℕ) → j < length xss → mark_at ms j ≡ marks.Unseen → ⊥) → IsRow (Leads (IsListed xss)) (length xss) row
 ended_walk xss ms left row h seen = record {
-  within = λ i c. omega (arith, h.marks_count, marked_within ms i (λ u. unseen_not_placed u (ap (mark_at ms) (sym (place_of row i c)) ∙ h.row_placed c.0 c.1)));
+  within = λ i c. omega (arith, h.marks_count, marked_within ms i (λ u. unseen_not_placed u (ap (mark_at ms) (sym (stands_at row i c)) ∙ h.row_placed c.0 c.1)));
   whole = λ i k. h.placed i (placed_mark i k (mark_at ms i) refl);
   once = h.row_once;
   in_order = λ p q a b l. earlier p q a b (stands xss ms left [] row _ _ h l q b refl);

@@ -2,6 +2,8 @@
 use Rattle.std.proofs.Common.{◌≡◌, ℕ, ◌+◌, ◌<◌, Bool, true, false, List, [], ◌∷◌, ◌++◌, map, length, get_or, bytes_eq, codes, if◌then◌else◌, All, refl, ap, sym, subst, ◌∙◌, arith}
 use Rattle.std.specs.List.{flat_map}
 use Rattle.std.proofs.lemmas.List.Elements.{All-cons, All-nil, All-weaker, All-map, All-append}
+use Rattle.hv_lists.proofs.Bools.{or_right}
+use Rattle.hv_lists.proofs.Places.{first_none}
 use Rattle.hv_text.specs.declared.span.Span.{Span}
 use Rattle.hv_syntax.specs.Values.{TypeOf, no_type, of_type, type_name, Typed, Network, Method, Htn, Domain, Problem}
 use Rattle.hv_world.specs.declared.fault.StaticKind.TheVariants as kinds
@@ -19,8 +21,8 @@ use Rattle.hv_world.specs.StaticRules.{type_faults, typed_faults, label_faults, 
 use Rattle.hv_world.specs.Worlds.{type_pair, object_pair, eithers_pairs, typing_by}
 use Rattle.hv_world.proofs.WithinLemmas.{sound_within}
 use Rattle.hv_world.proofs.CycleLemmas.{cycle_found, cycle_there}
-use Rattle.hv_world.proofs.NoFaults.{first_none, last_none, none_of_each, no_fault}
-use Rattle.hv_world.proofs.AmongLemmas.{or_right, among_right, among_self, by_sight_has, number_within, some_within}
+use Rattle.hv_world.proofs.NoFaults.{last_none, none_of_each, no_fault}
+use Rattle.hv_world.proofs.AmongLemmas.{among_right, among_self, by_sight_has, number_within, some_within}
 use Rattle.hv_world.proofs.EitherLemmas.{eithers_declared, eithers_pairs_below}
 
 clash : (b : Bool) → b ≡ true → b ≡ false → ⊥

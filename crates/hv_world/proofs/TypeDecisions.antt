@@ -1,10 +1,11 @@
 -- Whether an object is of a type is decided.
 use Rattle.std.proofs.Common.{◌≡◌, ◌≢◌, ℕ, ◌<◌, ◌⊎◌, inl, inr, Bool, true, false, nat_lt, List, [], ◌∷◌, Contains, ap, sym, subst, refl, arith, true≢false, ltb-true, ltb-false}
+use Rattle.hv_lists.proofs.Numbers.{either}
+use Rattle.hv_lists.proofs.Contained.{contains_first, in_tail, none_in_empty}
 use Rattle.hv_world.specs.Orders.{written, IsPaired, one_step, more_steps, Before}
 use Rattle.hv_world.specs.Types.{Typing, IsInRange, Reaches, same, up, Of}
 use Rattle.hv_world.proofs.CycleLemmas.{before_is_decided}
-use Rattle.hv_world.proofs.OrderLists.{contains_first, contains_next, contains_cases, nothing_contained}
-use Rattle.hv_world.proofs.OrderWalk.{either}
+use Rattle.hv_world.proofs.OrderLists.{contains_cases}
 
 -- a chain of pairs from one type to another
 module _ (parents : List (ℕ × ℕ)) (types : ℕ) where
@@ -41,10 +42,10 @@ module _ (w : Typing) (sound : IsInRange w) (o t : ℕ) where
       never (inr b) = f b
 
   has_type : (ps : List (ℕ × ℕ)) → HasType ps ⊎ (HasType ps → ⊥)
-  has_type [] = inr (λ h. nothing_contained (o, h.0) h.1)
+  has_type [] = inr (λ h. none_in_empty (o, h.0) h.1)
   has_type ((x, a) ∷ ps) = by (either x o) (rises a) (has_type ps) where
     further : ((b : ℕ) → ◌≡◌ {A = ℕ × ℕ} (x, a) (o, b) → Rises b → ⊥) → HasType ps ⊎ (HasType ps → ⊥) → HasType ((x, a) ∷ ps) ⊎ (HasType ((x, a) ∷ ps) → ⊥)
-    further never (inl h) = inl (h.0, contains_next (x, a) (o, h.0) ps h.1, h.2)
+    further never (inl h) = inl (h.0, in_tail (x, a) ps (o, h.0) h.1, h.2)
     further never (inr f) = inr (λ h. at h (contains_cases (x, a) (o, h.0) ps h.1)) where
       at : (h : HasType ((x, a) ∷ ps)) → (◌≡◌ {A = ℕ × ℕ} (x, a) (o, h.0)) ⊎ Contains ps (o, h.0) → ⊥
       at h (inl e) = never h.0 e h.2

@@ -12,25 +12,16 @@ use Rattle.std.proofs.lemmas.Bool.Decides.{nat_tests}
 use Rattle.std.proofs.lemmas.List.{length-set, get_or-set_same, get_or-set_other, get_or-map, map-set, map_push, map_more, map-append, length-map, set-get_or}
 use Rattle.std.proofs.lemmas.List.Elements.{All-head, All-tail, All-push, All-map, All-contains, All-weaker, Contains-get_or, Contains-append_left, Contains-append_right, Contains-push, Contains-push_cases, Contains-append_cases}
 use Rattle.std.proofs.lemmas.List.Quantifiers.{all_pairs_push}
+use Rattle.hv_lists.proofs.Contained.{contains_first, none_in_empty, in_tail}
 use Rattle.hv_world.specs.declared.id.TypeId.{TypeId}
 use Rattle.hv_world.specs.declared.id.ObjectId.{ObjectId}
 use Rattle.hv_world.specs.Types.{Typing, Reaches, same, up, Of, object_numbers}
-use Rattle.hv_text.specs.Lists.{Once}
+use Rattle.hv_lists.specs.Lists.{Once}
 use Rattle.hv_world.specs.inside.TypeLists.{list_of, type_numbers, type_lists, object_lists, AreSeconds, Climbs, stays, steps, ClimbsFrom, AscendsBelow, IsPut, IsPutAbove, AreMembersBelow}
-
--- members of lists
-pub contains_first : {X : Type 0} (x : X) (xs : List X) → Contains (x ∷ xs) x
-contains_first x xs = (0, omega arith, refl)
-
-pub contains_later : {X : Type 0} (x y : X) (xs : List X) → Contains xs x → Contains (y ∷ xs) x
-contains_later x y xs m = (suc m.0, omega (arith, m.1), m.2)
-
-pub contains_none : {X : Type 0} (x : X) → Contains [] x → ⊥
-contains_none x m = omega (arith, m.1)
 
 -- a number whose list has a member has a list
 pub has_list : (lists : List (List ℕ)) (t x : ℕ) → Contains (list_of lists t) x → t < length lists
-has_list [] t x m = absurd (contains_none x m)
+has_list [] t x m = absurd (none_in_empty x m)
 has_list (l ∷ ls) zero x m = omega arith
 has_list (l ∷ ls) (suc t) x m = let h : t < length ls = has_list ls t x m in omega arith
 
@@ -48,7 +39,7 @@ pub list_set_other : (lists : List (List ℕ)) (a t : ℕ) (xs : List ℕ) → t
 list_set_other lists a t xs ne = get_or-set_other lists a t xs [] ne
 
 pub group_none : (lists : List (List ℕ)) → ((i : ℕ) → list_of lists i ≡ []) → AreSeconds [] lists
-group_none lists h a b = (λ m. absurd (contains_none b (subst (λ xs. Contains xs b) (h a) m)), λ m. absurd (contains_none (a, b) m))
+group_none lists h a b = (λ m. absurd (none_in_empty b (subst (λ xs. Contains xs b) (h a) m)), λ m. absurd (none_in_empty (a, b) m))
 
 -- what a changed list has
 in_changed : (lists : List (List ℕ)) (a t x : ℕ) (xs : List ℕ) → a < length lists → t ≡ a → Contains xs x → Contains (list_of (set lists a xs) t) x
@@ -178,10 +169,10 @@ module _ (parents : List (List ℕ)) (starts : List ℕ) (n : ℕ) (old : List (
   module _ (lists : List (List ℕ)) (so_far : IsClimbing parents starts n old [] lists) where
     marked : {a t : ℕ} → Climbs parents a t → Contains (list_of lists a) n → Contains (list_of lists t) n
     marked stays m = m
-    marked (steps {a} {b} {c} edge rest) m = marked rest (elim (so_far.closed a b m edge) [ inl k ↦ k | inr w ↦ absurd (contains_none b w) ])
+    marked (steps {a} {b} {c} edge rest) m = marked rest (elim (so_far.closed a b m edge) [ inl k ↦ k | inr w ↦ absurd (none_in_empty b w) ])
 
     from_start : (a t : ℕ) → Contains starts a → Climbs parents a t → Contains (list_of lists t) n
-    from_start a t m rest = marked rest (elim (so_far.begun a m) [ inl k ↦ k | inr w ↦ absurd (contains_none a w) ])
+    from_start a t m rest = marked rest (elim (so_far.begun a m) [ inl k ↦ k | inr w ↦ absurd (none_in_empty a w) ])
 
     pub climbing_ends : IsPutAbove parents starts n old lists
     climbing_ends =
@@ -306,7 +297,7 @@ has_not : (n : ℕ) (xs : List ℕ) → (Contains xs n → ⊥) → has n xs ≡
 has_not n [] out = refl
 has_not n (x ∷ xs) out =
     let ne : x ≡ n → ⊥ = λ e. out (subst (λ y. Contains (x ∷ xs) y) e (contains_first x xs)) in
-    let later : has n xs ≡ false = has_not n xs (λ m. out (contains_later n x xs m)) in
+    let later : has n xs ≡ false = has_not n xs (λ m. out (in_tail x xs n m)) in
     grind (arith, nat_tests)
 
 has_push : (n : ℕ) (xs : List ℕ) → has n (xs ++ n ∷ []) ≡ true
@@ -389,7 +380,7 @@ no_objects w lists size empty =
     record {
       size = size;
       ascend = λ t. subst (AscendsBelow 0) (sym (empty t)) (λ i j d i_lt lt. absurd (omega (arith, lt)), λ k d lt. absurd (omega (arith, lt)));
-      members = λ t o. (λ m. absurd (contains_none o (subst (λ xs. Contains xs o) (empty t) m)), λ h. absurd (omega (arith, h.0)));
+      members = λ t o. (λ m. absurd (none_in_empty o (subst (λ xs. Contains xs o) (empty t) m)), λ h. absurd (omega (arith, h.0)));
     }
 
 -- all objects

@@ -5,6 +5,8 @@ use Rattle.std.specs.Cmp.Lexicographic.{bytes_decides}
 use Rattle.std.proofs.lemmas.Bool.Decides.{nat_tests}
 use Rattle.std.proofs.lemmas.List.Elements.{All-nil, All-contains, All-weaker, All-filter, filter_passes, Contains-append_left, Contains-append_right, Contains-append_cases}
 use Rattle.std.proofs.lemmas.List.Quantifiers.{position-Some}
+use Rattle.hv_lists.proofs.Contained.{map_mem, mem_map, contains_first, in_tail, none_in_empty}
+use Rattle.hv_lists.proofs.Bools.{or_right}
 use Rattle.hv_syntax.specs.Values.{WordAt, Variable, Domain, Problem}
 use Rattle.hv_world.specs.Names.{names, is_among, place_in, with_names, number_or, number_in}
 use Rattle.hv_world.specs.Known.{Known, known_in, both_types}
@@ -12,7 +14,7 @@ use Rattle.hv_world.specs.Eithers.{all_variables, is_either, are_same, is_listed
 use Rattle.hv_world.specs.StaticRules.{IsStatic}
 use Rattle.hv_world.specs.Types.{Typing, IsInRange, Reaches, same, up, Of, IsOfOne}
 use Rattle.hv_world.specs.Worlds.{type_pair, object_pair, either_pairs, eithers_pairs, either_number, variable_type, number_of_type, typing_by}
-use Rattle.hv_world.proofs.OrderLists.{contains_first, contains_next, contains_cases, nothing_contained}
+use Rattle.hv_world.proofs.OrderLists.{contains_cases}
 use Rattle.hv_world.proofs.GatherLemmas.{same_decides, same_lists, with_list, listed_itself}
 use Rattle.hv_world.proofs.EitherLemmas.{all_declared, eithers_declared, seen_all}
 use Rattle.hv_world.proofs.StaticLemmas.{object_is_type, parents_within, objects_within, typing_in_range}
@@ -46,38 +48,23 @@ module _ (w : Typing) (t : ℕ) (bs : List ℕ) (range : IsInRange w) (below : t
   union : (o : ℕ) → Of w o t ↔ IsOfOne w o bs
   union o = (of_one o, of_all o)
 
--- members of a list that is changed member by member
-mapped : {X Y : Type 0} (f : X → Y) (xs : List X) (y : Y) → Contains (map f xs) y → (x : X) × Contains xs x × (f x ≡ y)
-mapped {X} f [] y m = absurd (nothing_contained y m)
-mapped {X} f (x ∷ xs) y m = by (contains_cases (f x) y (map f xs) m) (mapped f xs y) where
-  by : (f x ≡ y) ⊎ Contains (map f xs) y → (Contains (map f xs) y → (z : X) × Contains xs z × (f z ≡ y)) → (z : X) × Contains (x ∷ xs) z × (f z ≡ y)
-  by (inl e) later = (x, contains_first x xs, e)
-  by (inr n) later = let r = later n in (r.0, contains_next x r.0 xs r.1, r.2)
-
-there : {X Y : Type 0} (f : X → Y) (xs : List X) (x : X) → Contains xs x → Contains (map f xs) (f x)
-there f [] x m = absurd (nothing_contained x m)
-there f (y ∷ xs) x m = by (contains_cases y x xs m) (there f xs x) where
-  by : (y ≡ x) ⊎ Contains xs x → (Contains xs x → Contains (map f xs) (f x)) → Contains (map f (y ∷ xs)) (f x)
-  by (inl e) later = subst (λ z. Contains (map f (y ∷ xs)) (f z)) e (contains_first (f y) (map f xs))
-  by (inr n) later = contains_next (f y) (f x) (map f xs) (later n)
-
--- the pairs of the either types
+-- the pairs of the or_right types
 module _ (k : Known) where
   abbrev number : List ℕ → ℕ
   number n = number_in k.types n
 
   seconds : (t : ℕ) (nss : List (List (List ℕ))) (q : ℕ × ℕ) → Contains (eithers_pairs k t nss) q → t ≤ q.1
-  seconds t [] q m = absurd (nothing_contained q m)
+  seconds t [] q m = absurd (none_in_empty q m)
   seconds t (ns ∷ nss) q m = by (Contains-append_cases (either_pairs k t ns) (eithers_pairs k (suc t) nss) q m) (seconds (suc t) nss q) where
     by : Contains (either_pairs k t ns) q ⊎ Contains (eithers_pairs k (suc t) nss) q → (Contains (eithers_pairs k (suc t) nss) q → suc t ≤ q.1) → t ≤ q.1
-    by (inl n) later = let e : t ≡ q.1 = ap (λ (x : ℕ × ℕ). x.1) (mapped (λ n. (number n, t)) ns q n).2 in omega (arith, e)
+    by (inl n) later = let e : t ≡ q.1 = ap (λ (x : ℕ × ℕ). x.1) (map_mem (λ n. (number n, t)) ns q n).2 in omega (arith, e)
     by (inr n) later = let le = later n in omega (arith, le)
 
   first_pair : (t : ℕ) (ns : List (List ℕ)) (b : ℕ) → Contains (either_pairs k t ns) (b, t) → Contains (map number ns) b
-  first_pair t ns b m = let r = mapped (λ n. (number n, t)) ns (b, t) m in subst (Contains (map number ns)) (ap (λ (x : ℕ × ℕ). x.0) r.2) (there number ns r.0 r.1)
+  first_pair t ns b m = let r = map_mem (λ n. (number n, t)) ns (b, t) m in subst (Contains (map number ns)) (ap (λ (x : ℕ × ℕ). x.0) r.2) (mem_map number ns r.0 r.1)
 
   pairs_at : (t : ℕ) (nss : List (List (List ℕ))) (b i : ℕ) → i < length nss → Contains (eithers_pairs k t nss) (b, t + i) → Contains (map number (get_or nss i [])) b
-  pairs_at t [] b i lt m = absurd (nothing_contained (b, t + i) m)
+  pairs_at t [] b i lt m = absurd (none_in_empty (b, t + i) m)
   pairs_at t (ns ∷ nss) b zero lt m = by (Contains-append_cases (either_pairs k t ns) (eithers_pairs k (suc t) nss) (b, t + 0) m) where
     here : t + 0 ≡ t
     here = omega arith
@@ -91,15 +78,15 @@ module _ (k : Known) where
 
     by : Contains (either_pairs k t ns) (b, t + suc i) ⊎ Contains (eithers_pairs k (suc t) nss) (b, t + suc i) → (Contains (eithers_pairs k (suc t) nss) (b, suc t + i) → Contains (map number (get_or nss i [])) b)
         → Contains (map number (get_or nss i [])) b
-    by (inl n) later = let e : t ≡ t + suc i = ap (λ (x : ℕ × ℕ). x.1) (mapped (λ n. (number n, t)) ns (b, t + suc i) n).2 in absurd (omega (arith, e))
+    by (inl n) later = let e : t ≡ t + suc i = ap (λ (x : ℕ × ℕ). x.1) (map_mem (λ n. (number n, t)) ns (b, t + suc i) n).2 in absurd (omega (arith, e))
     by (inr n) later = later (subst (λ x. Contains (eithers_pairs k (suc t) nss) (b, x)) next n)
 
   at_pairs : (t : ℕ) (nss : List (List (List ℕ))) (b i : ℕ) → i < length nss → Contains (map number (get_or nss i [])) b → Contains (eithers_pairs k t nss) (b, t + i)
   at_pairs t [] b i lt m = absurd (omega arith)
   at_pairs t (ns ∷ nss) b zero lt m =
       let here : t ≡ t + 0 = omega arith in
-      let r = mapped number ns b m in
-      let pair : Contains (either_pairs k t ns) (b, t) = subst (λ x. Contains (either_pairs k t ns) (x, t)) r.2 (there (λ n. (number n, t)) ns r.0 r.1) in
+      let r = map_mem number ns b m in
+      let pair : Contains (either_pairs k t ns) (b, t) = subst (λ x. Contains (either_pairs k t ns) (x, t)) r.2 (mem_map (λ n. (number n, t)) ns r.0 r.1) in
       subst (λ x. Contains (eithers_pairs k t (ns ∷ nss)) (b, x)) here (Contains-append_left (either_pairs k t ns) (eithers_pairs k (suc t) nss) (b, t) pair)
   at_pairs t (ns ∷ nss) b (suc i) lt m =
       let next : suc t + i ≡ t + suc i = omega arith in
@@ -135,18 +122,18 @@ among_member [] n e = absurd (cc)
 among_member (m ∷ ns) n e = by (bytes_eq n m) refl e (among_member ns n) where
   by : (b : Bool) → bytes_eq n m ≡ b → (b || is_among ns n) ≡ true → (is_among ns n ≡ true → Contains ns n) → Contains (m ∷ ns) n
   by true t h later = subst (Contains (m ∷ ns)) (sym ((bytes_decides n m).0 t)) (contains_first m ns)
-  by false t h later = contains_next m n ns (later h)
+  by false t h later = in_tail m ns n (later h)
 
 member_among : (ns : List (List ℕ)) (n : List ℕ) → Contains ns n → is_among ns n ≡ true
-member_among [] n m = absurd (nothing_contained n m)
+member_among [] n m = absurd (none_in_empty n m)
 member_among (x ∷ ns) n m = by (contains_cases x n ns m) (member_among ns n) where
-  either : (b c : Bool) → c ≡ true → (b || c) ≡ true
-  either true c e = refl
-  either false c e = e
+  or_right : (b c : Bool) → c ≡ true → (b || c) ≡ true
+  or_right true c e = refl
+  or_right false c e = e
 
   by : (x ≡ n) ⊎ Contains ns n → (Contains ns n → is_among ns n ≡ true) → is_among (x ∷ ns) n ≡ true
   by (inl e) later = ap (λ b. b || is_among ns n) ((bytes_decides n x).1 (sym e))
-  by (inr r) later = either (bytes_eq n x) (is_among ns n) (later r)
+  by (inr r) later = or_right (bytes_eq n x) (is_among ns n) (later r)
 
 -- lists by sight have each of those that were to be seen
 listed_front : (ys : List (List (List ℕ))) (x ns : List (List ℕ)) → is_listed ys ns ≡ true → is_listed (ys ++ x ∷ []) ns ≡ true
@@ -164,18 +151,18 @@ listed_stays seen (x ∷ xs) ns e = listed_stays (with_list seen x) xs ns (noted
   noted false = listed_front seen x ns e
 
 listed_of : (seen xs : List (List (List ℕ))) (ns : List (List ℕ)) → Contains xs ns → is_listed (with_lists seen xs) ns ≡ true
-listed_of seen [] ns m = absurd (nothing_contained ns m)
+listed_of seen [] ns m = absurd (none_in_empty ns m)
 listed_of seen (x ∷ xs) ns m = by (contains_cases x ns xs m) (listed_of (with_list seen x) xs ns) where
   by : (x ≡ ns) ⊎ Contains xs ns → (Contains xs ns → is_listed (with_lists (with_list seen x) xs) ns ≡ true) → is_listed (with_lists seen (x ∷ xs)) ns ≡ true
   by (inl e) later = listed_stays (with_list seen x) xs ns (subst (λ z. is_listed (with_list seen z) ns ≡ true) (sym e) (listed_itself seen ns))
   by (inr r) later = later r
 
 kept : {X : Type 0} (p : X → Bool) (xs : List X) (x : X) → p x ≡ true → Contains xs x → Contains (filter p xs) x
-kept p [] x e m = absurd (nothing_contained x m)
+kept p [] x e m = absurd (none_in_empty x m)
 kept p (y ∷ xs) x e m = by (p y) refl (contains_cases y x xs m) (kept p xs x e) where
   by : (b : Bool) → p y ≡ b → (y ≡ x) ⊎ Contains xs x → (Contains xs x → Contains (filter p xs) x) → Contains (cond b (y ∷ filter p xs) (filter p xs)) x
   by true t (inl s) later = subst (Contains (y ∷ filter p xs)) s (contains_first y (filter p xs))
-  by true t (inr r) later = contains_next y x (filter p xs) (later r)
+  by true t (inr r) later = in_tail y (filter p xs) x (later r)
   by false t (inl s) later = let clash : p y ≡ true = ap p s ∙ e in absurd (cc)
   by false t (inr r) later = later r
 
@@ -218,13 +205,13 @@ module _ (d : Domain) (p : Problem) (static : IsStatic d p) where
     back (u, m, h) = by (contains_cases t u [] m) where
       by : (t ≡ u) ⊎ Contains [] u → Of w o t
       by (inl e) = subst (Of w o) (sym e) h
-      by (inr n) = absurd (nothing_contained u n)
+      by (inr n) = absurd (none_in_empty u n)
 
   -- several names with `object` among them
   objects_all : (ns : List (List ℕ)) → is_among ns object ≡ true → (o : ℕ) → Of w o 0 ↔ IsOfOne w o (map (number_in k.types) ns)
   objects_all ns e o = (to, from) where
     to : Of w o 0 → IsOfOne w o (map (number_in k.types) ns)
-    to h = (0, subst (Contains (map (number_in k.types) ns)) object_zero (there (number_in k.types) ns object (among_member ns object e)), h)
+    to h = (0, subst (Contains (map (number_in k.types) ns)) object_zero (mem_map (number_in k.types) ns object (among_member ns object e)), h)
 
     from : IsOfOne w o (map (number_in k.types) ns) → Of w o 0
     from (t, m, h) = (h.0, range.object, inl refl)
@@ -274,7 +261,7 @@ module _ (d : Domain) (p : Problem) (static : IsStatic d p) where
 
     none_zero : Contains bs 0 → ⊥
     none_zero m =
-        let r = mapped (number_in k.types) ns 0 m in
+        let r = map_mem (number_in k.types) ns 0 m in
         let there_is : is_among ns object ≡ true = member_among ns object (subst (Contains ns) (zero_object r.0 r.2) r.1) in
         absurd (cc)
 
@@ -307,7 +294,7 @@ module _ (d : Domain) (p : Problem) (static : IsStatic d p) where
     by (x ∷ []) e = subst (λ ws. Of w o (number_of_type k ws) ↔ IsOfOne w o (map (λ x. number_in k.types x.text) ws)) (sym e) (one_type (number_in k.types x.text) o)
     by (x ∷ y ∷ ws) e =
         let place : Contains (map (λ u. names u.of) (all_variables d p)) (names (x ∷ y ∷ ws)) =
-        subst (λ us. Contains (map (λ u. names u.of) (all_variables d p)) (names us)) e (there (λ u. names u.of) (all_variables d p) v m) in
+        subst (λ us. Contains (map (λ u. names u.of) (all_variables d p)) (names us)) e (mem_map (λ u. names u.of) (all_variables d p) v m) in
         let same_numbers : map (number_in k.types) (names (x ∷ y ∷ ws)) ≡ map (λ x. number_in k.types x.text) (x ∷ y ∷ ws) = numbers (x ∷ y ∷ ws) in
         subst (λ us. Of w o (number_of_type k us) ↔ IsOfOne w o (map (λ x. number_in k.types x.text) us)) (sym e)
         (subst (λ ts. Of w o (number_of_type k (x ∷ y ∷ ws)) ↔ IsOfOne w o ts) same_numbers (several x y ws place o))

@@ -4,7 +4,7 @@ use Rattle.std.specs.List.{slice_get}
 use Rattle.hv_world.specs.Values.{Term, object, variable, Atom, Formula, Formulas, holds, and, or, not, imply, forall, exists, equal, no_formulas, more_formulas, Effect, Effects, becomes, for_each, no_effects, more_effects, TaskName, compound, primitive, Subtask, Constraint}
 use Rattle.hv_world.specs.Networks.{IsArrangeable}
 use Rattle.hv_world.specs.Types.{IsInRange}
-use Rattle.hv_text.specs.Lists.{Once}
+use Rattle.hv_lists.specs.Lists.{Once}
 use Rattle.hv_world.specs.Worlds.{Network, Method, Action, World, task_names, action_names, method_names}
 
 module _ (w : World) where

@@ -1,6 +1,6 @@
 -- The order of a network's subtasks.
 use Rattle.std.specs.Prelude.{ℕ, ◌≡◌, ◌+◌, ◌<◌, ◌⊎◌, ◌↔◌, Bool, true, false, List, length, Contains, slice_index}
-use Rattle.hv_text.specs.Lists.{Once}
+use Rattle.hv_lists.specs.Lists.{Once}
 
 -- what is written of the order: how many subtasks there are, whether the form orders them as written, and the pairs
 pub record Written : Type 0 where

@@ -9,7 +9,8 @@ ghost use Rattle.hv_world.specs.Views.{term_view, subtask_view};
 
 use crate::formula::{Subtask, Term};
 use crate::id::TaskName;
-use hv_text::Memory;
+use crate::seed::seed_of_subtasks;
+use hv_text::{Memory, Seeded};
 use indexmap::IndexMap;
 use std::alloc::Global;
 use std::hash::{Hash, Hasher};
@@ -89,7 +90,7 @@ fn kept_marks(alloc: Global, marks: &[bool], terms: &[Term]) -> Result<Vec<bool>
 // Takes account of one subtask more.
 fn note_objects(
     alloc: Global,
-    rows: &mut IndexMap<TaskName, Vec<bool>>,
+    rows: &mut IndexMap<TaskName, Vec<bool>, Seeded>,
     subtask: &Subtask,
 ) -> Result<(), Memory>
     ensures { OnOk result
@@ -108,10 +109,10 @@ fn note_objects(
 fn fixed_positions(
     alloc: Global,
     subtasks: &[Subtask],
-) -> Result<IndexMap<TaskName, Vec<bool>>, Memory>
+) -> Result<IndexMap<TaskName, Vec<bool>, Seeded>, Memory>
     ensures { IfOk result (RowsSay (map subtask_view subtasks.now)) }
 {
-    let mut rows = IndexMap::new(alloc);
+    let mut rows = IndexMap::with_hasher(alloc, seed_of_subtasks(subtasks));
     for subtask in subtasks {
         note_objects(alloc, &mut rows, subtask)?;
     }
@@ -136,7 +137,7 @@ fn marked_objects(alloc: Global, marks: &[bool], terms: &[Term]) -> Result<Vec<u
 // What tells the class of a subtask apart.
 fn key_of(
     alloc: Global,
-    rows: &IndexMap<TaskName, Vec<bool>>,
+    rows: &IndexMap<TaskName, Vec<bool>, Seeded>,
     subtask: &Subtask,
 ) -> Result<Key, Memory>
     ensures { IfOk result
@@ -155,7 +156,7 @@ fn key_of(
 }
 
 // Counts one subtask more of a class.
-fn count(sizes: &mut IndexMap<Key, usize>, key: Key) -> Result<(), Memory>
+fn count(sizes: &mut IndexMap<Key, usize, Seeded>, key: Key) -> Result<(), Memory>
     requires small { All (λ c. c.1 + 1 < 2 ^ 64) (counts_in sizes.old) }
     ensures { OnOk result (counts_in sizes.new ≡ counted (key_view key) (counts_in sizes.old)) }
 {
@@ -165,7 +166,7 @@ fn count(sizes: &mut IndexMap<Key, usize>, key: Key) -> Result<(), Memory>
 }
 
 // The sizes alone.
-fn sizes_in(alloc: Global, counts: &IndexMap<Key, usize>) -> Result<Vec<usize>, Memory>
+fn sizes_in(alloc: Global, counts: &IndexMap<Key, usize, Seeded>) -> Result<Vec<usize>, Memory>
     ensures { IfOk result (λ v. v.items ≡ map (λ c. c.1) (counts_in counts.now)) }
 {
     let mut sizes = Vec::new(alloc);
@@ -180,7 +181,7 @@ pub(crate) fn class_sizes(alloc: Global, subtasks: &[Subtask]) -> Result<Vec<usi
     ensures { IfOk result (λ v. v.items ≡ alike.class_sizes (map subtask_view subtasks.now)) }
 {
     let rows = fixed_positions(alloc, subtasks)?;
-    let mut counts = IndexMap::new(alloc);
+    let mut counts = IndexMap::with_hasher(alloc, seed_of_subtasks(subtasks));
     for subtask in subtasks {
         let key = key_of(alloc, &rows, subtask)?;
         count(&mut counts, key)?;

@@ -7,7 +7,7 @@ ghost use Rattle.hv_text.specs.declared.span.Span.{Span};
 ghost use Rattle.hv_world.specs.declared.fault.StaticFault.{StaticFault};
 ghost use Rattle.hv_world.specs.declared.fault.StaticKind.TheVariants as kinds;
 ghost use Rattle.hv_world.specs.declared.fault.Side.{Side};
-ghost use Rattle.hv_text.specs.Lists.{Once};
+ghost use Rattle.hv_lists.specs.Lists.{Once};
 ghost use Rattle.hv_world.specs.Bounds.{IsBound, IsSound};
 ghost use Rattle.hv_world.specs.Faults.{fault_on};
 ghost use Rattle.hv_world.specs.Known.{Declaration, Known, known_in, by_place, GoByPlace};

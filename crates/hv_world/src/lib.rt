@@ -45,5 +45,6 @@ pub use laws::{
 pub use method::Method;
 pub use network::Network;
 pub use order::Order;
+pub use seed::seed_of_subtasks;
 pub use task::Task;
 pub use world::World;

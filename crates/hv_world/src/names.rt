@@ -7,13 +7,13 @@ ghost use Rattle.hv_world.specs.Names.{names, place_in, repeated};
 ghost use Rattle.hv_world.specs.Known.{variables, typed_words};
 ghost use Rattle.hv_world.specs.Scopes.{is_some};
 ghost use Rattle.hv_world.specs.Faults.{faults_at, least};
-ghost use Rattle.hv_world.specs.inside.Seeds.{start_of};
+ghost use Rattle.hv_world.specs.inside.Seeds.{start_from};
 ghost use Rattle.hv_world.specs.inside.Tables.{places_by, seed_of, with_place};
 
 use crate::fault::{Side, StaticFault, StaticKind, earlier, fault_if};
-use crate::seed::Seeded;
+use crate::seed::{with_variables, with_words};
 use hv_syntax::{Placed, VariableText};
-use hv_text::{Memory, Name};
+use hv_text::{Memory, Name, Seeded};
 use indexmap::IndexMap;
 use std::alloc::Global;
 
@@ -37,10 +37,10 @@ impl<'s> Names<'s> {
     pub(crate) fn of(alloc: Global, words: &[Placed<'s>]) -> Result<Names<'s>, Memory>
         ensures places { IfOk result
             (λ t. places_by t ≡ place_in (names (map word_view words.now))) }
-        ensures seed { IfOk result (λ t. seed_of t ≡ start_of (names (map word_view words.now))) }
+        ensures seed { IfOk result (λ t. seed_of t ≡ start_from (names (map word_view words.now))) }
     {
         let mut names = Names {
-            places: IndexMap::with_hasher(alloc, Seeded::new().with_words(words)),
+            places: IndexMap::with_hasher(alloc, with_words(Seeded::new(), words)),
         };
         for place in 0..words.len() {
             let word = words[place];
@@ -57,10 +57,10 @@ impl<'s> Names<'s> {
         ensures places { IfOk result
             (λ t. places_by t ≡ place_in (variables (map variable_view list.now))) }
         ensures seed { IfOk result
-            (λ t. seed_of t ≡ start_of (variables (map variable_view list.now))) }
+            (λ t. seed_of t ≡ start_from (variables (map variable_view list.now))) }
     {
         let mut names = Names {
-            places: IndexMap::with_hasher(alloc, Seeded::new().with_variables(list)),
+            places: IndexMap::with_hasher(alloc, with_variables(Seeded::new(), list)),
         };
         for place in 0..list.len() {
             let declared = &list[place];

@@ -1,111 +1,106 @@
-//! Hashing from a start that the names of a table choose.
+//! What tables of names, and of subtasks, are hashed from.
 
 ghost use Rattle.std.specs.Prelude.{◌≡◌, map, fold};
 ghost use Rattle.std.specs.List.{flat_map};
 ghost use Rattle.std.specs.Hash.DefaultHasher as sip;
-ghost use Rattle.hv_text.specs.Bytes.{words_of};
 ghost use Rattle.hv_text.specs.Names.{text_of};
+ghost use Rattle.hv_text.specs.Seeds.{start_of};
 ghost use Rattle.hv_syntax.specs.Views.{word_view, typed_view, variable_view};
 ghost use Rattle.hv_world.specs.Names.{names};
 ghost use Rattle.hv_world.specs.Known.{variables};
+ghost use Rattle.hv_world.specs.Seeds.{term_writes, subtask_writes};
+ghost use Rattle.hv_world.specs.Views.{term_view, subtask_view};
 ghost use Rattle.hv_world.specs.inside.Seeds.{with_taken_in, written_names};
 ghost use Rattle.hv_world.specs.inside.Tables.{names_in};
 
+use crate::formula::{Subtask, Term};
 use hv_syntax::{Placed, TypeText, TypedText, VariableText};
-use hv_text::Name;
-use std::hash::{BuildHasher, DefaultHasher, Hash};
+use hv_text::{Name, Seeded};
 
-/// The hasher of a table of names. Its start has taken in every name of the table, so that whoever
-/// wants names that collide has to find them under a start that each of them changes.
-#[derive(Clone, Copy)]
-pub(crate) struct Seeded {
-    start: DefaultHasher,
+/// A start with these words taken in.
+pub(crate) fn with_words(start: Seeded, words: &[Placed<'_>]) -> Seeded
+    ensures { start_of result ≡ with_taken_in (start_of start) (names (map word_view words.now)) }
+{
+    let mut seed = start;
+    for word in words {
+        seed.take_in(&word.name());
+    }
+    seed
 }
 
-impl Seeded {
-    /// The start that has taken in no name.
-    pub(crate) fn new() -> Seeded
-        ensures { result.start ≡ sip.initial }
-    {
-        Seeded {
-            start: DefaultHasher::new(),
+/// A start with the names of a typed list and their types taken in.
+pub(crate) fn with_typed(start: Seeded, list: &[TypedText<'_>]) -> Seeded
+    ensures { start_of result
+        ≡ with_taken_in (start_of start) (flat_map written_names (map typed_view list.now)) }
+{
+    let mut seed = start;
+    for typed in list {
+        seed.take_in(&typed.name().name());
+        if let TypeText::Named(word) = typed.of() {
+            seed.take_in(&word.name());
         }
     }
-
-    /// The start with these words taken in.
-    pub(crate) fn with_words(self, words: &[Placed<'_>]) -> Seeded
-        ensures { result.start ≡ with_taken_in self.start (names (map word_view words.now)) }
-    {
-        let mut seed = self;
-        for word in words {
-            seed.take_in(word.name());
-        }
-        seed
-    }
-
-    /// The start with the names of a typed list and their types taken in.
-    pub(crate) fn with_typed(self, list: &[TypedText<'_>]) -> Seeded
-        ensures { result.start
-            ≡ with_taken_in self.start (flat_map written_names (map typed_view list.now)) }
-    {
-        let mut seed = self;
-        for typed in list {
-            seed.take_in(typed.name().name());
-            if let TypeText::Named(word) = typed.of() {
-                seed.take_in(word.name());
-            }
-        }
-        seed
-    }
-
-    /// The start with the names of variables taken in.
-    pub(crate) fn with_variables(self, list: &[VariableText<'_>]) -> Seeded
-        ensures { result.start ≡ with_taken_in self.start (variables (map variable_view list.now)) }
-    {
-        let mut seed = self;
-        for variable in list {
-            seed.take_in(variable.name().name());
-        }
-        seed
-    }
-
-    /// The start with the names of lists taken in.
-    pub(crate) fn with_lists(self, lists: &[Vec<Name<'_>>]) -> Seeded
-        ensures { result.start ≡ with_taken_in self.start (flat_map names_in lists.now) }
-    {
-        let mut seed = self;
-        for list in lists {
-            seed = seed.with_names(list);
-        }
-        seed
-    }
-
-    // The start with names taken in.
-    fn with_names(self, names: &[Name<'_>]) -> Seeded
-        ensures { result.start ≡ with_taken_in self.start (map text_of names.now) }
-    {
-        let mut seed = self;
-        for name in names {
-            seed.take_in(*name);
-        }
-        seed
-    }
-
-    // The last word that a name feeds has a zero, so no two lists of names feed the same.
-    fn take_in(&mut self, name: Name<'_>)
-        ensures { self.new.start
-            ≡ fold sip.write self.old.start (words_of (text_of name.entry)) }
-    {
-        name.hash(&mut self.start);
-    }
+    seed
 }
 
-impl BuildHasher for Seeded {
-    type Hasher = DefaultHasher;
-
-    ghost build_hasher = { λ s. s.start };
-
-    fn build_hasher(&self) -> DefaultHasher {
-        self.start
+/// A start with the names of variables taken in.
+pub(crate) fn with_variables(start: Seeded, list: &[VariableText<'_>]) -> Seeded
+    ensures { start_of result
+        ≡ with_taken_in (start_of start) (variables (map variable_view list.now)) }
+{
+    let mut seed = start;
+    for variable in list {
+        seed.take_in(&variable.name().name());
     }
+    seed
+}
+
+/// A start with the names of lists taken in.
+pub(crate) fn with_lists(start: Seeded, lists: &[Vec<Name<'_>>]) -> Seeded
+    ensures { start_of result ≡ with_taken_in (start_of start) (flat_map names_in lists.now) }
+{
+    let mut seed = start;
+    for list in lists {
+        seed = with_names(seed, list);
+    }
+    seed
+}
+
+// A start with names taken in.
+fn with_names(start: Seeded, names: &[Name<'_>]) -> Seeded
+    ensures { start_of result ≡ with_taken_in (start_of start) (map text_of names.now) }
+{
+    let mut seed = start;
+    for name in names {
+        seed.take_in(name);
+    }
+    seed
+}
+
+// A start with the objects among terms taken in.
+fn with_terms(start: Seeded, terms: &[Term]) -> Seeded
+    ensures { start_of result
+        ≡ fold sip.write (start_of start) (flat_map term_writes (map term_view terms.now)) }
+{
+    let mut seed = start;
+    for term in terms {
+        if let Term::Object(object) = term {
+            seed.take_in(&object.0);
+        }
+    }
+    seed
+}
+
+/// The hasher of a table whose keys are names and objects of these subtasks: its start has taken in
+/// all of them.
+pub fn seed_of_subtasks(subtasks: &[Subtask]) -> Seeded
+    ensures { start_of result
+        ≡ fold sip.write sip.initial (flat_map subtask_writes (map subtask_view subtasks.now)) }
+{
+    let mut seed = Seeded::new();
+    for subtask in subtasks {
+        seed.take_in(&subtask.name);
+        seed = with_terms(seed, &subtask.terms);
+    }
+    seed
 }

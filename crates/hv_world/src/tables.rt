@@ -19,13 +19,12 @@ pub(crate) mod words;
 
 use crate::id::{PredicateId, TaskName};
 use crate::names::Names;
-use crate::seed::Seeded;
 use crate::tables::eithers::either_types;
 use crate::tables::sections::declarations;
 use crate::tables::sight::{object_names, type_names};
 use crate::tables::words::{arities, declared_words, predicate_words};
 use hv_syntax::{DomainText, Placed, PredicateText, ProblemText};
-use hv_text::{Memory, Name};
+use hv_text::{Memory, Name, Seeded};
 use indexmap::IndexSet;
 use std::alloc::Global;
 

@@ -4,7 +4,7 @@ ghost use Rattle.std.specs.Prelude.{◌≡◌, ◌<◌, ◌+◌, ◌↔◌, ℕ,
 ghost use Rattle.std.specs.List.{All, Contains};
 ghost use Rattle.std.specs.List.Sorted.{IsStrictlyIncreasing};
 ghost use Rattle.hv_world.specs.Types.{Typing, typing, Of, object_numbers};
-ghost use Rattle.hv_text.specs.Lists.{Once};
+ghost use Rattle.hv_lists.specs.Lists.{Once};
 ghost use Rattle.hv_world.specs.inside.TypeLists.{list_of, type_numbers, type_lists, object_lists, AreSeconds, AscendsBelow, IsPut, IsPutAbove, AreMembersBelow};
 
 use crate::id::{ObjectId, TypeId};

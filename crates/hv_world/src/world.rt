@@ -19,10 +19,9 @@ use crate::grounding::GroundAction;
 use crate::id::{ActionId, MethodId, ObjectId, PredicateId, TaskId, TaskName, TypeId};
 use crate::method::Method;
 use crate::names::Names;
-use crate::seed::Seeded;
 use crate::task::Task;
 use crate::types::Types;
-use hv_text::Name;
+use hv_text::{Name, Seeded};
 use indexmap::IndexSet;
 
 /// The world of a domain and a problem: what they say, with a number for each name.
@@ -59,7 +58,7 @@ pub struct World<'s> {
 
 impl<'s> World<'s> {
     ghost use Rattle.hv_world.specs.Types.{Of, object_numbers};
-    ghost use Rattle.hv_text.specs.Lists.{Once};
+    ghost use Rattle.hv_lists.specs.Lists.{Once};
     ghost use Rattle.std.specs.List.{Contains};
     ghost use Rattle.std.specs.List.Sorted.{IsStrictlyIncreasing};
     ghost use Rattle.hv_world.specs.Worlds.{task_named, method_named};

@@ -1,7 +1,7 @@
 -- How many ways there are to match, counted one place after another.
 use Rattle.std.specs.Prelude.{◌≡◌, ℕ, zero, suc, ◌+◌, ◌*◌, ◌<◌, List, [], ◌∷◌, length, map, Contains}
 use Rattle.hv_world.specs.Alike.{Key, how_many}
-use Rattle.hv_text.specs.Lists.{Once}
+use Rattle.hv_lists.specs.Lists.{Once}
 
 -- how many of the keys, from the first on, are like the first
 abbrev pub first_alike : List Key → ℕ

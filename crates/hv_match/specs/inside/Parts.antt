@@ -1,6 +1,6 @@
 -- What a search finds, as candidates.
 use Rattle.std.specs.Prelude.{◌≡◌, ◌↔◌, ◌≤◌, ℕ, List, [], map, length, take, drop, Contains}
-use Rattle.hv_text.specs.Lists.{Once}
+use Rattle.hv_lists.specs.Lists.{Once}
 use Rattle.hv_world.specs.Bindings.{object_number}
 use Rattle.hv_world.specs.Worlds.{World, Method}
 use Rattle.hv_world.specs.declared.id.ObjectId.{ObjectId}

@@ -5,7 +5,7 @@ use Rattle.hv_world.specs.Values.{Subtask}
 use Rattle.hv_world.specs.Worlds.{World, Method}
 use Rattle.hv_match.specs.Counts.{factorial, product, IsCount}
 use Rattle.hv_match.specs.inside.Counting.{rising}
-use Rattle.hv_text.specs.Lists.{Once}
+use Rattle.hv_lists.specs.Lists.{Once}
 use Rattle.hv_match.specs.inside.Puzzles.{Puzzle, options, levels, places, values, IsMatch, ways}
 use Rattle.hv_match.specs.inside.Ranges.{IsPuzzleOf}
 use Rattle.hv_match.specs.inside.Search.{below}

@@ -2,7 +2,7 @@
 use Rattle.std.specs.Prelude.{◌≡◌, ℕ, suc, zero, ◌+◌, ◌-◌, ◌<◌, ◌≤◌, min, List, map, length, slice_get, slice_index, Option, Some, None, Contains}
 use Rattle.std.specs.List.{AllZip}
 use Rattle.std.specs.Global.{Vec}
-use Rattle.hv_text.specs.Lists.{Once}
+use Rattle.hv_lists.specs.Lists.{Once}
 use Rattle.hv_text.specs.declared.name.Name.{Name}
 use Rattle.hv_world.specs.Worlds.{World, Method}
 use Rattle.hv_world.specs.Orders.{Written, IsDirect}

@@ -1,7 +1,7 @@
 //! The numbers of nodes, children before parents.
 
 ghost use Rattle.std.specs.Prelude.{◌≡◌, ℕ, ◌+◌, ◌<◌, ◌≤◌, ◌∷◌, [], ◌++◌, map, length, slice_index, slice_index_or, slice_set, Contains, IfOk, OnOk};
-ghost use Rattle.hv_text.specs.Lists.{Once};
+ghost use Rattle.hv_lists.specs.Lists.{Once};
 ghost use Rattle.hv_plan.specs.TreeViews.{child_view};
 ghost use Rattle.hv_plan.specs.inside.Shaping.{IsNumbering, item, items_at, children_by_number};
 

@@ -1,7 +1,7 @@
 //! The places of children.
 
 ghost use Rattle.std.specs.Prelude.{◌≡◌, map, length, unwrap_or, IfOk, IfErr, OnOk};
-ghost use Rattle.hv_text.specs.Lists.{Once};
+ghost use Rattle.hv_lists.specs.Lists.{Once};
 ghost use Rattle.hv_plan.specs.LineViews.{plan_view};
 ghost use Rattle.hv_plan.specs.Shapes.{ids, all_children};
 ghost use Rattle.hv_plan.specs.inside.Shaping.{lines_of_children};

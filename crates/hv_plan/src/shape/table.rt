@@ -4,7 +4,7 @@ ghost use Rattle.std.specs.Prelude.{◌≡◌, ℕ, Some, None, nat_eq, unwrap_o
 ghost use Rattle.std.specs.Map.{update};
 ghost use Rattle.hv_plan.specs.inside.Tables.{place_by};
 
-use crate::id_table::Seeded;
+use crate::id_table::seed_of;
 use hv_text::Memory;
 use indexmap::IndexMap;
 use std::alloc::Global;
@@ -55,7 +55,7 @@ impl Table {
         let large = ids_from(alloc, bound, ids)?;
         Ok(Table {
             small: vec![in alloc; None; bound]?,
-            large: IndexMap::with_capacity_and_hasher(alloc, large.len(), Seeded::of(&large))?,
+            large: IndexMap::with_capacity_and_hasher(alloc, large.len(), seed_of(&large))?,
         })
     }
 

@@ -80,10 +80,6 @@ abbrev pub IsPlace : List (List ℕ) → List ℕ → Result ℕ ℕ → Type 0
 IsPlace rows row (Ok i) = (i < length rows) × (slice_index_or rows i [] ≡ row)
 IsPlace rows row (Err i) = IsGap rows row i
 
--- how the row at a place stands to another
-abbrev pub IsComparedAt : List (List ℕ) → ℕ → List ℕ → Ordering → Type 0
-IsComparedAt rows i row o = (i < length rows) × (o ≡ slice_cmp nat_cmp (slice_index_or rows i []) row)
-
 -- the same rows, in whatever order and however often
 abbrev pub HasSameRows : List (List ℕ) → List (List ℕ) → Type 0
 HasSameRows old new = (r : List ℕ) → Contains new r ↔ Contains old r

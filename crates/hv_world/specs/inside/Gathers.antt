@@ -5,7 +5,7 @@ use Rattle.std.specs.declared.hash.DefaultHasher.{DefaultHasher}
 use Rattle.hv_text.specs.declared.name.Name.{Name}
 use Rattle.hv_syntax.specs.Values.{Variable}
 use Rattle.hv_world.specs.Eithers.{with_lists, either_lists}
-use Rattle.hv_world.specs.inside.Seeds.{start_of}
+use Rattle.hv_world.specs.inside.Seeds.{start_from}
 use Rattle.hv_world.specs.inside.Tables.{names_in}
 
 abbrev pub lists_in : {A B : Type 0} → Vec (Vec Name A) B → List (List (List ℕ))
@@ -21,4 +21,4 @@ AreGathered old vs new = (seen : List (List (List ℕ))) → with_lists seen new
 
 -- the start has taken in the names of lists that are, by sight, these
 abbrev pub IsSeededBy : List (List (List ℕ)) → DefaultHasher → Type 0
-IsSeededBy lists start = (gathered : List (List (List ℕ))) × (with_lists [] gathered ≡ lists) × (start ≡ start_of (flat_map (λ ns. ns) gathered))
+IsSeededBy lists start = (gathered : List (List (List ℕ))) × (with_lists [] gathered ≡ lists) × (start ≡ start_from (flat_map (λ ns. ns) gathered))

@@ -3,16 +3,15 @@ use Rattle.std.specs.Prelude.{◌≡◌, ℕ, ◌+◌, Bool, true, false, ◌&&�
 use Rattle.indexmap.specs.IndexMap.{IndexMap, get}
 use Rattle.std.specs.Hash as fed
 use Rattle.hv_world.specs.declared.id.TaskName as code
-use Rattle.hv_world.specs.declared.id.TaskName.TheVariants as names
 use Rattle.hv_world.specs.declared.alike.Key as code_key
 use Rattle.hv_world.specs.Values.{Term, object, variable, Subtask, TaskName}
 use Rattle.hv_world.specs.Views.{name_view}
+use Rattle.hv_world.specs.Seeds.{name_writes}
 use Rattle.hv_world.specs.Alike.{Key, key_with, same_name, same_key, has_object, is_fixed}
 
 -- what a name feeds to a hasher
 abbrev pub name_bytes : code.TaskName → fed.HashWrites
-name_bytes (names.Compound t) = fed.u8 0 ++ fed.usize t.0
-name_bytes (names.Primitive a) = fed.u8 1 ++ fed.usize a.0
+name_bytes n = name_writes (name_view n)
 
 -- whether a position is marked
 abbrev pub is_marked : List Bool → ℕ → Bool

@@ -2,7 +2,7 @@
 use Rattle.std.specs.Prelude.{ℕ, ◌≡◌, ◌<◌, ◌≤◌, ◌↔◌, List, [], length, map, Contains, slice_index, slice_index_or, sum_by, ◌+◌, ◌-◌}
 use Rattle.std.specs.Global.{Vec}
 use Rattle.hv_world.specs.Orders.{Leads}
-use Rattle.hv_text.specs.Lists.{Once}
+use Rattle.hv_lists.specs.Lists.{Once}
 use Rattle.hv_world.specs.declared.order.walk.Mark.{Mark}
 use Rattle.hv_world.specs.declared.order.walk.Mark.TheVariants as marks
 use Rattle.hv_world.specs.declared.order.walk.Walk.{Walk}

@@ -11,8 +11,8 @@ with_taken_in s [] = s
 with_taken_in s (n ∷ ns) = with_taken_in (fold sip.write s (words_of n)) ns
 
 -- the start that these names make
-abbrev pub start_of : List (List ℕ) → DefaultHasher
-start_of ns = with_taken_in sip.initial ns
+abbrev pub start_from : List (List ℕ) → DefaultHasher
+start_from ns = with_taken_in sip.initial ns
 
 -- the type that stands beside a name, where one is written
 abbrev pub written_type : TypeOf → List (List ℕ)

@@ -3,6 +3,7 @@ use Rattle.std.specs.Prelude.{ℕ, List, [], ◌∷◌, map, Option, Some, None,
 use Rattle.std.specs.List.{slice_get}
 use Rattle.std.specs.declared.hash.DefaultHasher.{DefaultHasher}
 use Rattle.indexmap.specs.IndexMap.{hasher_of}
+use Rattle.hv_text.specs.Seeds.{start_of}
 use Rattle.hv_text.specs.Names.{text_of}
 use Rattle.hv_text.specs.declared.name.Name.{Name}
 use Rattle.hv_syntax.specs.Views.{word_view, variable_view}
@@ -26,7 +27,7 @@ places_by t n = place_beside t.places.entries n
 
 -- the start that its names are hashed from
 abbrev pub seed_of : Names → DefaultHasher
-seed_of t = (hasher_of t.places).start
+seed_of t = start_of (hasher_of t.places)
 
 -- these places, and one for a name that has none
 abbrev pub with_place : (List ℕ → Option ℕ) → List ℕ → ℕ → List ℕ → Option ℕ

@@ -2,16 +2,17 @@
 
 ghost use Rattle.std.specs.Prelude.{◌≡◌, map, IfOk, OnOk};
 ghost use Rattle.indexmap.specs.IndexSet.{hasher_of};
+ghost use Rattle.hv_text.specs.Seeds.{start_of};
 ghost use Rattle.hv_syntax.specs.DomainViews.{domain_view};
 ghost use Rattle.hv_syntax.specs.ProblemViews.{problem_view};
 ghost use Rattle.hv_world.specs.Eithers.{with_lists, either_types};
 ghost use Rattle.hv_world.specs.inside.Tables.{names_in};
 ghost use Rattle.hv_world.specs.inside.Gathers.{IsSeededBy};
 
-use crate::seed::Seeded;
+use crate::seed::with_lists;
 use crate::tables::gather::gathered;
 use hv_syntax::{DomainText, ProblemText};
-use hv_text::{Memory, Name};
+use hv_text::{Memory, Name, Seeded};
 use indexmap::IndexSet;
 use std::alloc::Global;
 
@@ -55,10 +56,10 @@ pub(crate) fn either_types<'s>(
     ensures keys { IfOk result
         (λ t. map names_in t.keys
         ≡ either_types (domain_view domain.now) (problem_view problem.now)) }
-    ensures seed { IfOk result (λ t. IsSeededBy (map names_in t.keys) (hasher_of t).start) }
+    ensures seed { IfOk result (λ t. IsSeededBy (map names_in t.keys) (start_of (hasher_of t))) }
 {
     let lists = gathered(alloc, domain, problem)?;
-    let mut eithers = IndexSet::with_hasher(alloc, Seeded::new().with_lists(&lists));
+    let mut eithers = IndexSet::with_hasher(alloc, with_lists(Seeded::new(), &lists));
     add_lists(alloc, &mut eithers, &lists)?;
     Ok(eithers)
 }

@@ -3,16 +3,17 @@
 ghost use Rattle.std.specs.Prelude.{◌≡◌, ◌∷◌, ◌++◌, map, codes, IfOk, OnOk};
 ghost use Rattle.std.specs.List.{flat_map};
 ghost use Rattle.indexmap.specs.IndexSet.{hasher_of};
+ghost use Rattle.hv_text.specs.Seeds.{start_of};
 ghost use Rattle.hv_text.specs.Names.{text_of};
 ghost use Rattle.hv_syntax.specs.Values.{type_name};
 ghost use Rattle.hv_syntax.specs.Views.{type_view, typed_view};
 ghost use Rattle.hv_world.specs.Names.{with_names, by_sight};
 ghost use Rattle.hv_world.specs.Known.{both_types, variables};
-ghost use Rattle.hv_world.specs.inside.Seeds.{start_of, with_taken_in, written_names};
+ghost use Rattle.hv_world.specs.inside.Seeds.{start_from, with_taken_in, written_names};
 
-use crate::seed::Seeded;
+use crate::seed::with_typed;
 use hv_syntax::{TypeText, TypedText};
-use hv_text::{Memory, Name};
+use hv_text::{Memory, Name, Seeded};
 use indexmap::IndexSet;
 use std::alloc::Global;
 
@@ -77,12 +78,12 @@ pub(crate) fn type_names<'s>(
     list: &[TypedText<'s>],
 ) -> Result<IndexSet<Name<'s>, Seeded>, Memory>
     ensures seed { IfOk result
-        (λ t. (hasher_of t).start ≡ start_of (flat_map written_names (map typed_view list.now))) }
+        (λ t. start_of (hasher_of t) ≡ start_from (flat_map written_names (map typed_view list.now))) }
     ensures keys { IfOk result
         (λ t. map text_of t.keys
         ≡ by_sight (codes "object" ∷ flat_map both_types (map typed_view list.now))) }
 {
-    let mut names = IndexSet::with_hasher(alloc, Seeded::new().with_typed(list));
+    let mut names = IndexSet::with_hasher(alloc, with_typed(Seeded::new(), list));
     names.insert(object())?;
     add_types(&mut names, list)?;
     Ok(names)
@@ -95,14 +96,14 @@ pub(crate) fn object_names<'s>(
     objects: &[TypedText<'s>],
 ) -> Result<IndexSet<Name<'s>, Seeded>, Memory>
     ensures seed { IfOk result
-        (λ t. (hasher_of t).start
-        ≡ with_taken_in (start_of (flat_map written_names (map typed_view constants.now)))
+        (λ t. start_of (hasher_of t)
+        ≡ with_taken_in (start_from (flat_map written_names (map typed_view constants.now)))
         (flat_map written_names (map typed_view objects.now))) }
     ensures keys { IfOk result
         (λ t. map text_of t.keys
         ≡ by_sight (variables (map typed_view constants.now ++ map typed_view objects.now))) }
 {
-    let seed = Seeded::new().with_typed(constants).with_typed(objects);
+    let seed = with_typed(with_typed(Seeded::new(), constants), objects);
     let mut names = IndexSet::with_hasher(alloc, seed);
     add_names(&mut names, constants)?;
     add_names(&mut names, objects)?;

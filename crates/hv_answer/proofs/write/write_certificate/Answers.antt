@@ -1,6 +1,7 @@
 use Rattle.std.proofs.Common.{rules}
+use Rattle.hv_lists.proofs.Options.{on_err}
 use Rattle.hv_certificate.specs.Texts.{root_text, nodes_text}
-use Rattle.hv_answer.proofs.WriteLemmas.{first_fails, on_err, then_err, then_ok}
+use Rattle.hv_answer.proofs.WriteLemmas.{first_fails, then_err, then_ok}
 use Rattle.hv_answer.proofs.write.write_certificate.Goals as goal
 
 pub returns-in_err-write_root-clause-err : goal.returns-in_err-write_root-clause-err

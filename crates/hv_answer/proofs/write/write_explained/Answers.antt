@@ -1,7 +1,8 @@
 use Rattle.std.proofs.Common.{rules}
+use Rattle.hv_lists.proofs.Options.{on_err}
 use Rattle.hv_answer.specs.Kinds.{verdict_of}
 use Rattle.hv_answer.specs.Text.{verdict_text, explanation}
-use Rattle.hv_answer.proofs.WriteLemmas.{first_fails, on_err, then_err}
+use Rattle.hv_answer.proofs.WriteLemmas.{first_fails, then_err}
 use Rattle.hv_answer.proofs.write.write_explained.Goals as goal
 
 pub returns-in_err-write_verdict-clause-err : goal.returns-in_err-write_verdict-clause-err

@@ -1,8 +1,9 @@
 use Rattle.std.proofs.Common.{rules, [], ◌∷◌, codes, decimal}
+use Rattle.hv_lists.proofs.Options.{on_err}
 use Rattle.hv_answer.specs.Kinds.{which_name, fault_number, fault_name}
 use Rattle.hv_certificate.specs.Texts.{joined}
 use Rattle.hv_answer.specs.Text.{place_text}
-use Rattle.hv_answer.proofs.WriteLemmas.{first_fails, on_err, then_err}
+use Rattle.hv_answer.proofs.WriteLemmas.{first_fails, then_err}
 use Rattle.hv_answer.proofs.write.write_fault.Goals as goal
 
 pub returns-in_err-write_parts-clause-err : goal.returns-in_err-write_parts-clause-err

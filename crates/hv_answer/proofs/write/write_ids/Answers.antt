@@ -1,6 +1,7 @@
 use Rattle.std.proofs.Common.{rules}
+use Rattle.hv_lists.proofs.Options.{on_err}
 use Rattle.hv_certificate.specs.Texts.{id_text}
-use Rattle.hv_answer.proofs.WriteLemmas.{item_fails, on_err}
+use Rattle.hv_answer.proofs.WriteLemmas.{item_fails}
 use Rattle.hv_answer.proofs.write.write_ids.Goals as goal
 
 pub returns-in_err-write_parts-clause-err : goal.returns-in_err-write_parts-clause-err

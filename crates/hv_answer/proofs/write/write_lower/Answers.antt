@@ -1,5 +1,6 @@
 use Rattle.std.proofs.Common.{◌≡◌, ◌+◌, ◌-◌, arith}
-use Rattle.hv_answer.proofs.WriteLemmas.{lower_fails, lower_more, on_err}
+use Rattle.hv_lists.proofs.Options.{on_err}
+use Rattle.hv_answer.proofs.WriteLemmas.{lower_fails, lower_more}
 use Rattle.hv_answer.proofs.write.write_lower.Goals as goal
 
 pub returns-in_err-write_lower_part-clause-err : goal.returns-in_err-write_lower_part-clause-err

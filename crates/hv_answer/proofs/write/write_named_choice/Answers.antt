@@ -1,6 +1,7 @@
 use Rattle.std.proofs.Common.{rules}
+use Rattle.hv_lists.proofs.Options.{on_err}
 use Rattle.hv_certificate.specs.Texts.{choice_text}
-use Rattle.hv_answer.proofs.WriteLemmas.{first_fails, on_err, then_err}
+use Rattle.hv_answer.proofs.WriteLemmas.{first_fails, then_err}
 use Rattle.hv_answer.proofs.write.write_named_choice.Goals as goal
 
 pub returns-in_err-write_all-clause-err : goal.returns-in_err-write_all-clause-err

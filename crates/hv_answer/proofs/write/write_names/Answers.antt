@@ -1,6 +1,7 @@
 use Rattle.std.proofs.Common.{ap}
+use Rattle.hv_lists.proofs.Options.{on_err}
 use Rattle.hv_certificate.specs.Texts.{name_text}
-use Rattle.hv_answer.proofs.WriteLemmas.{item_fails, on_err}
+use Rattle.hv_answer.proofs.WriteLemmas.{item_fails}
 use Rattle.hv_answer.proofs.write.write_names.Goals as goal
 
 pub returns-in_err-write_name-clause-err : goal.returns-in_err-write_name-clause-err

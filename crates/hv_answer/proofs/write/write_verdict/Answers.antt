@@ -1,6 +1,7 @@
 use Rattle.std.proofs.Common.{rules, codes}
+use Rattle.hv_lists.proofs.Options.{on_err}
 use Rattle.hv_answer.specs.Text.{verdict_words}
-use Rattle.hv_answer.proofs.WriteLemmas.{first_fails, on_err, then_err}
+use Rattle.hv_answer.proofs.WriteLemmas.{first_fails, then_err}
 use Rattle.hv_answer.proofs.write.write_verdict.Goals as goal
 
 pub returns-in_err-write_words-clause-err : goal.returns-in_err-write_words-clause-err

@@ -1,11 +1,11 @@
 use Rattle.std.proofs.Common.{◌≡◌, ◌<◌, ◌+◌, length, ◌∙◌, ap, subst, arith}
+use Rattle.hv_lists.proofs.Pairs.{same_length}
 use Rattle.hv_world.specs.Bindings.{ground_actions_view}
 use Rattle.hv_world.specs.WorldViews.{world_view}
 use Rattle.hv_state.specs.declared.trace.Stop.TheVariants as stops
 use Rattle.hv_plan.specs.BuiltTrees.{tree_view}
 use Rattle.hv_plan.specs.LineViews.{plan_view}
 use Rattle.hv_plan.specs.PlanTrees.{IsActionOf}
-use Rattle.hv_plan.proofs.FitLemmas.{same_length}
 use Rattle.hv_judge.specs.Checked.{count_of}
 use Rattle.hv_judge.proofs.LawPlans.{LawsOfPlans}
 use Rattle.hv_judge.proofs.CheckLemmas.{fails, tells_solves, as_many_actions, one_at_most, stops_at, counts_run, counts_goal, counts_all, small_sum}

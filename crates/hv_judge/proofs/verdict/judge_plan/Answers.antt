@@ -1,12 +1,12 @@
 use Rattle.std.proofs.Common.{◌<◌, subst}
 use Rattle.std.proofs.lemmas.Result.{err_from_is_err_and}
+use Rattle.hv_lists.proofs.Pairs.{same_length}
 use Rattle.hv_world.specs.WorldViews.{world_view}
 use Rattle.hv_state.specs.Plans as states
 use Rattle.hv_state.specs.Plans.{IsStop}
 use Rattle.hv_plan.specs.BuiltTrees.{tree_view}
 use Rattle.hv_plan.specs.LineViews.{plan_view}
 use Rattle.hv_plan.specs.PlanTrees.{IsActionOf}
-use Rattle.hv_plan.proofs.FitLemmas.{same_length}
 use Rattle.hv_judge.specs.Causes.{IsFirstAbove, IsWithinLimit}
 use Rattle.hv_judge.proofs.VerdictLemmas.{has_tree, tree_in, no_tree, no_run, no_goal, run_is, reaches_goal, solves, explains, not_solved}
 use Rattle.hv_judge.proofs.verdict.judge_plan.Goals as goal

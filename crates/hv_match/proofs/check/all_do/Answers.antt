@@ -1,17 +1,18 @@
 use Rattle.std.proofs.Common.{ℕ, map, get_or, subst, sym, refl, arith}
 use Rattle.std.proofs.lemmas.List.{take_all}
+use Rattle.hv_lists.proofs.Pairs.{same_length}
 use Rattle.hv_world.specs.Views.{subtask_view}
 use Rattle.hv_world.specs.declared.formula.Subtask as code_subtask
 use Rattle.hv_plan.specs.BuiltTrees.{tree_view}
 use Rattle.hv_plan.specs.TreeViews.{child_view}
 use Rattle.hv_match.specs.Candidates.{Does, child_task}
-use Rattle.hv_match.proofs.Checking.{none, no, zip_at, zip_more, zip_len, zip_to_right, zip_from_right}
+use Rattle.hv_match.proofs.Checking.{none, no, zip_at, zip_more, zip_to_right, zip_from_right}
 use Rattle.hv_match.proofs.check.all_do.Goals as goal
 
 pub returns-then-places-subtasks : goal.returns-then-places-subtasks
 returns-then-places-subtasks c =
     let cs = map (child_task (tree_view c.args.tree.now)) (map child_view c.args.children.now) in
-    no (λ a. c.if-places-subtasks.true (zip_len (λ (x : ℕ) (s : code_subtask.Subtask). Does cs c.args.values.now x (subtask_view s)) c.args.places.now c.args.subtasks.now (zip_from_right subtask_view (Does cs c.args.values.now) c.args.places.now c.args.subtasks.now a)))
+    no (λ a. c.if-places-subtasks.true (same_length (λ (x : ℕ) (s : code_subtask.Subtask). Does cs c.args.values.now x (subtask_view s)) c.args.places.now c.args.subtasks.now (zip_from_right subtask_view (Does cs c.args.values.now) c.args.places.now c.args.subtasks.now a)))
 
 pub returns-then-not-does : goal.returns-then-not-does
 returns-then-not-does c =

@@ -1,7 +1,7 @@
 use Rattle.std.proofs.Common.{◌≡◌, ◌∙◌, ◌+◌, ◌++◌, ◌∷◌, [], ℕ, List, Bool, true, length, take, drop, set, get_or, sym, ap, subst, arith}
 use Rattle.std.proofs.lemmas.List.{length-set}
+use Rattle.hv_lists.proofs.Places.{take_one}
 use Rattle.hv_match.specs.inside.Checks.{AreMarked}
-use Rattle.hv_match.proofs.CountLemmas.{take_one}
 use Rattle.hv_match.proofs.Checking.{one_marked, written_back}
 use Rattle.hv_match.proofs.check.are_all_places.Goals as goal
 

@@ -1,7 +1,7 @@
 use Rattle.std.proofs.Common.{map, rules}
 use Rattle.std.proofs.lemmas.List.Sorted.{answers_always}
 use Rattle.hv_world.specs.Bindings.{object_number}
-use Rattle.hv_world.proofs.TypeLemmas.{searched}
+use Rattle.hv_world.proofs.Cited.{searched}
 use Rattle.hv_match.proofs.Steps.{has_is}
 use Rattle.hv_match.proofs.puzzle.is_in.Goals as goal
 

@@ -1,7 +1,8 @@
 use Rattle.std.proofs.Common.{◌≡◌, ◌∙◌, length, true, arith, get_or, ◌<◌}
 use Rattle.std.proofs.lemmas.List.{get_or_default, take_all}
+use Rattle.hv_lists.proofs.Contained.{contains_at}
 use Rattle.hv_match.specs.inside.States.{AreTold}
-use Rattle.hv_match.proofs.Told.{stands_there, stands_nowhere, none_twice}
+use Rattle.hv_match.proofs.Told.{stands_nowhere, none_twice}
 use Rattle.hv_match.proofs.state.is_made.Goals as goal
 
 pub returns-then-is_distinct-clause-made : goal.returns-then-is_distinct-clause-made
@@ -9,7 +10,7 @@ returns-then-is_distinct-clause-made g c = λ t k.
     (let q = c.args.at.now.chosen.items in
     let low : length q < (g.R.Rule.search c.args.rule.now).distinct = omega (arith, c.if-is_distinct.ensures.level, c.len.ensures, c.args.at.now.chosen.ok.0) in
     let there = rw c.deref.ensures.value at c.stands.ensures.0 t in
-    none_twice (g.R.Rule.search c.args.rule.now).options (g.R.Rule.search c.args.rule.now).good (g.R.Rule.search c.args.rule.now).distinct q c.args.choice low (stands_there q _ c.args.choice there) c.is_distinct.ensures.wanted k)
+    none_twice (g.R.Rule.search c.args.rule.now).options (g.R.Rule.search c.args.rule.now).good (g.R.Rule.search c.args.rule.now).distinct q c.args.choice low (contains_at q _ c.args.choice there) c.is_distinct.ensures.wanted k)
 
 pub returns-then-is_distinct-clause-other : goal.returns-then-is_distinct-clause-other
 returns-then-is_distinct-clause-other g c = λ f low m.

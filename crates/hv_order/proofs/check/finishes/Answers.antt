@@ -1,9 +1,9 @@
 use Rattle.std.proofs.Common.{◌≡◌, ℕ, ◌+◌, List, arith, map, sym, ap, ◌∙◌, subst}
+use Rattle.hv_lists.proofs.Places.{slice_get_here}
 use Rattle.hv_plan.specs.BuiltTrees.{tree_view}
 use Rattle.hv_plan.specs.TreeViews.{child_view}
 use Rattle.hv_plan.specs.Trees.{Item}
 use Rattle.hv_plan.specs.PlanTrees.{children_at, children_of}
-use Rattle.hv_plan.proofs.ChildLemmas.{slice_get_here}
 use Rattle.hv_order.specs.inside.Checks.{IsLatest, index_in, finish_in, at_of}
 use Rattle.hv_order.specs.declared.entries.Entry.{Entry}
 use Rattle.hv_order.proofs.CheckSteps.{AreFirst, finish_more, finishes_are}

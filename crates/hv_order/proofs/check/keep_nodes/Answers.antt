@@ -1,8 +1,8 @@
 use Rattle.std.proofs.Common.{◌≡◌, ℕ, Some, arith, sym, subst, ◌∙◌, slice_get, below_more}
 use Rattle.std.proofs.lemmas.Option.{slice_get_within}
+use Rattle.hv_lists.proofs.Places.{slice_get_here}
 use Rattle.hv_world.specs.WorldViews.{world_view}
 use Rattle.hv_plan.specs.BuiltTrees.{tree_view}
-use Rattle.hv_plan.proofs.ChildLemmas.{slice_get_here}
 use Rattle.hv_order.specs.inside.Checks.{KeepsNode, KeepNodes}
 use Rattle.hv_order.specs.declared.entries.Entry.{Entry}
 use Rattle.hv_order.proofs.Checked.{tells_yes}

@@ -1,7 +1,7 @@
 use Rattle.std.proofs.Common.{◌-◌, arith}
+use Rattle.hv_lists.proofs.Places.{slice_get_here}
 use Rattle.hv_world.specs.WorldViews.{world_view}
 use Rattle.hv_plan.specs.BuiltTrees.{tree_view}
-use Rattle.hv_plan.proofs.ChildLemmas.{slice_get_here}
 use Rattle.hv_order.proofs.TreeLines.{line_has_id}
 use Rattle.hv_order.proofs.EntryLemmas.{other_count, other_id, all_ids, id_more}
 use Rattle.hv_order.proofs.entries.has_lines.Goals as goal

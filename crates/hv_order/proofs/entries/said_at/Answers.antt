@@ -1,5 +1,5 @@
 use Rattle.std.proofs.Common.{◌≡◌, ◌+◌, ◌-◌, arith}
-use Rattle.hv_plan.proofs.ChildLemmas.{slice_get_here}
+use Rattle.hv_lists.proofs.Places.{slice_get_here}
 use Rattle.hv_order.proofs.EntryLemmas.{line_is_part}
 use Rattle.hv_order.proofs.entries.said_at.Goals as goal
 

@@ -1,8 +1,8 @@
 use Rattle.std.proofs.Common.{◌≡◌, sym, ◌∙◌}
+use Rattle.hv_lists.proofs.Contained.{in_tail}
 use Rattle.hv_order.specs.inside.Arrangements.{arrangement_of}
 use Rattle.hv_order.specs.inside.Trials.{finish_of}
 use Rattle.hv_order.specs.inside.Frames.{IsLeastWith, Won}
-use Rattle.hv_order.proofs.Members.{in_tail}
 use Rattle.hv_order.proofs.Framing.{still_trying}
 use Rattle.hv_order.proofs.Lasting.{won_by_layout, won_by, one_more}
 use Rattle.hv_order.proofs.Settling.{winner_listed}

@@ -1,9 +1,9 @@
 use Rattle.std.proofs.Common.{suc, ◌≡◌, length, Some, None, [], ◌∷◌, refl, sym, arith}
+use Rattle.hv_lists.proofs.Contained.{at_head, in_tail}
 use Rattle.hv_order.specs.inside.Arrangements.{arrangement_of}
 use Rattle.hv_order.specs.Tables.{IsLeast}
 use Rattle.hv_order.specs.inside.Facts.{FitsWith}
 use Rattle.hv_order.specs.inside.Trials.{finish_of}
-use Rattle.hv_order.proofs.Members.{at_head, in_tail}
 use Rattle.hv_order.proofs.Choosing.{none_of_use, all_tried}
 use Rattle.hv_order.proofs.Lasting.{kept, one_more}
 use Rattle.hv_order.proofs.frame.next_turn.Goals as goal

@@ -2,7 +2,7 @@ use Rattle.std.proofs.Common.{◌≡◌, Option, Some, None, IsSome}
 use Rattle.hv_world.specs.Worlds.{Method}
 use Rattle.hv_world.specs.WorldViews.{world_view}
 use Rattle.hv_plan.specs.BuiltTrees.{tree_view}
-use Rattle.hv_match.proofs.NodeLemmas.{has_method}
+use Rattle.hv_match.proofs.Cited.{has_method}
 use Rattle.hv_order.proofs.node_methods.method_of.Goals as goal
 
 not_none : (o : Option Method) → None ≡ o → IsSome o → ⊥

@@ -1,6 +1,6 @@
 use Rattle.std.proofs.Common.{map, subst}
 use Rattle.std.specs.Rc.{rc_value}
-use Rattle.hv_match.proofs.CountLemmas.{map_end}
+use Rattle.hv_lists.proofs.Places.{map_end}
 use Rattle.hv_world.specs.MethodViews.{method_view}
 use Rattle.hv_world.specs.declared.method.Method as code_method
 use Rattle.hv_order.specs.inside.Sequencings.{IsSequencingOf}

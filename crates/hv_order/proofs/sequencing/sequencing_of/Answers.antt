@@ -1,10 +1,11 @@
 use Rattle.std.proofs.Common.{◌≡◌, Some, None, slice_get, sym}
 use Rattle.std.specs.Rc.{rc_value}
+use Rattle.hv_lists.proofs.Places.{map_some}
 use Rattle.hv_world.specs.WorldViews.{world_view}
 use Rattle.hv_plan.specs.BuiltTrees.{tree_view}
 use Rattle.hv_plan.specs.TreeViews.{node_view}
-use Rattle.hv_match.proofs.NodeLemmas.{has_method}
-use Rattle.hv_order.proofs.Sequenced.{map_some, map_none, of_method, none_of_method}
+use Rattle.hv_match.proofs.Cited.{has_method}
+use Rattle.hv_order.proofs.Sequenced.{map_none, of_method, none_of_method}
 use Rattle.hv_order.proofs.sequencing.sequencing_of.Goals as goal
 
 pub unreachable-requires : goal.unreachable-requires

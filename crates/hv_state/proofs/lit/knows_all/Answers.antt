@@ -1,8 +1,9 @@
 use Rattle.std.proofs.Common.{drop, ◌+◌, sym, subst}
 use Rattle.std.specs.List.{Contains}
+use Rattle.hv_lists.proofs.Contained.{none_in_empty}
 use Rattle.hv_state.specs.inside.Rows.{rows_in}
 use Rattle.hv_state.specs.inside.Bits.{Knows}
-use Rattle.hv_state.proofs.RowLemmas.{rows_left, no_rows_left, contains_none}
+use Rattle.hv_state.proofs.RowLemmas.{rows_left, no_rows_left}
 use Rattle.hv_state.proofs.BitLemmas.{knows_more}
 use Rattle.hv_state.proofs.lit.knows_all.Goals as goal
 
@@ -17,4 +18,4 @@ loop-row-preserved c =
 
 pub returns : goal.returns
 returns c =
-    λ t. c.loop-row.invariant (λ r m. absurd (contains_none r (subst (λ left. Contains left r) (no_rows_left c.args.more.now c.loop-row.row-index c.loop-row-test.false) m)))
+    λ t. c.loop-row.invariant (λ r m. absurd (none_in_empty r (subst (λ left. Contains left r) (no_rows_left c.args.more.now c.loop-row.row-index c.loop-row-test.false) m)))

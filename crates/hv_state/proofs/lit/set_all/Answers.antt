@@ -1,8 +1,9 @@
 use Rattle.std.proofs.Common.{◌↔◌, ◌⊎◌, List, ℕ, drop, ◌+◌, sym, subst, ◌∙◌}
 use Rattle.std.specs.List.{Contains}
+use Rattle.hv_lists.proofs.Contained.{in_tail}
 use Rattle.hv_state.specs.inside.Rows.{rows_in}
 use Rattle.hv_state.specs.inside.Bits.{Lit, IsLit}
-use Rattle.hv_state.proofs.RowLemmas.{rows_left, no_rows_left, contains_later}
+use Rattle.hv_state.proofs.RowLemmas.{rows_left, no_rows_left}
 use Rattle.hv_state.proofs.BitLemmas.{set_more, all_set}
 use Rattle.hv_state.proofs.lit.set_all.Goals as goal
 
@@ -17,7 +18,7 @@ loop-row-preserved c =
     let one = subst (λ r. IsLit rows c.loop-row.words.items r c.set.new.words.items) c.row.ensures c.set.ensures.lit in
     let before = subst (λ xs. (r : List ℕ) → (now r ⊎ Contains xs r) ↔ Q r) left c.loop-row.invariant.2 in (
       c.set.ensures.len ∙ c.loop-row.invariant.0,
-      λ r m. c.loop-row.invariant.1 r (subst (λ xs. Contains xs r) (sym left) (contains_later r row rest m)),
+      λ r m. c.loop-row.invariant.1 r (subst (λ xs. Contains xs r) (sym left) (in_tail row rest r m)),
       set_more now (Lit (rows, c.set.new.words.items)) row rest Q one before,
     )
 

@@ -1,17 +1,17 @@
 use Rattle.std.proofs.Common.{◌≡◌, ◌↔◌, ◌⊎◌, inl, inr, ◌+◌, ℕ, List, [], Some, drop, get_or, slice_get, sym, subst, arith}
 use Rattle.std.specs.List.{Contains}
 use Rattle.std.proofs.lemmas.List.{at_drop_all}
+use Rattle.hv_lists.proofs.Contained.{none_in_empty}
 use Rattle.hv_world.specs.Bindings.{ground_action, ground_actions_view}
 use Rattle.hv_world.specs.WorldViews.{world_view}
 use Rattle.hv_state.specs.inside.Rows.{IsRowOf, rows_in, HasSameRows}
 use Rattle.hv_state.specs.inside.Notes.{TouchedIn}
-use Rattle.hv_state.proofs.RowLemmas.{contains_none}
 use Rattle.hv_state.proofs.NoteLemmas.{actions_left, get_there, touched_more, done_more}
 use Rattle.hv_state.proofs.touched.touched.Goals.{then-len-distinct+in_ok-merge_distinct, else-len-distinct}
 use Rattle.hv_state.proofs.touched.touched.Goals as goal
 
 pub loop-number-init : goal.loop-number-init
-loop-number-init c = (λ r. (λ m. elim m [ inl l ↦ absurd (contains_none r (subst (λ xs. Contains (rows_in xs) r) c.new-rows.ensures.items l)) | inr x ↦ x ], λ x. inr x), λ j a lt. absurd (omega (arith, lt)))
+loop-number-init c = (λ r. (λ m. elim m [ inl l ↦ absurd (none_in_empty r (subst (λ xs. Contains (rows_in xs) r) c.new-rows.ensures.items l)) | inr x ↦ x ], λ x. inr x), λ j a lt. absurd (omega (arith, lt)))
 
 pub loop-number-preserved : goal.loop-number-preserved
 loop-number-preserved c =

@@ -1,5 +1,6 @@
 use Rattle.std.proofs.Common.{refl}
-use Rattle.hv_text.proofs.WriteLemmas.{item_fails, on_err}
+use Rattle.hv_lists.proofs.Options.{on_err}
+use Rattle.hv_text.proofs.WriteLemmas.{item_fails}
 use Rattle.hv_text.proofs.io.write_parts.Goals as goal
 
 pub returns-in_err-write_all-clause-err : goal.returns-in_err-write_all-clause-err

@@ -1,7 +1,7 @@
 use Rattle.std.proofs.Common.{ℕ, take, subst}
 use Rattle.std.proofs.lemmas.List.{length-map}
 use Rattle.hv_world.specs.Views.{subtask_view}
-use Rattle.hv_text.specs.Lists.{Once}
+use Rattle.hv_lists.specs.Lists.{Once}
 use Rattle.hv_match.specs.inside.PuzzleViews.{puzzle_view}
 use Rattle.hv_match.proofs.Fitting.{good_match}
 use Rattle.hv_match.proofs.puzzle.PuzzleRule.is_distinct.Goals as goal

@@ -1,11 +1,12 @@
 use Rattle.std.proofs.Common.{sym, None, ◌≡◌, ◌<◌, Some, ap, length, map, slice_get, arith}
+use Rattle.hv_lists.proofs.Pairs.{same_length}
+use Rattle.hv_lists.proofs.Places.{member_at, slice_get_here}
 use Rattle.hv_world.specs.WorldViews.{world_view}
 use Rattle.hv_plan.specs.inside.FitViews.{decomposed_line, decomposed_lines, IsDecomposed}
 use Rattle.hv_plan.specs.LineViews.{decomposition_view, plan_view}
 use Rattle.hv_plan.specs.inside.ShapeViews.{shape_view}
 use Rattle.hv_plan.specs.TreeViews.{child_view}
-use Rattle.hv_plan.proofs.FitLemmas.{same_length, member_at}
-use Rattle.hv_plan.proofs.ChildLemmas.{slice_get_here, list_here, node_within, names_are_numbered, children_stand_at, cause_of_children, if_ok_more}
+use Rattle.hv_plan.proofs.ChildLemmas.{list_here, node_within, names_are_numbered, children_stand_at, cause_of_children, if_ok_more}
 use Rattle.hv_plan.proofs.build.Methods.place_cause.Goals as goal
 
 pub line_cause-requires-clause-known : goal.line_cause-requires-clause-known

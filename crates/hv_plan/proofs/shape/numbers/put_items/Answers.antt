@@ -1,5 +1,5 @@
 use Rattle.std.proofs.Common.{refl, slice_index}
-use Rattle.hv_plan.proofs.ShapeWalks.{contained_at}
+use Rattle.hv_lists.proofs.Places.{contained_at}
 use Rattle.hv_plan.proofs.shape.numbers.put_items.Goals as goal
 
 pub item-requires : goal.item-requires

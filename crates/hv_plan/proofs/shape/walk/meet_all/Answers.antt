@@ -1,7 +1,8 @@
 use Rattle.std.proofs.Common.{◌<◌, ◌∷◌, [], ℕ, List, refl, sym, ◌∙◌, subst, arith, length, take, slice_index}
 use Rattle.std.proofs.lemmas.List.{take_more}
+use Rattle.hv_lists.proofs.Places.{contained_at}
 use Rattle.hv_plan.specs.inside.Shaping.{Grows}
-use Rattle.hv_plan.proofs.ShapeWalks.{contained_at, grows_more}
+use Rattle.hv_plan.proofs.ShapeWalks.{grows_more}
 use Rattle.hv_plan.proofs.shape.walk.meet_all.Goals as goal
 
 pub meet-requires-clause-within : goal.meet-requires-clause-within

@@ -1,6 +1,7 @@
 use Rattle.std.proofs.Common.{◌≡◌, subst, ap, ◌∙◌}
+use Rattle.hv_lists.proofs.Options.{on_err}
 use Rattle.hv_state.specs.inside.Rows.{rows_in, rows_shared, IsWithoutAll}
-use Rattle.hv_state.proofs.StateLemmas.{same_if, on_err, applied}
+use Rattle.hv_state.proofs.StateLemmas.{same_if, applied}
 use Rattle.hv_state.proofs.sorted.SortedStateState.apply.Goals as goal
 
 pub returns-in_err-reserve-clause-err : goal.returns-in_err-reserve-clause-err

@@ -2,7 +2,7 @@ use Rattle.std.proofs.Common.{◌≡◌, ◌+◌, ◌∙◌, length, subst, arit
 use Rattle.hv_world.specs.Bindings.{objects_in, ground_actions_view}
 use Rattle.hv_world.specs.Views.{formula_view}
 use Rattle.hv_world.specs.WorldViews.{world_view}
-use Rattle.hv_world.proofs.GroundingLemmas.{grounded_length}
+use Rattle.hv_world.proofs.Cited.{grounded_length}
 use Rattle.hv_state.specs.Plans.{plan}
 use Rattle.hv_state.specs.Changes.{Mentions, IsNextChange}
 use Rattle.hv_state.specs.inside.Histories.{IsNext}

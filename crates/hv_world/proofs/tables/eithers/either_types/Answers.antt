@@ -1,8 +1,8 @@
 use Rattle.std.proofs.Common.{[], map, ap, sym, ◌∙◌}
 use Rattle.std.specs.List.{flat_map}
-use Rattle.hv_world.specs.declared.seed.Seeded.{Seeded}
+use Rattle.hv_text.specs.declared.seed.Seeded.{Seeded}
 use Rattle.hv_world.specs.Eithers.{with_lists}
-use Rattle.hv_world.specs.inside.Seeds.{with_taken_in, start_of}
+use Rattle.hv_world.specs.inside.Seeds.{with_taken_in, start_from}
 use Rattle.hv_world.specs.inside.Tables.{names_in}
 use Rattle.hv_world.specs.inside.Gathers.{lists_in}
 use Rattle.hv_world.proofs.EitherTables.{flat_names}
@@ -17,5 +17,5 @@ returns-clause-seed c = (
   lists_in c.in_ok-lists.lists,
   sym (c.in_ok-add_lists.ensures.keys ∙ (λ i. with_lists (map names_in (c.with_hasher-eithers.ensures.empty i)) (map names_in (c.deref-2.ensures.value i)))),
   ap (λ (h : Seeded). h.start) (c.in_ok-add_lists.ensures.seed ∙ c.with_hasher-eithers.ensures.hasher) ∙ c.with_lists.ensures
-      ∙ (λ i. with_taken_in (c.new.ensures i) (flat_map names_in (c.deref.ensures.value i))) ∙ ap start_of (flat_names c.in_ok-lists.lists.items),
+      ∙ (λ i. with_taken_in (c.new.ensures i) (flat_map names_in (c.deref.ensures.value i))) ∙ ap start_from (flat_names c.in_ok-lists.lists.items),
 )

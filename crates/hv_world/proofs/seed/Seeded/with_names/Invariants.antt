@@ -1,7 +1,0 @@
-use Rattle.std.proofs.Common.{◌≡◌, drop, map}
-use Rattle.hv_text.specs.Names.{text_of}
-use Rattle.hv_world.specs.inside.Seeds.{with_taken_in}
-use Rattle.hv_world.proofs.seed.Seeded.with_names.Given as goal
-
-abbrev pub invariant-loop-name : goal.invariant-loop-name
-invariant-loop-name l = with_taken_in l.seed.start (map text_of (drop l.name-index l.names)) ≡ with_taken_in l.fn.self.start (map text_of l.names)
