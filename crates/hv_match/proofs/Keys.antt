@@ -34,16 +34,6 @@ module _ (pz : Puzzle) (instances : (s : Subtask) (g : ℕ → ℕ) → Contains
   all_keys B (x ∷ M) [] i a = absurd a
   all_keys B (x ∷ M) (s ∷ ss) i a = rw (done_key B x s (i s (at_head s ss s refl)) a.0, all_keys B M ss (λ z n. i z (in_tail s ss z n)) a.1) refl
 
-  same_length : {X Y : Type 0} (R : X → Y → Type 0) (xs : List X) (ys : List Y) → AllZip R xs ys → length xs ≡ length ys
-  same_length R [] [] a = refl
-  same_length R [] (y ∷ ys) a = absurd a
-  same_length R (x ∷ xs) [] a = absurd a
-  same_length R (x ∷ xs) (y ∷ ys) a = ap suc (same_length R xs ys a.1)
-
-  length-map {X Y : Type 0} : (f : X → Y) (xs : List X) → length (map f xs) ≡ length xs
-  length-map [] f = refl
-  length-map (x ∷ xs) f = ap suc (length-map xs f)
-
   pub matching : (M B : List ℕ) → IsMatch pz M B → IsMatching (child_key pz) (keys pz.subtasks) M
   matching M B c =
       let l : length (keys pz.subtasks) ≡ length pz.children = length-map pz.subtasks (key pz.subtasks) ∙ sym (same_length (Done pz.children B) M pz.subtasks c.done) ∙ c.all in

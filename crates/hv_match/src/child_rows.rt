@@ -1,7 +1,7 @@
 //! The places of the children that may do the subtasks.
 
 ghost use Rattle.std.specs.Prelude.{◌≡◌, ◌++◌, [], length, map, false, option_map, IfOk, OnOk};
-ghost use Rattle.hv_world.specs.inside.Kept as kept;
+ghost use Rattle.hv_world.specs.Alike as alike;
 ghost use Rattle.hv_world.specs.Bindings.{object_number, object_of};
 ghost use Rattle.hv_world.specs.Views.{name_view, term_view, subtask_view};
 ghost use Rattle.hv_match.specs.inside.Puzzles as puzzles;
@@ -80,7 +80,7 @@ fn is_ground(terms: &[Term]) -> bool
 
 // Whether a term is an object.
 fn is_object(term: Term) -> bool
-    ensures { result ≡ kept.is_object (term_view term) }
+    ensures { result ≡ alike.is_object (term_view term) }
 {
     matches!(term, Term::Object(_))
 }

@@ -18,7 +18,7 @@ use Rattle.hv_world.proofs.Cited.{found_at}
 use Rattle.std.specs.Cmp.Lexicographic.{bytes_decides}
 use Rattle.hv_plan.specs.Trees.{Item}
 use Rattle.hv_plan.specs.PlanTrees.{PlanTree}
-use Rattle.hv_plan.specs.inside.Shaping.{place_of}
+use Rattle.hv_plan.specs.Ids.{place_of}
 use Rattle.hv_plan.proofs.Cited.{place_is}
 use Rattle.std.proofs.Common.{nat_eq, eqb-true}
 use Rattle.std.proofs.lemmas.List.Sums.{passes_at_first}

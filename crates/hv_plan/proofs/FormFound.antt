@@ -7,7 +7,8 @@ use Rattle.hv_lists.specs.Lists.{Once}
 use Rattle.hv_lists.proofs.Numbers.{either_side}
 use Rattle.hv_plan.specs.Values.{Plan}
 use Rattle.hv_plan.specs.Shapes.{ids, all_children, IsInTextOrder, FormTree}
-use Rattle.hv_plan.specs.inside.Shaping.{first_of, again_of, earlier, line_unless, IsFirst, IsRepeat, IsMissed, is_known, is_marked, lines_of_heads, lines_of_children, place_of, places_of_lines, kids, IsMeeting, Grows, IsWalking, IsWalk}
+use Rattle.hv_plan.specs.Ids.{place_of}
+use Rattle.hv_plan.specs.inside.Shaping.{first_of, again_of, earlier, line_unless, IsFirst, IsRepeat, IsMissed, is_known, is_marked, lines_of_heads, lines_of_children, places_of_lines, kids, IsMeeting, Grows, IsWalking, IsWalk}
 use Rattle.hv_plan.specs.inside.ShapeCauses.{NoneBelow, IsFormFault}
 use Rattle.hv_plan.specs.declared.cause.CauseKind.TheVariants as kinds
 use Rattle.hv_plan.specs.declared.cause.Cause.{Cause}

@@ -9,7 +9,8 @@ use Rattle.std.proofs.Math.Seq.{take-append_seam, drop-append_seam}
 use Rattle.hv_lists.specs.Lists.{Once}
 use Rattle.hv_lists.proofs.Places.{stands_at, contained_at}
 use Rattle.hv_lists.proofs.Numbers.{either}
-use Rattle.hv_plan.specs.inside.Shaping.{place_of, is_known, IsFirst, IsRepeat, IsMissed}
+use Rattle.hv_plan.specs.Ids.{place_of}
+use Rattle.hv_plan.specs.inside.Shaping.{is_known, IsFirst, IsRepeat, IsMissed}
 use Rattle.hv_plan.specs.inside.Tables.{small_or, is_within}
 use Rattle.hv_plan.proofs.FirstLines.{same_first, IsLine, IsTable}
 use Rattle.hv_plan.proofs.ShapePlaces.{absent_place, id_at_place, place_is, place_within, within_known}

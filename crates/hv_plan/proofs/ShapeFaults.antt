@@ -13,7 +13,8 @@ use Rattle.hv_world.specs.Worlds.{World}
 use Rattle.hv_plan.specs.Values.{Action, Decomposition, Plan}
 use Rattle.hv_plan.specs.Shapes.{heads, ids, Parent, line_parent, parents, all_children, line_numbers, IsReached, IsInTextOrder}
 use Rattle.hv_plan.specs.Causes.{number, Qualifies, repeated_id, unknown_child, child_before, child_twice, unreached}
-use Rattle.hv_plan.specs.inside.Shaping.{IsFirst, IsRepeat, IsMissed, is_known, is_marked, lines_of_heads, child_lines, lines_of_children, place_of, places_of_lines, kids, IsWalk}
+use Rattle.hv_plan.specs.Ids.{place_of}
+use Rattle.hv_plan.specs.inside.Shaping.{IsFirst, IsRepeat, IsMissed, is_known, is_marked, lines_of_heads, child_lines, lines_of_children, places_of_lines, kids, IsWalk}
 use Rattle.hv_plan.specs.inside.ShapeCauses.{NoneBelow, IsFirstFor, IsFormFault}
 use Rattle.hv_plan.specs.declared.cause.CauseKind.{CauseKind}
 use Rattle.hv_plan.specs.declared.cause.CauseKind.TheVariants as kinds

@@ -20,7 +20,8 @@ use Rattle.hv_plan.specs.Values.{Decomposition, Plan}
 use Rattle.hv_plan.specs.Shapes.{ids, all_children}
 use Rattle.hv_plan.specs.PlanTrees.{node_numbers, child_nodes, countdown}
 use Rattle.hv_plan.specs.Trees.{Item, Act, Task, Pre, AtOrBelow, itself, its_pre, its_child, Reached, IsSubtask, IsTree}
-use Rattle.hv_plan.specs.inside.Shaping.{place_of, places_of_lines, kids, line_in, backward, is_marked, IsWalk, Comes, of_root, of_one, IsNumbering, item, items_at, children_by_number}
+use Rattle.hv_plan.specs.Ids.{place_of}
+use Rattle.hv_plan.specs.inside.Shaping.{places_of_lines, kids, line_in, backward, is_marked, IsWalk, Comes, of_root, of_one, IsNumbering, item, items_at, children_by_number}
 use Rattle.hv_plan.specs.inside.ShapeViews.{Shape, IsShape, items_in, children_of_node, shape_tree, line_id, Stands}
 use Rattle.hv_plan.proofs.ShapePlaces.{place_within, id_at_place}
 use Rattle.hv_plan.proofs.ShapeTrees.{mapped_to, member_of, all_zip_map, all_zip_at, are_apart, once_line, flat, among_flat, one_line, ids_long, action_at, line_at, list_of_line, decomposition_at, kid_of, root_kid, root_child, line_child}

@@ -10,7 +10,8 @@ use Rattle.hv_lists.specs.Lists.{Once}
 use Rattle.hv_lists.proofs.Places.{stands_at, contained_at}
 use Rattle.hv_lists.proofs.EachOnce.{once_at}
 use Rattle.hv_lists.proofs.Numbers.{either_side}
-use Rattle.hv_plan.specs.inside.Shaping.{place_of, is_known}
+use Rattle.hv_plan.specs.Ids.{place_of}
+use Rattle.hv_plan.specs.inside.Shaping.{is_known}
 
 -- an id that is among others, and one that is not
 pub known_is : (ks ids : List ℕ) (k : ℕ) → is_known ks ids k ≡ true → Contains ks (slice_index ids k)

@@ -14,7 +14,8 @@ use Rattle.hv_plan.specs.Values.{Action, Decomposition, Plan}
 use Rattle.hv_plan.specs.Shapes.{head, heads, ids, parents, line_parent, all_children, IsReached, FormTree}
 use Rattle.hv_plan.specs.Shapes as form
 use Rattle.hv_plan.specs.Trees.{Item}
-use Rattle.hv_plan.specs.inside.Shaping.{place_of, places_of_lines, kids, is_marked, AreApart, IsWalk, Comes, of_root, of_one}
+use Rattle.hv_plan.specs.Ids.{place_of}
+use Rattle.hv_plan.specs.inside.Shaping.{places_of_lines, kids, is_marked, AreApart, IsWalk, Comes, of_root, of_one}
 use Rattle.hv_plan.specs.inside.ShapeViews.{line_id}
 use Rattle.hv_plan.proofs.HeadLists.{action_ids, decomposition_ids, ids_are}
 use Rattle.hv_plan.proofs.ShapeWalks.{once_map, once_none}

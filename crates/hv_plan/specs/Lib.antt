@@ -15,4 +15,5 @@ pub mod Causes
 pub mod PlanTrees
 pub mod TreeViews
 pub mod BuiltTrees
+pub mod Ids
 pub mod inside

@@ -6,7 +6,7 @@ ghost use Rattle.std.specs.Hash as fed;
 ghost use Rattle.std.specs.Hash.DefaultHasher as sip;
 ghost use Rattle.hv_lists.specs.Lists.{Once};
 ghost use Rattle.hv_text.specs.Seeds.{start_of};
-ghost use Rattle.hv_plan.specs.inside.Shaping.{place_of};
+ghost use Rattle.hv_plan.specs.Ids.{place_of};
 
 use hv_text::{Memory, Seeded};
 use indexmap::IndexSet;

@@ -74,6 +74,7 @@ fn turn_at(list: &mut Vec<History>, place: usize, change: Change) -> Result<(), 
 
 impl Changes {
     /// Whether an action touches an atom of a predicate.
+    #[inline(always)]
     pub(crate) fn has_some_of(&self, predicate: PredicateId) -> bool
         ensures { result ≡ false →
             (g : GroundAtom) → g.predicate ≡ predicate.0 → kept self.now g ≡ [] }
@@ -82,6 +83,7 @@ impl Changes {
     }
 
     // Where the history of an atom stands, if an action touches it.
+    #[inline(always)]
     fn place_of(&self, atom: &AtomView<'_>) -> Option<usize>
         ensures { MatchOption result
             (Contains (rows_of self.now) (row_of (atom_read atom.now)) → ⊥)
@@ -96,6 +98,7 @@ impl Changes {
     }
 
     // The history of an atom; none where no action touches it.
+    #[inline(always)]
     fn of(&self, atom: &AtomView<'_>) -> Option<&History>
         ensures { MatchOption result (kept self.now (atom_read atom.now) ≡ []) (λ h.
             Rise (changes_of h.now) × (changes_of h.now ≡ kept self.now (atom_read atom.now))) }
@@ -164,6 +167,7 @@ impl Changes {
     }
 
     /// What the last change of an atom up to an index says.
+    #[inline(always)]
     pub(crate) fn told(&self, atom: &AtomView<'_>, k: usize) -> Option<bool>
         ensures { result ≡ told k (kept self.now (atom_read atom.now)) }
     {

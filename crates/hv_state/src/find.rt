@@ -38,6 +38,7 @@ pub(crate) fn place<T: HasRow>(list: &[T], row: &[usize]) -> Result<usize, usize
 }
 
 // Whether the row of an atom stands at a place.
+#[inline(always)]
 fn stands_at<T: HasRow>(list: &[T], place: usize, atom: &AtomView<'_>) -> bool
     ensures { IsTrue result
         ↔ IsPlace (map T.numbers list.now) (row_of (atom_read atom.now)) (Ok place) }
@@ -75,6 +76,7 @@ pub(crate) fn look_up<T: HasRow>(
 }
 
 /// The same, where the row may well stand at this place.
+#[inline(always)]
 pub(crate) fn look_up_at<T: HasRow>(
     list: &[T],
     guesses: &Guesses,

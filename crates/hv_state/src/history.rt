@@ -72,6 +72,7 @@ fn next_in(list: &[Change], k: usize, end: usize) -> usize
 
 impl History {
     // The last change.
+    #[inline(always)]
     fn last(&self) -> Option<Change>
         ensures { result ≡ slice_get (in_order self.now) (length (in_order self.now) - 1) }
     {
@@ -103,6 +104,7 @@ impl History {
     }
 
     // Puts a change behind the others.
+    #[inline(always)]
     fn push(&mut self, change: Change) -> Result<(), Memory>
         ensures ok { OnOk result (in_order self.new ≡ in_order self.old ++ change ∷ []) }
         ensures err { OnErr result (in_order self.new ≡ in_order self.old) }

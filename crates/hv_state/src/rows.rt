@@ -127,6 +127,7 @@ fn are_of_terms(objects: &[usize], terms: &[Term], binding: &Binding<'_>) -> boo
 }
 
 // Whether objects are those of an atom.
+#[inline(always)]
 fn are_objects(objects: &[usize], others: &Objects<'_>) -> bool
     ensures { IsTrue result ↔ (objects.now ≡ objects_read others.now) }
 {
@@ -137,6 +138,7 @@ fn are_objects(objects: &[usize], others: &Objects<'_>) -> bool
 }
 
 /// Whether a row is that of an atom.
+#[inline(always)]
 pub(crate) fn is_row(row: &[usize], atom: &AtomView<'_>) -> bool
     ensures { IsTrue result ↔ (row.now ≡ row_of (atom_read atom.now)) }
 {

@@ -19,8 +19,8 @@ use Rattle.hv_world.specs.declared.formula.Term as code_term
 use Rattle.hv_world.specs.declared.formula.Term.TheVariants as terms
 use Rattle.hv_world.specs.Views.{term_view}
 use Rattle.hv_world.specs.Values.{Term, object, variable, TaskName, compound, primitive, Subtask}
-use Rattle.hv_world.specs.Alike.{has_object, same_name, is_fixed, fixed_objects, Key, same_key, how_many, without, classes, is_variable, has_variable, is_argument, is_free}
-use Rattle.hv_world.specs.inside.Kept.{key_view, is_name, is_marked, is_object, kept_marks, RowSays, counted}
+use Rattle.hv_world.specs.Alike.{has_object, same_name, is_fixed, fixed_objects, Key, same_key, how_many, without, classes, is_variable, has_variable, is_argument, is_free, is_object}
+use Rattle.hv_world.specs.inside.Kept.{key_view, is_name, is_marked, kept_marks, RowSays, counted}
 
 -- names
 

@@ -1,5 +1,5 @@
 -- What each step of the walk keeps, and what the walk ends with.
-use Rattle.std.proofs.Common.{◌≡◌, ◌≢◌, ◌<◌, ◌≤◌, ◌+◌, ◌-◌, ◌++◌, ◌∷◌, ◌==◌, ◌⊎◌, inl, inr, ℕ, Bool, true, false, List, [], Option, Some, option_to_list, refl, sym, ap, ◌∙◌, subst, arith, length, set, get_or, Contains, slice_index, sum_by, eqb-true, eq-eqb, nat_lt, ltb-true, ltb-false, get_or-set_same, get_or-set_other, length-set, length-append, true≢false}
+use Rattle.std.proofs.Common.{◌≡◌, ◌≢◌, ◌<◌, ◌≤◌, ◌+◌, ◌-◌, ◌++◌, ◌∷◌, ◌⊎◌, inl, inr, ℕ, List, [], Option, Some, option_to_list, refl, sym, ap, ◌∙◌, subst, arith, length, set, get_or, Contains, slice_index, sum_by, get_or-set_same, get_or-set_other, length-set}
 use Rattle.std.proofs.Math.ListN.{get_or-append, get_or-eq_default}
 use Rattle.std.proofs.Math.Seq.{get_or-append_seam}
 use Rattle.std.proofs.lemmas.Grind.{get_or_default_zero}

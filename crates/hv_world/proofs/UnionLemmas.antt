@@ -3,21 +3,20 @@ use Rattle.std.proofs.Common.{◌≡◌, ◌≢◌, ℕ, zero, suc, ◌+◌, ◌
 use Rattle.std.specs.List.{list_any, position_or_len, flat_map}
 use Rattle.std.specs.Cmp.Lexicographic.{bytes_decides}
 use Rattle.std.proofs.lemmas.Bool.Decides.{nat_tests}
-use Rattle.std.proofs.lemmas.List.Elements.{All-nil, All-contains, All-weaker, All-filter, filter_passes, Contains-append_left, Contains-append_right, Contains-append_cases}
+use Rattle.std.proofs.lemmas.List.Elements.{All-nil, All-contains, filter_passes, Contains-append_left, Contains-append_right, Contains-append_cases}
 use Rattle.std.proofs.lemmas.List.Quantifiers.{position-Some}
 use Rattle.hv_lists.proofs.Contained.{map_mem, mem_map, contains_first, in_tail, none_in_empty}
-use Rattle.hv_lists.proofs.Bools.{or_right}
 use Rattle.hv_syntax.specs.Values.{WordAt, Variable, Domain, Problem}
 use Rattle.hv_world.specs.Names.{names, is_among, place_in, with_names, number_or, number_in}
 use Rattle.hv_world.specs.Known.{Known, known_in, both_types}
 use Rattle.hv_world.specs.Eithers.{all_variables, is_either, are_same, is_listed, with_lists, either_lists, either_place}
 use Rattle.hv_world.specs.StaticRules.{IsStatic}
 use Rattle.hv_world.specs.Types.{Typing, IsInRange, Reaches, same, up, Of, IsOfOne}
-use Rattle.hv_world.specs.Worlds.{type_pair, object_pair, either_pairs, eithers_pairs, either_number, variable_type, number_of_type, typing_by}
+use Rattle.hv_world.specs.Worlds.{type_pair, either_pairs, eithers_pairs, either_number, variable_type, number_of_type, typing_by}
 use Rattle.hv_world.proofs.OrderLists.{contains_cases}
-use Rattle.hv_world.proofs.GatherLemmas.{same_decides, same_lists, with_list, listed_itself}
-use Rattle.hv_world.proofs.EitherLemmas.{all_declared, eithers_declared, seen_all}
-use Rattle.hv_world.proofs.StaticLemmas.{object_is_type, parents_within, objects_within, typing_in_range}
+use Rattle.hv_world.proofs.GatherLemmas.{same_decides, with_list, listed_itself}
+use Rattle.hv_world.proofs.EitherLemmas.{seen_all}
+use Rattle.hv_world.proofs.StaticLemmas.{parents_within, objects_within, typing_in_range}
 
 -- chains
 module _ (ps : List (ℕ × ℕ)) where

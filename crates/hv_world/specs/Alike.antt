@@ -4,6 +4,11 @@ use Rattle.std.specs.List.{range_with_len}
 use Rattle.std.specs.Str.{bytes_eq}
 use Rattle.hv_world.specs.Values.{Term, object, variable, TaskName, compound, primitive, Subtask, subtask}
 
+-- whether a term is an object
+abbrev pub is_object : Term → Bool
+is_object (object o) = true
+is_object (variable v) = false
+
 -- the object at position k, where there is one
 abbrev pub object_at : List Term → ℕ → Option ℕ
 object_at [] k = None

@@ -3,7 +3,8 @@
 ghost use Rattle.std.specs.Prelude.{◌≡◌, ◌↔◌, ℕ, true, List, ◌++◌, ◌&&◌, ◌+◌, ◌<◌, ◌^◌, not, [], ◌∷◌, map, filter, length, Contains, All, AllPairs, ◌≢◌, IfOk, OnOk};
 ghost use Rattle.std.specs.List.{range_with_len};
 ghost use Rattle.hv_world.specs.Alike as alike;
-ghost use Rattle.hv_world.specs.inside.Kept.{is_marked, is_object, kept_marks, RowsSay, counts_in, counted, key_view};
+ghost use Rattle.hv_world.specs.Alike.{is_object};
+ghost use Rattle.hv_world.specs.inside.Kept.{is_marked, kept_marks, RowsSay, counts_in, counted, key_view};
 ghost use Rattle.hv_world.specs.Values as value;
 ghost use Rattle.hv_world.specs.Views.{term_view, subtask_view};
 

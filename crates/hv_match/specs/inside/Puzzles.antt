@@ -3,8 +3,7 @@ use Rattle.std.specs.Prelude.{◌≡◌, ◌<◌, ◌*◌, ℕ, ◌+◌, ◌-◌
 use Rattle.std.specs.List.{AllZip}
 use Rattle.hv_world.specs.Values.{Term, TaskName, Subtask, Constraint}
 use Rattle.hv_world.specs.Bindings.{object_of}
-use Rattle.hv_world.specs.Alike.{same_name, is_variable, is_free, keys}
-use Rattle.hv_world.specs.inside.Kept.{is_object}
+use Rattle.hv_world.specs.Alike.{same_name, is_variable, is_free, keys, is_object}
 use Rattle.hv_lists.specs.Lists.{Once}
 use Rattle.hv_match.specs.Counts.{product}
 use Rattle.hv_match.specs.inside.Counting.{rising}

@@ -1,10 +1,11 @@
 -- How the shape of a plan is found: lines of ids, the places of ids, a walk along places, and numbers.
 use Rattle.std.specs.Prelude.{◌≡◌, zero, suc, take, drop, ◌+◌, ◌-◌, ◌<◌, ◌≤◌, ℕ, Bool, true, false, List, [], ◌∷◌, ◌++◌, map, flat_map, length, min, max, nat_eq, nat_lt, slice_index, slice_index_or, Contains, Option, Some, None, if◌then◌else◌}
-use Rattle.std.specs.List.{list_any, position_or_len}
+use Rattle.std.specs.List.{list_any}
 use Rattle.hv_lists.specs.Lists.{Once}
 use Rattle.hv_plan.specs.Values.{Plan}
 use Rattle.hv_plan.specs.Shapes.{heads, Parent, parents}
 use Rattle.hv_plan.specs.Trees.{Item, Act, Task}
+use Rattle.hv_plan.specs.Ids.{place_of}
 
 -- the lines of heads, and for each child the line that names it
 abbrev pub lines_of_heads : Plan → List ℕ
@@ -65,10 +66,6 @@ is_known known ids k = list_any (nat_eq (slice_index ids k)) known
 -- whether a place is marked
 abbrev pub is_marked : List Bool → ℕ → Bool
 is_marked marks k = slice_index_or marks k false
-
--- the place of an id
-abbrev pub place_of : List ℕ → ℕ → ℕ
-place_of is i = position_or_len (nat_eq i) is
 
 -- the places of the children of each decomposition line
 abbrev pub places_of_lines : List ℕ → Plan → List (List ℕ)

@@ -6,7 +6,8 @@ use Rattle.std.specs.Option.{unwrap_or}
 use Rattle.indexmap.specs.IndexMap as table
 use Rattle.hv_plan.specs.Values.{Plan}
 use Rattle.hv_plan.specs.Shapes.{ids, all_children, line_parent}
-use Rattle.hv_plan.specs.inside.Shaping.{place_of, first_of, again_of, IsFirst, IsRepeat, IsMissed, lines_of_heads, places_of_lines}
+use Rattle.hv_plan.specs.Ids.{place_of}
+use Rattle.hv_plan.specs.inside.Shaping.{first_of, again_of, IsFirst, IsRepeat, IsMissed, lines_of_heads, places_of_lines}
 use Rattle.hv_plan.specs.declared.shape.table.Table.{Table}
 
 -- what the list of small ids says, else what the map of the others says

@@ -5,7 +5,7 @@ ghost use Rattle.std.specs.Map.{update};
 ghost use Rattle.hv_plan.specs.inside.Tables.{place_by};
 
 use crate::id_table::seed_of;
-use hv_text::Memory;
+use hv_text::{Memory, Seeded};
 use indexmap::IndexMap;
 use std::alloc::Global;
 

@@ -1,10 +1,10 @@
 -- What the code keeps while it counts classes and looks for free parameters.
-use Rattle.std.specs.Prelude.{◌≡◌, ℕ, ◌+◌, Bool, true, false, ◌&&◌, if◌then◌else◌, List, [], ◌∷◌, ◌++◌, map, Option, None, Some, option_map, slice_index_or, Vec}
+use Rattle.std.specs.Prelude.{◌≡◌, ℕ, ◌+◌, Bool, true, false, ◌&&◌, if◌then◌else◌, List, [], ◌∷◌, map, Option, None, Some, option_map, slice_index_or, Vec}
 use Rattle.indexmap.specs.IndexMap.{IndexMap, get}
 use Rattle.std.specs.Hash as fed
 use Rattle.hv_world.specs.declared.id.TaskName as code
 use Rattle.hv_world.specs.declared.alike.Key as code_key
-use Rattle.hv_world.specs.Values.{Term, object, variable, Subtask, TaskName}
+use Rattle.hv_world.specs.Values.{Term, Subtask, TaskName}
 use Rattle.hv_world.specs.Views.{name_view}
 use Rattle.hv_world.specs.Seeds.{name_writes}
 use Rattle.hv_world.specs.Alike.{Key, key_with, same_name, same_key, has_object, is_fixed}
@@ -16,10 +16,6 @@ name_bytes n = name_writes (name_view n)
 -- whether a position is marked
 abbrev pub is_marked : List Bool → ℕ → Bool
 is_marked marks k = slice_index_or marks k false
-
-abbrev pub is_object : Term → Bool
-is_object (object o) = true
-is_object (variable v) = false
 
 -- the marks, the first of them at position k, of those positions at which the terms have an object
 abbrev pub kept_marks : List Term → ℕ → List Bool → List Bool

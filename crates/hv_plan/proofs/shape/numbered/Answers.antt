@@ -4,7 +4,8 @@ use Rattle.hv_plan.specs.LineViews.{plan_view}
 use Rattle.hv_plan.specs.Shapes.{ids}
 use Rattle.hv_plan.specs.Trees.{Item}
 use Rattle.hv_plan.specs.TreeViews.{child_view}
-use Rattle.hv_plan.specs.inside.Shaping.{place_of, IsNumbering, children_by_number}
+use Rattle.hv_plan.specs.Ids.{place_of}
+use Rattle.hv_plan.specs.inside.Shaping.{IsNumbering, children_by_number}
 use Rattle.hv_plan.specs.inside.ShapeViews.{IsShape}
 use Rattle.hv_plan.proofs.ShapeTrees.{ids_long, form_tree, root_within, kids_within, kids_behind}
 use Rattle.hv_plan.proofs.ShapeMade.{is_shape, numbers_below}

@@ -2,7 +2,8 @@ use Rattle.std.proofs.Common.{◌≡◌, Bool, cond, List, [], ◌∷◌, ◌++�
 use Rattle.std.specs.Option.{option_copied}
 use Rattle.std.specs.HashMap.{get}
 use Rattle.hv_world.specs.contracts.id.TaskNamePartialEq.TheImpl.{eq-value}
-use Rattle.hv_world.specs.inside.Kept.{RowSays, is_name, is_marked, is_object, kept_marks}
+use Rattle.hv_world.specs.Alike.{is_object}
+use Rattle.hv_world.specs.inside.Kept.{RowSays, is_name, is_marked, kept_marks}
 use Rattle.hv_world.specs.Views.{name_view, term_view, subtask_view}
 use Rattle.hv_world.proofs.AlikeLemmas.{row_kept, row_made, row_after, kept_are, marked_objects_are, lookup_same, name_test, same_itself}
 use Rattle.hv_world.proofs.alike.note_objects.Goals as goal

@@ -1,5 +1,5 @@
 use Rattle.std.proofs.Common.{◌≡◌, map, take}
-use Rattle.hv_world.specs.inside.Kept.{is_object}
+use Rattle.hv_world.specs.Alike.{is_object}
 use Rattle.hv_world.specs.Views.{term_view}
 use Rattle.hv_world.proofs.alike.object_marks.Given as goal
 

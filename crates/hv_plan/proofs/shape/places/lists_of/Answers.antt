@@ -3,7 +3,7 @@ use Rattle.std.specs.List.{flat_map}
 use Rattle.hv_plan.specs.LineViews.{plan_view}
 use Rattle.hv_plan.specs.LinesLeft.{decompositions_left}
 use Rattle.hv_plan.specs.Shapes.{ids, line_parent}
-use Rattle.hv_plan.specs.inside.Shaping.{place_of}
+use Rattle.hv_plan.specs.Ids.{place_of}
 use Rattle.hv_plan.proofs.HeadLists.{append_item}
 use Rattle.hv_plan.proofs.PlaceTables.{front_within, front_of, rest_of}
 use Rattle.hv_plan.proofs.shape.places.lists_of.Goals as goal

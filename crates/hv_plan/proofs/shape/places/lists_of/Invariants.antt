@@ -3,7 +3,8 @@ use Rattle.std.specs.List.{flat_map}
 use Rattle.hv_plan.specs.LineViews.{plan_view}
 use Rattle.hv_plan.specs.LinesLeft.{decompositions_left}
 use Rattle.hv_plan.specs.Shapes.{ids, line_parent}
-use Rattle.hv_plan.specs.inside.Shaping.{place_of, places_of_lines}
+use Rattle.hv_plan.specs.Ids.{place_of}
+use Rattle.hv_plan.specs.inside.Shaping.{places_of_lines}
 use Rattle.hv_plan.proofs.shape.places.lists_of.Given as goal
 
 abbrev pub invariant-loop-line : goal.invariant-loop-line
