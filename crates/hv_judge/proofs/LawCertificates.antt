@@ -1,5 +1,5 @@
 -- Four texts have one answer, since what a certificate says of a plan hangs on its text alone.
-use Rattle.std.proofs.Common.{◌≡◌, ℕ, Bool, true, false, List, [], ◌∷◌, Some, map, refl, sym, ◌∙◌, ap, subst}
+use Rattle.std.proofs.Common.{◌≡◌, ℕ, List, [], ◌∷◌, Some, map, sym, ◌∙◌, ap, subst}
 use Rattle.std.specs.Prelude.{drop}
 use Rattle.std.specs.List.{AllZip}
 use Rattle.hv_lists.proofs.Bools.{same_bools}

@@ -2,7 +2,7 @@
 use Rattle.std.proofs.Common.{◌≡◌, ℕ, zero, suc, ◌+◌, ◌*◌, ◌^◌, ◌<◌, ◌≤◌, Bool, true, false, List, [], ◌∷◌, ◌++◌, length, take, get_or, map, filter, nat_lt, refl, sym, ap, ◌∙◌, arith, Some, None, if◌then◌else◌, AllPairs, Contains, ◌≢◌, slice_index}
 use Rattle.std.proofs.lemmas.Bool.{ltb-true, ltb-false}
 use Rattle.std.proofs.lemmas.Bool.Decides.{nat_tests}
-use Rattle.std.specs.List.{AllZip, range_with_len}
+use Rattle.std.specs.List.{range_with_len}
 use Rattle.hv_lists.proofs.Places.{take_one, map_end}
 use Rattle.hv_lists.proofs.Pairs.{zip_end}
 use Rattle.hv_world.specs.Alike.{class_sizes}

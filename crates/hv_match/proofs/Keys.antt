@@ -1,5 +1,5 @@
 -- A candidate is a matching of keys.
-use Rattle.std.proofs.Common.{◌≡◌, ℕ, suc, List, [], ◌∷◌, length, map, slice_index, refl, sym, ap, ◌∙◌, arith, Option, Some, None, Contains}
+use Rattle.std.proofs.Common.{◌≡◌, ℕ, List, [], ◌∷◌, length, map, slice_index, refl, sym, ap, ◌∙◌, arith, Option, Some, None, Contains}
 use Rattle.std.specs.List.{AllZip}
 use Rattle.std.proofs.lemmas.List.{length-map}
 use Rattle.hv_lists.proofs.Contained.{at_head, in_tail}

@@ -20,7 +20,7 @@ use Rattle.hv_order.specs.Settings.{Setting, last, child_for, HoldsAt, AmountsTo
 use Rattle.hv_order.specs.Certified.{IsChildId, IsNameOf, Says, SaysLine, Certifies, line_numbers}
 use Rattle.hv_order.specs.inside.PlanFacts.{IsSetting, OfMethod}
 use Rattle.hv_order.specs.inside.Checks as checks
-use Rattle.hv_order.specs.inside.Checks.{IsPart, HasIdOf, HasLines, ArePlaces, IsRight, binding_of, IsEntryOf, AreEntries, AreRight, finish_in, child_at, KeepsDirect, KeepsNode, KeepNodes, KeepAll}
+use Rattle.hv_order.specs.inside.Checks.{IsPart, HasIdOf, HasLines, ArePlaces, binding_of, AreEntries, AreRight, finish_in, child_at, KeepsDirect, KeepsNode, KeepAll}
 use Rattle.hv_certificate.specs.declared.certificate.Choice.{Choice}
 use Rattle.hv_certificate.specs.declared.certificate.Certificate.{Certificate}
 use Rattle.hv_order.specs.declared.entries.Entry.{Entry}

@@ -9,7 +9,7 @@ use Rattle.hv_order.specs.Precedence.{Precedes, of_pre, of_line, of_root, IsEnd}
 use Rattle.hv_order.specs.Laws.{EndLaw, SameEndLaw}
 use Rattle.hv_order.proofs.Members.{mem_left, mem_right, mem_cases, mem_map, MappedFrom, mem_map_from, first_same, second_same}
 use Rattle.hv_order.proofs.Ancestry
-use Rattle.hv_order.proofs.Ancestry.{Below, same_line, the_pre, in_child, below, under, act_alone, pre_alone, New, new_pre, new_child, reached_initial, reached_pre, reached_child, reached_below}
+use Rattle.hv_order.proofs.Ancestry.{Below, same_line, the_pre, in_child, below, under, act_alone, pre_alone, New, new_pre, new_child, reached_initial, reached_below}
 use Rattle.hv_order.proofs.Decomposing.{IsLine, yes_line, no_line, line_cases, after_old, after_new, Origin, old, fresh, origin, PairOrigin, kept, from_left, from_right, pair_origin, inherited_kept, inherited_left, inherited_right, pair_gives, PairOf, ordered_in, ordered_has}
 
 -- a step of the tree has an item of the network above it

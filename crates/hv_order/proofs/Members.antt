@@ -3,8 +3,6 @@ use Rattle.std.proofs.Common.{◌≡◌, ℕ, ◌+◌, ◌*◌, ◌≢◌, Bool,
 use Rattle.std.specs.Prelude.{map, ◌&&◌, ◌==◌}
 use Rattle.std.proofs.lemmas.Bool.Decides.{eqb_tells}
 use Rattle.std.proofs.Math.Dec.{eqb}
-use Rattle.std.proofs.lemmas.List.Elements.{Contains-get_or}
-use Rattle.std.proofs.lemmas.List.Kept.{AllPairs-cons}
 use Rattle.hv_lists.specs.Lists.{Once}
 use Rattle.hv_lists.proofs.Contained.{at_head, in_tail, contains_cases, none_in_empty}
 use Rattle.hv_plan.specs.Trees.{Item, Act, Task, Pre}

@@ -1,8 +1,7 @@
 -- A node of a plan's tree with its method, and what a candidate of it is.
-use Rattle.std.proofs.Common.{◌≡◌, ℕ, suc, ◌<◌, List, [], ◌∷◌, length, refl, sym, ap, ◌∙◌, ◌↔◌, subst, inl, inr, ◌⊎◌, Option, Some, None, MatchOption}
+use Rattle.std.proofs.Common.{◌≡◌, ℕ, ◌<◌, List, length, refl, sym, ap, ◌∙◌, ◌↔◌, subst, inl, inr, ◌⊎◌, Option, Some, None, MatchOption}
 use Rattle.std.specs.Prelude.{All, slice_get, Bool, true, false}
 use Rattle.std.proofs.lemmas.List.{length-map}
-use Rattle.std.specs.List.{AllZip}
 use Rattle.std.proofs.lemmas.Option.{slice_get_within, get_or_from_slice_get}
 use Rattle.hv_lists.specs.Lists.{Once}
 use Rattle.hv_lists.proofs.Pairs.{same_length}

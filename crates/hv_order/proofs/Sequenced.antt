@@ -1,5 +1,5 @@
 -- Each node of a tree of a world has the sequencing of its method.
-use Rattle.std.proofs.Common.{◌≡◌, ◌↔◌, ℕ, zero, suc, List, [], ◌∷◌, refl, sym, ap, ◌∙◌, subst, Option, Some, None, IsSome, MatchOption, Contains}
+use Rattle.std.proofs.Common.{◌≡◌, ◌↔◌, ℕ, zero, suc, List, [], ◌∷◌, refl, sym, ◌∙◌, subst, Option, Some, None, IsSome, MatchOption, Contains}
 use Rattle.std.specs.Prelude.{map, slice_get, option_and_then}
 use Rattle.std.specs.Rc.{rc_value}
 use Rattle.hv_lists.proofs.Pairs.{paired_at}

@@ -1,12 +1,12 @@
 -- The names of children, and the causes for which children are not as subtasks.
 use Rattle.std.proofs.Common.{◌≡◌, ℕ, zero, suc, ◌+◌, ◌<◌, ◌≤◌, Bool, true, false, List, [], ◌∷◌, ◌++◌, map, length, slice_get, Option, Some, None, option_map, refl, ap, sym, subst, ◌∙◌, arith}
-use Rattle.std.specs.Prelude.{Contains, option_and_then}
+use Rattle.std.specs.Prelude.{option_and_then}
 use Rattle.std.specs.List.{AllZip}
 use Rattle.std.proofs.lemmas.List.{length-map}
 use Rattle.std.proofs.lemmas.List.Elements.{Contains-append_left, Contains-append_right}
 use Rattle.hv_lists.proofs.Places.{member_at}
 use Rattle.hv_lists.proofs.Pairs.{same_length, paired_at}
-use Rattle.hv_lists.proofs.Contained.{contains_first, in_tail, contains_at, mem_map}
+use Rattle.hv_lists.proofs.Contained.{contains_at, mem_map}
 use Rattle.hv_world.specs.Values.{TaskName, compound, primitive}
 use Rattle.hv_world.specs.Worlds.{World, Method, task_names, action_names, task_named}
 use Rattle.hv_plan.specs.Values as text

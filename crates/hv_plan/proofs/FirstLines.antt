@@ -1,5 +1,5 @@
 -- The first of lines, and the lines of ids.
-use Rattle.std.proofs.Common.{◌≡◌, ◌≢◌, ◌+◌, ◌<◌, ◌≤◌, ◌⊎◌, inl, inr, ℕ, Bool, true, false, List, Option, Some, None, min, max, nat_eq, nat_lt, refl, sym, ap, ◌∙◌, subst, arith, slice_index, eqb-true, eq-eqb, ltb-true, ltb-false, true≢false}
+use Rattle.std.proofs.Common.{◌≡◌, ◌≢◌, ◌+◌, ◌<◌, ◌≤◌, ◌⊎◌, inl, inr, ℕ, Bool, true, false, List, Option, Some, None, min, max, nat_eq, refl, sym, ap, ◌∙◌, subst, arith, slice_index, true≢false}
 use Rattle.std.specs.Map.{update}
 use Rattle.std.proofs.lemmas.Map.{update_here, update_apart}
 use Rattle.hv_lists.proofs.Numbers.{either, either_side, below_next}

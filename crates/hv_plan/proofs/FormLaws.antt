@@ -1,11 +1,10 @@
 -- Which lines qualify for which causes, and that a plan that forms a tree and fits a world has none.
 use Rattle.std.proofs.Common.{◌≡◌, ℕ, suc, ◌<◌, ◌≤◌, ◌⊎◌, inl, inr, List, [], ◌∷◌, ◌++◌, map, length, Some, None, refl, ap, sym, subst, ◌∙◌, arith}
-use Rattle.std.specs.Prelude.{Contains, ◌≢◌, flat_map, get_or}
+use Rattle.std.specs.Prelude.{Contains, flat_map}
 use Rattle.std.specs.List.{AllZip}
 use Rattle.std.proofs.lemmas.List.Concat.{flat_map-cons}
-use Rattle.std.proofs.lemmas.List.Kept.{AllPairs-cons}
-use Rattle.std.proofs.lemmas.List.Elements.{All-contains, Contains-get_or, Contains-append_cases, Contains-append_left, Contains-append_right}
-use Rattle.hv_lists.proofs.Contained.{contains_first, in_tail, mem_map, map_mem}
+use Rattle.std.proofs.lemmas.List.Elements.{All-contains, Contains-append_cases, Contains-append_left, Contains-append_right}
+use Rattle.hv_lists.proofs.Contained.{mem_map, map_mem}
 use Rattle.hv_lists.proofs.EachOnce.{once_tail, once_left, once_right, once_apart}
 use Rattle.hv_world.specs.Values.{TaskName}
 use Rattle.hv_lists.specs.Lists.{Once}

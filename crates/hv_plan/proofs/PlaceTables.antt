@@ -1,5 +1,5 @@
 -- The places of ids: a table of them, and the places of children.
-use Rattle.std.proofs.Common.{◌≡◌, ◌≢◌, ◌+◌, ◌<◌, ◌≤◌, ◌⊎◌, inl, inr, ℕ, zero, suc, Bool, true, false, List, [], ◌∷◌, ◌++◌, Option, Some, None, cond, max, map, nat_eq, nat_lt, option_map, refl, sym, ap, ◌∙◌, subst, arith, length, take, drop, replicate, get_or, slice_get, slice_index, Contains, length-append}
+use Rattle.std.proofs.Common.{◌≡◌, ◌≢◌, ◌+◌, ◌<◌, ◌≤◌, ◌⊎◌, inl, inr, ℕ, zero, suc, Bool, true, false, List, ◌++◌, Option, Some, None, cond, max, map, nat_eq, nat_lt, option_map, refl, sym, ap, ◌∙◌, subst, arith, length, take, drop, replicate, get_or, slice_get, slice_index, Contains, length-append}
 use Rattle.std.specs.Option.{unwrap_or}
 use Rattle.std.specs.Map.{update}
 use Rattle.std.proofs.lemmas.List.{length-map, map-append, get_or-map}

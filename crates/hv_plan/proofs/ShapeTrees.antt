@@ -4,14 +4,14 @@ use Rattle.std.specs.List.{AllZip, flat_map}
 use Rattle.std.proofs.Math.ListN.{get_or-append, get_or-eq_default}
 use Rattle.std.proofs.lemmas.List.{length-map, get_or-map, get_or-append_right}
 use Rattle.std.proofs.lemmas.List.Elements.{Contains-append_left, Contains-append_right}
-use Rattle.std.proofs.lemmas.Option.{slice_get-map, slice_get-get_or, get_or_from_slice_get, slice_get_within, same_Some}
+use Rattle.std.proofs.lemmas.Option.{slice_get-map, slice_get-get_or, get_or_from_slice_get, same_Some}
 use Rattle.hv_lists.specs.Lists.{Once}
 use Rattle.hv_lists.proofs.Places.{stands_at, contained_at}
 use Rattle.hv_lists.proofs.EachOnce.{once_apart, once_right, once_left}
 use Rattle.hv_lists.proofs.Numbers.{either_side}
 use Rattle.hv_lists.proofs.Contained.{contains_at}
 use Rattle.hv_plan.specs.Values.{Action, Decomposition, Plan}
-use Rattle.hv_plan.specs.Shapes.{head, heads, ids, parents, line_parent, all_children, IsReached, FormTree}
+use Rattle.hv_plan.specs.Shapes.{ids, line_parent, all_children, IsReached, FormTree}
 use Rattle.hv_plan.specs.Shapes as form
 use Rattle.hv_plan.specs.Trees.{Item}
 use Rattle.hv_plan.specs.Ids.{place_of}

@@ -1,11 +1,10 @@
 -- What a walk keeps.
-use Rattle.std.proofs.Common.{◌≡◌, ◌≢◌, ◌+◌, ◌-◌, ◌<◌, ◌≤◌, ◌⊎◌, inl, inr, ℕ, suc, map, take, append_assoc, Bool, true, false, List, [], ◌∷◌, ◌++◌, refl, sym, ap, ◌∙◌, subst, arith, length, set, get_or, Contains, slice_index, length-append, get_or-set_same, get_or-set_other, nat_eq, eqb-true, true≢false}
-use Rattle.std.proofs.Math.ListN.{get_or-append, get_or-eq_default}
-use Rattle.std.proofs.Math.Seq.{get_or-append_seam}
+use Rattle.std.proofs.Common.{◌≡◌, ◌≢◌, ◌+◌, ◌-◌, ◌<◌, ◌≤◌, ◌⊎◌, inl, inr, ℕ, suc, map, take, append_assoc, Bool, true, false, List, [], ◌∷◌, ◌++◌, refl, sym, ap, ◌∙◌, subst, arith, length, set, get_or, Contains, slice_index, get_or-set_same, get_or-set_other, nat_eq, eqb-true, true≢false}
+use Rattle.std.proofs.Math.ListN.{get_or-eq_default}
 use Rattle.std.proofs.lemmas.Grind.{get_or_default_zero}
 use Rattle.std.specs.List.{list_any, flat_map}
 use Rattle.std.proofs.lemmas.Grind.{flat_map-append}
-use Rattle.std.proofs.lemmas.List.{append-nil, length-map, get_or-map, get_or-append_right, take_more, take-append-le, get_or-take, length-take-le}
+use Rattle.std.proofs.lemmas.List.{append-nil, length-map, get_or-map, take_more, take-append-le, get_or-take, length-take-le}
 use Rattle.std.proofs.lemmas.Map.Keys.{IsDistinct-from_apart}
 use Rattle.std.proofs.lemmas.Map.Steps.{length-le_from_distinct_below}
 use Rattle.std.proofs.lemmas.Map.Views.{Contains-from_any}

@@ -1,6 +1,5 @@
-use Rattle.std.proofs.Common.{◌≡◌, List, ℕ, OnErr, subst, rules}
+use Rattle.std.proofs.Common.{List, ℕ, OnErr, subst, rules}
 use Rattle.hv_text.specs.Io.{AppendsBeginning}
-use Rattle.hddlv.specs.Ends.{line_of}
 use Rattle.hddlv.proofs.end.write_end.Goals as goal
 
 pub returns-in-NotUtf8-clause-err : goal.returns-in-NotUtf8-clause-err
