@@ -19,6 +19,8 @@ use Rattle.hv_world.specs.declared.id.TypeId.{TypeId}
 use Rattle.hv_match.specs.inside.Search.{below}
 use Rattle.hv_match.specs.inside.Parts.{parts}
 use Rattle.hv_match.specs.Candidates.{Does, Holds, IsCandidate}
+use Rattle.hv_state.specs.Needed.{needed}
+use Rattle.hv_match.specs.Possible.{are_possible}
 use Rattle.hv_match.specs.inside.Puzzles.{Work, work, Puzzle, child_at, same_bool, holds, all_hold, options, levels, is_good, Done, IsMatch}
 use Rattle.hv_match.specs.inside.Ranges.{IsRange, AreRanges, as_subtask, IsPuzzleOf, IsTableOf}
 use Rattle.hv_match.specs.inside.PuzzleViews.{puzzle_view}
@@ -158,8 +160,8 @@ module _ (w : World) (m : Method) (os : List ℕ) (cs : List (Option Subtask)) (
     constraints = subst (λ zs. All (Holds B) zs) is.constraints (holds_to B p.constraints c.constraints);
   }
 
-  pub match_of : IsCandidate w m os cs M B → IsMatch p M B
-  match_of c = record {
+  pub match_of : IsCandidate w m os cs M B → are_possible p.ever B (needed m.precondition) ≡ true → IsMatch p M B
+  match_of c possible = record {
     once = c.once;
     within = λ x k. omega (arith, within_from (length cs) M c.within x k, as_many);
     all = c.all ∙ sym as_many;
@@ -167,7 +169,11 @@ module _ (w : World) (m : Method) (os : List ℕ) (cs : List (Option Subtask)) (
     task = same_objects (map (object_of B) p.task) p.objects (instances_are B p.task ∙ ap (map (instance (slice_index B))) is.task ∙ c.task ∙ ap (map object) (sym is.given));
     done = all_from p.children B M p.subtasks (subst (λ ds. AllZip (Does ds B) M p.subtasks) (sym is.works) (subst (λ ss. AllZip (Does cs B) M ss) (sym is.subtasks) c.done));
     constraints = holds_from B p.constraints (subst (λ zs. All (Holds B) zs) (sym is.constraints) c.constraints);
+    possible = ap (are_possible p.ever B) is.atoms ∙ possible;
   }
+
+  pub possible_of : IsMatch p M B → are_possible p.ever B (needed m.precondition) ≡ true
+  possible_of c = ap (are_possible p.ever B) (sym is.atoms) ∙ c.possible
 
 -- the puzzle of a node has the table of its method
 pub puzzle_of : (w : World) (m : Method) (os : List ℕ) (cs : List (Option Subtask)) (t : MethodTable) (p : code_puzzle.Puzzle)
@@ -181,6 +187,7 @@ puzzle_of w m os cs t p is e given works =
       subtasks = here.subtasks;
       constraints = here.constraints;
       works = works;
+      atoms = here.needed;
     }
 
 pub more_ranges : {R : Type 0} (w : Typing) (f : R → List ℕ) (rs : List R) (r : R) (ts : List TypeId) (i : ℕ) (d : TypeId) → i < length ts

@@ -9,6 +9,7 @@ use Rattle.hv_world.specs.Bindings.{object_of}
 use Rattle.hv_world.specs.Values.{Term, Subtask}
 use Rattle.hv_world.specs.Alike.{same_name}
 use Rattle.hv_lists.specs.Lists.{Once}
+use Rattle.hv_match.specs.Possible.{are_possible}
 use Rattle.hv_match.specs.inside.Puzzles.{Work, work, Puzzle, child_at, has, is_once, are_in, same_values, does, all_do, all_hold, fits, places, values, is_good, Done, IsMatch}
 use Rattle.hv_match.proofs.Members.{once_none}
 use Rattle.hv_match.proofs.Factors.{name_is, name_itself}
@@ -113,12 +114,17 @@ all_there cs B (y ∷ M) [] a x m = absurd a
 all_there cs B (y ∷ M) (s ∷ ss) a x (zero, lt, e) = let same : x ≡ y = sym e in there cs x (work s.name (map (object_of B) s.terms)) (ap (child_at cs) same ∙ a.0)
 all_there cs B (y ∷ M) (s ∷ ss) a x (suc k, lt, e) = all_there cs B M ss a.1 x (k, omega (arith, lt), e)
 
+-- what is tested last
+abbrev rest : Puzzle → List ℕ → Bool
+rest pz B = all_hold B pz.constraints && are_possible pz.ever B pz.atoms
+
 pub fits_match : (pz : Puzzle) (M B : List ℕ) → nat_eq (length pz.subtasks) (length pz.children) ≡ true → fits pz M B ≡ true → IsMatch pz M B
-fits_match pz M B n e =
-    let a = both_true (is_once M) (are_in B pz.ranges && (same_values B pz.task pz.objects && (all_do pz.children B M pz.subtasks && all_hold B pz.constraints))) e in
-    let b = both_true (are_in B pz.ranges) (same_values B pz.task pz.objects && (all_do pz.children B M pz.subtasks && all_hold B pz.constraints)) a.1 in
-    let c = both_true (same_values B pz.task pz.objects) (all_do pz.children B M pz.subtasks && all_hold B pz.constraints) b.1 in
-    let d = both_true (all_do pz.children B M pz.subtasks) (all_hold B pz.constraints) c.1 in
+fits_match pz M B n fit =
+    let a = both_true (is_once M) (are_in B pz.ranges && (same_values B pz.task pz.objects && (all_do pz.children B M pz.subtasks && rest pz B))) fit in
+    let b = both_true (are_in B pz.ranges) (same_values B pz.task pz.objects && (all_do pz.children B M pz.subtasks && rest pz B)) a.1 in
+    let c = both_true (same_values B pz.task pz.objects) (all_do pz.children B M pz.subtasks && rest pz B) b.1 in
+    let d = both_true (all_do pz.children B M pz.subtasks) (rest pz B) c.1 in
+    let e = both_true (all_hold B pz.constraints) (are_possible pz.ever B pz.atoms) d.1 in
     let done = do_from pz.children B M pz.subtasks d.0 in
     record {
       once = once_from M a.0;
@@ -127,17 +133,18 @@ fits_match pz M B n e =
       typed = in_from B pz.ranges b.0;
       task = values_from B pz.task pz.objects c.0;
       done = done;
-      constraints = d.1;
+      constraints = e.0;
+      possible = e.1;
     }
 
 pub match_fits : (pz : Puzzle) (M B : List ℕ) → IsMatch pz M B → (nat_eq (length pz.subtasks) (length pz.children) ≡ true) × (fits pz M B ≡ true)
 match_fits pz M B c =
     let size : length pz.subtasks ≡ length pz.children = sym (same_length (Done pz.children B) M pz.subtasks c.done) ∙ c.all in (
       eq-eqb (length pz.subtasks) (length pz.children) size,
-      and_both (is_once M) (are_in B pz.ranges && (same_values B pz.task pz.objects && (all_do pz.children B M pz.subtasks && all_hold B pz.constraints))) (once_to M c.once)
-          (and_both (are_in B pz.ranges) (same_values B pz.task pz.objects && (all_do pz.children B M pz.subtasks && all_hold B pz.constraints)) (in_to B pz.ranges c.typed)
-          (and_both (same_values B pz.task pz.objects) (all_do pz.children B M pz.subtasks && all_hold B pz.constraints) (values_to B pz.task pz.objects c.task)
-          (and_both (all_do pz.children B M pz.subtasks) (all_hold B pz.constraints) (do_to pz.children B M pz.subtasks c.done) c.constraints))),
+      and_both (is_once M) (are_in B pz.ranges && (same_values B pz.task pz.objects && (all_do pz.children B M pz.subtasks && rest pz B))) (once_to M c.once)
+          (and_both (are_in B pz.ranges) (same_values B pz.task pz.objects && (all_do pz.children B M pz.subtasks && rest pz B)) (in_to B pz.ranges c.typed)
+          (and_both (same_values B pz.task pz.objects) (all_do pz.children B M pz.subtasks && rest pz B) (values_to B pz.task pz.objects c.task)
+          (and_both (all_do pz.children B M pz.subtasks) (rest pz B) (do_to pz.children B M pz.subtasks c.done) (and_both (all_hold B pz.constraints) (are_possible pz.ever B pz.atoms) c.constraints c.possible)))),
     )
 
 pub good_match : (pz : Puzzle) (q : List ℕ) → is_good pz q ≡ true → IsMatch pz (places pz q) (values pz q)

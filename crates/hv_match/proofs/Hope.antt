@@ -6,13 +6,14 @@ use Rattle.std.specs.List.{AllZip}
 use Rattle.hv_lists.proofs.Contained.{none_in_empty}
 use Rattle.hv_lists.proofs.Pairs.{same_length}
 use Rattle.hv_world.specs.Bindings.{object_of}
-use Rattle.hv_world.specs.Values.{Subtask}
+use Rattle.hv_world.specs.Values.{Subtask, Atom}
 use Rattle.hv_world.specs.Views.{subtask_view, constraint_view}
 use Rattle.hv_world.specs.declared.formula.Subtask as code_subtask
 use Rattle.hv_world.specs.declared.formula.Constraint as code_constraint
+use Rattle.hv_match.specs.Possible.{is_possible, are_possible}
 use Rattle.hv_match.specs.inside.Search.{below}
 use Rattle.hv_match.specs.inside.States.{rest}
-use Rattle.hv_match.specs.inside.Puzzles.{Work, Puzzle, options, places, values, is_good, child_at, children_for, may_do, places_where, bound, has, Done, IsMatch, Agrees, GoesOn, CannotDo, CannotHold, holds, all_hold}
+use Rattle.hv_match.specs.inside.Puzzles.{Work, Puzzle, options, places, values, is_good, child_at, children_for, may_do, places_where, bound, has, Done, IsMatch, Agrees, GoesOn, CannotDo, CannotHold, CannotBeTrue, holds, all_hold}
 use Rattle.hv_match.specs.inside.Tables.{subtask_key, number_of, size_for, AreKeys}
 use Rattle.hv_match.specs.declared.child_rows.RowKeys.{RowKeys}
 use Rattle.hv_match.proofs.Listing.{none_begins}
@@ -46,6 +47,22 @@ goes_on pz p q xs e m = record {
 
 pub none_goes_on : (pz : Puzzle) (p : List ℕ) → ((B : List ℕ) → GoesOn pz p B → all_hold B pz.constraints ≡ true → ⊥) → (k : ℕ) → below (options pz) (is_good pz) k p 0 ≡ []
 none_goes_on pz p none k = none_fits pz p (λ q xs e m. none (values pz q) (goes_on pz p q xs e m) m.constraints) k
+
+-- an atom that is not possible
+impossible : {R : Type 0} (view : R → Atom) (ever : Option (List (List ℕ))) (B : List ℕ) (as' : List R) (i : ℕ) (d : R) → i < length as' → is_possible ever B (view (get_or as' i d)) ≡ false → are_possible ever B (map view as') ≡ false
+impossible view ever B [] i d h e = absurd (omega arith)
+impossible view ever B (a ∷ as') zero d h e = ap (λ b. b && are_possible ever B (map view as')) e
+impossible view ever B (a ∷ as') (suc i) d h e = go (is_possible ever B (view a)) (impossible view ever B as' i d (omega arith) e)
+  where
+    go : (b : Bool) → are_possible ever B (map view as') ≡ false → (b && are_possible ever B (map view as')) ≡ false
+    go true r = r
+    go false r = refl
+
+pub none_possible : {R : Type 0} (view : R → Atom) (pz : Puzzle) (p : List ℕ) (as' : List R) (i : ℕ) (d : R) → pz.atoms ≡ map view as' → i < length as' → CannotBeTrue pz p (view (get_or as' i d)) → (k : ℕ) → below (options pz) (is_good pz) k p 0 ≡ []
+none_possible view pz p as' i d are lt cannot k = none_fits pz p (λ q xs e m.
+    let B = values pz q in
+    let out : are_possible pz.ever B pz.atoms ≡ false = ap (are_possible pz.ever B) are ∙ impossible view pz.ever B as' i d lt (cannot B (goes_on pz p q xs e m)) in
+    let is = m.possible in cc) k
 
 -- the last child chosen cannot do its subtask
 zip_read : (cs : List (Option Work)) (B M : List ℕ) (ss : List code_subtask.Subtask) (i : ℕ) (d : code_subtask.Subtask) → AllZip (Done cs B) M (map subtask_view ss) → i < length ss → (x : ℕ) × (slice_get M i ≡ Some x) × Done cs B x (subtask_view (get_or ss i d))

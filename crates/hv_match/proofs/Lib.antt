@@ -22,3 +22,4 @@ pub mod NodeTables
 pub mod Checking
 pub mod Found
 pub mod Cited
+pub mod PossibleLemmas

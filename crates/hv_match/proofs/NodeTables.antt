@@ -16,20 +16,20 @@ use Rattle.hv_match.specs.inside.Ranges.{AreTablesOf, HasTable, IsTableAt, IsTab
 use Rattle.hv_match.specs.declared.table.MethodTable.{MethodTable}
 
 -- a list of candidates by the table of the node's method
-pub record IsListingAt (w : World) (t : PlanTree) (v : ℕ) (l : Listing) : Type 0 where
-  pub exact : HasAllAt w t v l
+pub record IsListingAt (w : World) (t : PlanTree) (v : ℕ) (ever : Option (List (List ℕ))) (l : Listing) : Type 0 where
+  pub exact : HasAllAt w t v ever l
   pub once : Once l.coming
   pub few : IsInCountAt w t v l
 
-pub listing_at : (w : World) (t : PlanTree) (v : ℕ) (n : Node) (table : MethodTable) (l : Listing)
-    → slice_get t.nodes v ≡ Some n → IsTableAt w n table → IsWholeBy table t n l → IsListingAt w t v l
-listing_at w t v n table l e at by = go (node_method w n) refl at
+pub listing_at : (w : World) (t : PlanTree) (v : ℕ) (n : Node) (table : MethodTable) (ever : Option (List (List ℕ))) (l : Listing)
+    → slice_get t.nodes v ≡ Some n → IsTableAt w n table → IsWholeBy table t n ever l → IsListingAt w t v ever l
+listing_at w t v n table ever l e at by = go (node_method w n) refl at
   where
-    go : (o : Option Method) → node_method w n ≡ o → MatchOption o ⊥ (λ m. IsTableOf w m table) → IsListingAt w t v l
+    go : (o : Option Method) → node_method w n ≡ o → MatchOption o ⊥ (λ m. IsTableOf w m table) → IsListingAt w t v ever l
     go None f at = absurd at
     go (Some m) f at =
-        let is : IsWhole w m t n l = by w m at in
-        let exact : HasAllAt w t v l = rw (e, f) is.exact in
+        let is : IsWhole w m t n ever l = by w m at in
+        let exact : HasAllAt w t v ever l = rw (e, f) is.exact in
         let few : IsInCountAt w t v l = rw (e, f) is.few in
         record { exact = exact; once = is.once; few = few }
 

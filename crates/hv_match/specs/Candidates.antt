@@ -14,6 +14,8 @@ use Rattle.hv_plan.specs.BuiltTrees.{tree_view}
 use Rattle.hv_plan.specs.Trees.{Item, Act, Task, Pre}
 use Rattle.hv_plan.specs.PlanTrees.{Node, PlanTree}
 use Rattle.hv_plan.specs.declared.tree.Tree as code_tree
+use Rattle.hv_state.specs.Needed.{needed}
+use Rattle.hv_match.specs.Possible.{are_possible}
 
 -- what an action and a node do: a subtask with objects for terms
 abbrev pub action_task : GroundAction → Subtask
@@ -76,9 +78,13 @@ pub record Listing : Type 0 where
   pub objects : List ℕ
   pub coming : List (List ℕ × List ℕ)
 
--- to come are just the candidates of the node of a number
-abbrev pub HasAllAt : World → PlanTree → ℕ → Listing → Type 0
-HasAllAt w t v l = (M B : List ℕ) → Contains l.coming (M, B) ↔ IsCandidateAt w t v M B
+-- with these objects the atoms that the precondition of a node's method needs may be true
+abbrev pub IsPossibleAt : World → PlanTree → ℕ → Option (List (List ℕ)) → List ℕ → Type 0
+IsPossibleAt w t v ever B = MatchOption (method_at w t v) ⊥ (λ m. are_possible ever B (needed m.precondition) ≡ true)
+
+-- to come are just the candidates of the node of a number that are possible
+abbrev pub HasAllAt : World → PlanTree → ℕ → Option (List (List ℕ)) → Listing → Type 0
+HasAllAt w t v ever l = (M B : List ℕ) → Contains l.coming (M, B) ↔ (IsCandidateAt w t v M B × IsPossibleAt w t v ever B)
 
 -- one was to come, which is lent now, and the others are still to come; or none was to come, and none is
 abbrev pub IsAdvance : Listing → Listing → Bool → Type 0

@@ -1,3 +1,4 @@
+pub mod Possible
 pub mod Candidates
 pub mod Counts
 pub mod inside

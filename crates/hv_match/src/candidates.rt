@@ -1,7 +1,8 @@
 //! The candidates of a node, one at a time.
 
-ghost use Rattle.std.specs.Prelude.{◌≡◌, ◌≢◌, ◌<◌, ◌^◌, [], All, length, map, IfOk, OnErr, MatchBool};
+ghost use Rattle.std.specs.Prelude.{◌≡◌, ◌≢◌, ◌<◌, ◌^◌, [], All, length, map, option_map, IfOk, OnErr, MatchBool};
 ghost use Rattle.hv_lists.specs.Lists.{Once};
+ghost use Rattle.hv_state.specs.Ever.{ever_rows};
 ghost use Rattle.hv_plan.specs.BuiltTrees.{tree_view};
 ghost use Rattle.hv_plan.specs.PlanTrees.{IsTreeIn};
 ghost use Rattle.hv_plan.specs.TreeViews.{node_view};
@@ -18,6 +19,7 @@ use crate::puzzle_laws::{ways_are_counts, ways_are_enough};
 use crate::state::{State, back, find};
 use crate::table::MethodTable;
 use hv_plan::{Node, Tree};
+use hv_state::EverTrue;
 use hv_text::Memory;
 use hv_world::ObjectId;
 use std::alloc::Global;
@@ -95,38 +97,43 @@ impl<'a> Candidates<'a> {
         })
     }
 
-    // All candidates of a node whose method has this table.
+    // All possible candidates of a node whose method has this table.
     fn of_table(
         alloc: Global,
         table: &'a MethodTable<'a>,
         tree: &'a Tree<'_, '_>,
         node: &Node<'a>,
+        ever: Option<EverTrue<'a>>,
     ) -> Result<Candidates<'a>, Memory>
-        ensures { IfOk result (IsWholeBy table.now (tree_view tree.now) (node_view node.now)) }
+        ensures { IfOk result (IsWholeBy table.now (tree_view tree.now) (node_view node.now)
+            (option_map ever_rows ever.entry)) }
     {
-        let puzzle = puzzle(alloc, table, tree, node)?;
+        let puzzle = puzzle(alloc, table, tree, node, ever)?;
         ways_are_enough();
         ways_are_counts();
         let candidates = Candidates::of(alloc, puzzle)?;
         Ok(candidates)
     }
 
-    /// All candidates of a node, each once, in no said order; they are no more than its count. Err
-    /// only for want of memory.
+    /// All candidates of a node, each once, in no said order; they are no more than its count. Where
+    /// it is told which atoms are ever true, those are left out whose precondition needs another.
+    /// Err only for want of memory.
     pub fn new(
         alloc: Global,
         matcher: &'a Matcher<'_, '_>,
         tree: &'a Tree<'_, '_>,
         node: u32,
+        ever: Option<EverTrue<'a>>,
     ) -> Result<Candidates<'a>, Memory>
         requires tree { IsTreeIn matcher.now (tree_view tree.now) }
         requires node { node < length (tree_view tree.now).nodes }
-        ensures exact { IfOk result (HasAllAt matcher.now (tree_view tree.now) node) }
+        ensures exact { IfOk result (HasAllAt matcher.now (tree_view tree.now) node
+            (option_map ever_rows ever.entry)) }
         ensures once { IfOk result (λ c. Once c.coming) }
         ensures few { IfOk result (IsInCountAt matcher.now (tree_view tree.now) node) }
     {
         let (node, table) = matcher.node_and_table(tree, node);
-        let candidates = Candidates::of_table(alloc, table, tree, &node)?;
+        let candidates = Candidates::of_table(alloc, table, tree, &node, ever)?;
         Ok(candidates)
     }
 

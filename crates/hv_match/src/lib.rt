@@ -12,6 +12,7 @@ mod laws;
 mod make;
 mod matcher;
 mod parts;
+mod possible;
 mod prune;
 mod puzzle;
 mod puzzle_laws;

@@ -7,6 +7,7 @@ ghost use Rattle.hv_world.specs.Views.{term_view};
 ghost use Rattle.hv_world.specs.Worlds.{terms_of};
 ghost use Rattle.hv_world.specs.MethodViews.{method_view};
 ghost use Rattle.hv_world.specs.WorldViews.{world_view};
+ghost use Rattle.hv_state.specs.Ever.{ever_rows};
 ghost use Rattle.hv_plan.specs.BuiltTrees.{tree_view};
 ghost use Rattle.hv_plan.specs.TreeViews.{child_view, node_view};
 ghost use Rattle.hv_match.specs.Candidates as candidates;
@@ -18,11 +19,12 @@ ghost use Rattle.hv_match.specs.inside.Ranges.{AreRangesOf, AreWorks, IsRange, a
 
 use crate::child_rows::{child_rows_for, row_keys};
 use crate::counts::exact_count;
-use crate::decided::decided;
+use crate::decided::{decided, decided_atoms};
 use crate::puzzle::{Puzzle, Work};
 use crate::sources::sources;
 use crate::table::MethodTable;
 use hv_plan::{Child, Node, Tree};
+use hv_state::{EverTrue, needed_atoms};
 use hv_text::Memory;
 use hv_world::{GroundAction, Method, ObjectId, TaskName, Term, TypeId, World};
 use std::alloc::Global;
@@ -134,6 +136,8 @@ pub(crate) fn method_table<'w>(
     let keys = row_keys(alloc, subtasks)?;
     let sources = sources(alloc, ranges.len(), task, subtasks)?;
     let decided = decided(alloc, subtasks.len(), &sources, constraints)?;
+    let needed = needed_atoms(alloc, method.precondition())?;
+    let needed_by = decided_atoms(alloc, subtasks.len(), &sources, &needed)?;
     let count = exact_count(world, method);
     Ok(MethodTable {
         ranges,
@@ -143,6 +147,8 @@ pub(crate) fn method_table<'w>(
         keys,
         decided,
         sources,
+        needed,
+        needed_by,
         count,
     })
 }
@@ -153,7 +159,9 @@ pub(crate) fn puzzle<'a>(
     table: &'a MethodTable<'a>,
     tree: &'a Tree<'_, '_>,
     node: &Node<'a>,
+    ever: Option<EverTrue<'a>>,
 ) -> Result<Puzzle<'a>, Memory>
+    ensures ever { IfOk result (λ p. (puzzle_view p).ever ≡ option_map ever_rows ever.entry) }
     ensures table { IfOk result (λ p. p.table.now ≡ table.now) }
     ensures given { IfOk result (λ p. (puzzle_view p).objects ≡ (node_view node.now).objects) }
     ensures works { IfOk result (λ p. AreWorks (puzzle_view p).children
@@ -170,5 +178,6 @@ pub(crate) fn puzzle<'a>(
         objects: node.objects(),
         children,
         places,
+        ever,
     })
 }

@@ -35,8 +35,8 @@ impl Puzzle<'_> {
         }
     }
 
-    // What the task and the choices made say of a term.
-    fn known(&self, chosen: &[usize], term: Term) -> Option<usize>
+    /// What the task and the choices made say of a term.
+    pub(crate) fn known(&self, chosen: &[usize], term: Term) -> Option<usize>
         ensures { IfSome result (IsKnown (puzzle_view self.now) chosen.now (term_view term)) }
     {
         match term {
@@ -59,8 +59,16 @@ impl Puzzle<'_> {
         }
     }
 
-    /// Whether one of the constraints that are decided by so many choices is broken.
+    /// Whether one of the constraints that are decided by so many choices is broken, or an atom that
+    /// they decide is needed and never true.
     pub(crate) fn is_broken(&self, chosen: &[usize]) -> bool
+        ensures { result ≡ true → NothingBegins (search_of self.now) chosen.now }
+    {
+        self.breaks_some(chosen) || self.lacks_atom(chosen)
+    }
+
+    // Whether one of the constraints that are decided by so many choices is broken.
+    fn breaks_some(&self, chosen: &[usize]) -> bool
         ensures { result ≡ true → NothingBegins (search_of self.now) chosen.now }
     {
         match self.table.decided.get(chosen.len()) {

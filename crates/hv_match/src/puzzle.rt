@@ -10,9 +10,11 @@ ghost use Rattle.hv_match.specs.inside.Puzzles as puzzles;
 ghost use Rattle.hv_match.specs.inside.Tables.{work_view, source_view, ArePlaces};
 
 use crate::child_rows::ChildRows;
+use crate::possible::are_possible;
 use crate::rule::Rule;
 use crate::sources::Source;
 use crate::table::MethodTable;
+use hv_state::EverTrue;
 use hv_world::{Constraint, ObjectId, Subtask, TaskName, Term};
 
 /// What a child does.
@@ -30,6 +32,8 @@ pub(crate) struct Puzzle<'a> {
     pub(crate) children: Vec<Option<Work<'a>>>,
     /// For each subtask the places of the children that may do it.
     pub(crate) places: ChildRows<'a>,
+    /// The atoms that are true at some time, where it counts when they are.
+    pub(crate) ever: Option<EverTrue<'a>>,
     pub(crate) ghost short: { length children.items < 2 ^ 32 },
     pub(crate) ghost placed: { ArePlaces table.now.subtasks.now children.items places },
 }
@@ -191,6 +195,7 @@ impl<'a> Puzzle<'a> {
             && are_values(values, self.table.task, self.objects)
             && self.all_do(values, places)
             && all_hold(values, self.table.constraints)
+            && are_possible(self.ever, values, &self.table.needed)
     }
 
     // The object at a place in a subtask's child, if it has one.

@@ -7,7 +7,7 @@ ghost use Rattle.hv_match.specs.inside.Tables.{AreKeys, AreSourcesOf};
 
 use crate::child_rows::RowKeys;
 use crate::sources::Source;
-use hv_world::{Constraint, ObjectId, Subtask, Term};
+use hv_world::{Atom, Constraint, ObjectId, Subtask, Term};
 
 /// What the search keeps of a method, whichever node it decomposes.
 #[derive(Drop)]
@@ -24,6 +24,10 @@ pub(crate) struct MethodTable<'w> {
     pub(crate) sources: Vec<Option<Source>>,
     /// For each number of choices the numbers of the constraints that so many decide.
     pub(crate) decided: Vec<Vec<usize>>,
+    /// The atoms that the precondition needs.
+    pub(crate) needed: Vec<&'w Atom>,
+    /// For each number of choices the numbers of the needed atoms that so many decide.
+    pub(crate) needed_by: Vec<Vec<usize>>,
     /// The count, if 64 bits hold it.
     pub(crate) count: Option<u64>,
     pub(crate) ghost ascending: { AreAscending ranges.items },

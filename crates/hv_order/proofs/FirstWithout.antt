@@ -4,7 +4,8 @@ use Rattle.std.specs.Prelude.{MatchBool}
 use Rattle.hv_lists.proofs.Contained.{contains_first}
 use Rattle.hv_world.specs.Worlds.{World}
 use Rattle.hv_plan.specs.PlanTrees.{Node, PlanTree, NodeIs, IsTreeIn}
-use Rattle.hv_match.specs.Candidates.{Listing, HasAllAt, IsCandidateAt}
+use Rattle.hv_match.specs.Candidates.{Listing, HasAllAt, IsCandidateAt, IsPossibleAt}
+use Rattle.hv_match.proofs.Cited.{unasked_at}
 use Rattle.hv_order.specs.Settings.{Setting, HasCandidate, HaveCandidates, IsFirstWithout}
 use Rattle.hv_order.specs.inside.Writings.{HasOne, IsSettingOver}
 use Rattle.std.proofs.lemmas.Option.{slice_get_within}
@@ -12,19 +13,19 @@ use Rattle.hv_order.proofs.TreeLines.{place_of, as_many_in_order}
 
 -- whether a candidate is to come says whether there is one
 some_of : (w : World) (t : PlanTree) (v : ℕ) (coming : List (List ℕ × List ℕ))
-    → ((M B : List ℕ) → Contains coming (M, B) ↔ IsCandidateAt w t v M B) → coming ≢ [] → HasOne w t v
+    → ((M B : List ℕ) → Contains coming (M, B) ↔ (IsCandidateAt w t v M B × IsPossibleAt w t v None B)) → coming ≢ [] → HasOne w t v
 some_of w t v [] exact some = absurd (some refl)
-some_of w t v (p ∷ ps) exact some = (p.0, p.1, (exact p.0 p.1).0 (contains_first p ps))
+some_of w t v (p ∷ ps) exact some = (p.0, p.1, ((exact p.0 p.1).0 (contains_first p ps)).0)
 
 none_of : (w : World) (t : PlanTree) (v : ℕ) (coming : List (List ℕ × List ℕ))
-    → ((M B : List ℕ) → Contains coming (M, B) ↔ IsCandidateAt w t v M B) → coming ≡ [] → HasOne w t v → ⊥
+    → ((M B : List ℕ) → Contains coming (M, B) ↔ (IsCandidateAt w t v M B × IsPossibleAt w t v None B)) → coming ≡ [] → HasOne w t v → ⊥
 none_of w t v coming exact none has =
-    let c : Contains coming (has.0, has.1) = (exact has.0 has.1).1 has.2 in
+    let c : Contains coming (has.0, has.1) = (exact has.0 has.1).1 (has.2, unasked_at w t v has.0 has.1 has.2) in
     let l : length coming ≡ 0 = ap length none in
     let lt : c.0 < length coming = c.1 in
     omega (arith, l, lt)
 
-pub tells : (w : World) (t : PlanTree) (v : ℕ) (l l' : Listing) (b : Bool) → HasAllAt w t v l → l' ≡ l
+pub tells : (w : World) (t : PlanTree) (v : ℕ) (l l' : Listing) (b : Bool) → HasAllAt w t v None l → l' ≡ l
     → MatchBool b (l'.coming ≢ []) (l'.coming ≡ []) → IsTrue b ↔ HasOne w t v
 tells w t v l l' true exact same some =
     let there : l.coming ≢ [] = λ e. some (ap (λ x. x.coming) same ∙ e) in

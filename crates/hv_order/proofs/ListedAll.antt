@@ -1,5 +1,5 @@
 -- What lists all matchings and bindings of a node lists all its candidates.
-use Rattle.std.proofs.Common.{◌≡◌, ℕ, ◌<◌, List, [], ◌∷◌, length, refl, sym, ap, ◌∙◌, subst}
+use Rattle.std.proofs.Common.{◌≡◌, ℕ, true, Option, ◌<◌, List, [], ◌∷◌, length, refl, sym, ap, ◌∙◌, subst}
 use Rattle.std.specs.Prelude.{map, slice_get, Some}
 use Rattle.std.specs.List.{slice_index_or}
 use Rattle.std.proofs.lemmas.List.{length-map}
@@ -10,25 +10,28 @@ use Rattle.hv_plan.specs.PlanTrees.{Node}
 use Rattle.hv_plan.specs.TreeViews.{child_view}
 use Rattle.hv_plan.specs.declared.tree.Child.TheVariants as children
 use Rattle.hv_match.specs.Candidates.{IsCandidate, child_tasks, node_method}
-use Rattle.hv_order.specs.Settings.{Setting}
+use Rattle.hv_state.specs.Needed.{needed}
+use Rattle.hv_match.specs.Possible.{are_possible}
+use Rattle.hv_order.specs.Settings.{Setting, HoldsAt}
 use Rattle.hv_order.specs.inside.Arrangements.{Arrangement, lists_of, listed_before}
 use Rattle.hv_order.specs.inside.Children.{child_at}
 use Rattle.hv_order.specs.inside.Choosing.{Gives}
 use Rattle.hv_order.specs.inside.Facts.{FitsWith}
-use Rattle.hv_order.specs.inside.Listers.{ListsAll, arranged_by, still_listed}
+use Rattle.hv_order.specs.inside.Listers.{ListsAll, IsEver, arranged_by, still_listed}
 use Rattle.hv_order.specs.inside.Nodes.{FitsWithOne, AreAllOf}
 use Rattle.hv_order.specs.inside.PlanFacts.{IsSetting, child_in, Arranges, plan_facts}
 use Rattle.hv_order.specs.declared.lister.Lister.{Lister}
 use Rattle.hv_order.proofs.Members.{MappedFrom, mem_map, mem_map_from}
 use Rattle.hv_order.proofs.Orders.{row_allowed, direct_allowed}
-use Rattle.hv_order.proofs.NodeParts.{IsCandidateHere, candidate_here, is_candidate_at, sound_network, order_count}
+use Rattle.hv_order.proofs.Possibles.{possible_where_true}
+use Rattle.hv_order.proofs.NodeParts.{of_method, from_method, IsCandidateHere, candidate_here, is_candidate_at, sound_network, order_count}
 use Rattle.hv_order.proofs.NodeFits.{fits_matching, fits_arranged}
 
 map_twice : {X Y Z : Type 0} (f : X → Y) (g : Y → Z) (h : X → Z) → ((x : X) → g (f x) ≡ h x) → (xs : List X) → map g (map f xs) ≡ map h xs
 map_twice f g h each [] = refl
 map_twice f g h each (x ∷ xs) = let here = each x in let rest = map_twice f g h each xs in cc
 
-module _ (q : Setting) (is : IsSetting q) (v : ℕ) (l : Lister) (lists : ListsAll q.plan.world q.tree v l) where
+module _ (q : Setting) (is : IsSetting q) (v : ℕ) (ever : Option (List (List ℕ))) (is_ever : IsEver q ever) (l : Lister) (lists : ListsAll q.plan.world q.tree v ever l) where
   abbrev arranged : List ℕ × List ℕ → Arrangement
   arranged = arranged_by l.node l.children.now l.sequencing.value
 
@@ -75,7 +78,7 @@ module _ (q : Setting) (is : IsSetting q) (v : ℕ) (l : Lister) (lists : ListsA
   each : (c : Arrangement) → MappedFrom arranged c l.coming.coming → Arranges q v c
   each c w =
       subst (λ d. Arranges q v d) (sym w.image)
-      (arranges w.source.0 w.source.1 (candidate_of w.source.0 w.source.1 (candidate_here q v w.source.0 w.source.1 ((lists.all w.source.0 w.source.1).0 w.is_member))))
+      (arranges w.source.0 w.source.1 (candidate_of w.source.0 w.source.1 (candidate_here q v w.source.0 w.source.1 ((lists.all w.source.0 w.source.1).0 w.is_member).0)))
 
   -- where a candidate fits, the listed one with its matching and binding does
   with_one : (s f : ℕ) → FitsWithOne (plan_facts q) v s f → Gives (still_listed l) (FitsWith (plan_facts q) s) f
@@ -88,9 +91,11 @@ module _ (q : Setting) (is : IsSetting q) (v : ℕ) (l : Lister) (lists : ListsA
       let candidate = candidate_of M c.objects here in
       let items : map child_view c.children ≡ map (child_in lists.node.children) M = subst (λ (n : Node). map child_view c.children ≡ map (child_in n.children) M) node r.children in
       let g = fits_matching q is v lists.node lists.has_node lists.method lists.has_method M c r.of_node candidate items s f w.fits in
+      let holds = from_method q is v r.node r.has_node r.method r.has_method (λ m. HoldsAt q m c.objects w.fits.at) (rw r.of_node at w.fits.holds) in
+      let possible = of_method q is v r.node r.has_node r.method r.has_method (λ m. are_possible ever c.objects (needed m.precondition) ≡ true) (possible_where_true q ever is_ever r.method c.objects w.fits.at holds) in
       record {
         candidate = arranged (M, c.objects);
-        listed = mem_map arranged (M, c.objects) l.coming.coming ((lists.all M c.objects).1 (is_candidate_at q v M c.objects here));
+        listed = mem_map arranged (M, c.objects) l.coming.coming ((lists.all M c.objects).1 (is_candidate_at q v M c.objects here, possible));
         gives = fits_arranged q is v lists.node lists.has_node lists.method lists.has_method M (arranged (M, c.objects)) lists.of_node candidate (places_are M) s f g;
       }
 

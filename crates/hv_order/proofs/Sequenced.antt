@@ -1,12 +1,12 @@
 -- Each node of a tree of a world has the sequencing of its method.
-use Rattle.std.proofs.Common.{◌≡◌, ◌↔◌, ℕ, zero, suc, List, [], ◌∷◌, refl, sym, ◌∙◌, subst, Option, Some, None, IsSome, MatchOption, Contains}
+use Rattle.std.proofs.Common.{◌≡◌, ℕ, zero, suc, List, [], ◌∷◌, refl, sym, ◌∙◌, subst, Option, Some, None, IsSome, MatchOption}
 use Rattle.std.specs.Prelude.{map, slice_get, option_and_then}
 use Rattle.std.specs.Rc.{rc_value}
 use Rattle.hv_lists.proofs.Pairs.{paired_at}
 use Rattle.hv_world.specs.Worlds.{World, Method}
 use Rattle.hv_plan.specs.PlanTrees.{Node, PlanTree}
 use Rattle.hv_plan.specs.TreeViews.{child_view}
-use Rattle.hv_match.specs.Candidates.{IsCandidateAt, node_method, method_at}
+use Rattle.hv_match.specs.Candidates.{HasAllAt, node_method, method_at}
 use Rattle.hv_order.specs.inside.Sequencings.{IsSequencing, IsSequencingOf, AreSequencingsOf, IsSequencingAt}
 use Rattle.hv_order.specs.inside.Listers.{ListsAll}
 use Rattle.hv_order.specs.declared.lister.Lister.{Lister}
@@ -47,13 +47,13 @@ module _ (w : World) (t : PlanTree) (v : ℕ) (n : Node) (has_node : slice_get t
       cc
 
 -- what lists all matchings and bindings of a node, in the order of its method
-pub lists_all : (w : World) (t : PlanTree) (v : ℕ) (n : Node) (l : Lister) → slice_get t.nodes v ≡ Some n → IsSequencingAt w t v l.sequencing.value → l.node ≡ v
-    → map child_view l.children.now ≡ n.children → ((M B : List ℕ) → Contains l.coming.coming (M, B) ↔ IsCandidateAt w t v M B) → ListsAll w t v l
-lists_all w t v n l has_node is of_node children all =
+pub lists_all : (w : World) (t : PlanTree) (v : ℕ) (n : Node) (ever : Option (List (List ℕ))) (l : Lister) → slice_get t.nodes v ≡ Some n → IsSequencingAt w t v l.sequencing.value → l.node ≡ v
+    → map child_view l.children.now ≡ n.children → HasAllAt w t v ever l.coming → ListsAll w t v ever l
+lists_all w t v n ever l has_node is of_node children all =
     let P : Option Node → Type 0 = λ o. MatchOption (option_and_then (node_method w) o) ⊥ (λ m. IsSequencing m.network.order l.sequencing.value) in
     by (node_method w n) refl (subst P has_node is)
   where
-    by : (o : Option Method) → node_method w n ≡ o → MatchOption o ⊥ (λ m. IsSequencing m.network.order l.sequencing.value) → ListsAll w t v l
+    by : (o : Option Method) → node_method w n ≡ o → MatchOption o ⊥ (λ m. IsSequencing m.network.order l.sequencing.value) → ListsAll w t v ever l
     by None e h = absurd h
     by (Some m) e h = record {
       of_node = of_node;

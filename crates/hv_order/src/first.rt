@@ -12,17 +12,17 @@ use hv_text::Memory;
 use std::alloc::Global;
 
 /// Whether a node has a candidate.
-pub fn has_candidate(
+pub fn has_candidate<'a>(
     alloc: Global,
-    matcher: &Matcher<'_, '_>,
-    tree: &Tree<'_, '_>,
+    matcher: &'a Matcher<'_, '_>,
+    tree: &'a Tree<'_, '_>,
     node: u32,
 ) -> Result<bool, Memory>
     requires tree { IsTreeIn matcher.now (tree_view tree.now) }
     requires node { node < length (tree_view tree.now).nodes }
     ensures { IfOk result (λ b. IsTrue b ↔ HasOne matcher.now (tree_view tree.now) node) }
 {
-    let mut candidates = Candidates::new(alloc, matcher, tree, node)?;
+    let mut candidates = Candidates::new(alloc, matcher, tree, node, None)?;
     let is_some = candidates.has_next()?;
     Ok(is_some)
 }

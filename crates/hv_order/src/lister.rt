@@ -1,6 +1,7 @@
 //! The candidates of a node of a plan's tree, arranged one after another.
-ghost use Rattle.std.specs.Prelude.{◌≡◌, ◌<◌, length, map, IfOk};
+ghost use Rattle.std.specs.Prelude.{◌≡◌, ◌<◌, length, map, option_map, IfOk};
 ghost use Rattle.hv_world.specs.Bindings.{object_number};
+ghost use Rattle.hv_state.specs.Ever.{ever_rows};
 ghost use Rattle.hv_plan.specs.BuiltTrees.{tree_view};
 ghost use Rattle.hv_plan.specs.PlanTrees.{IsTreeIn};
 ghost use Rattle.hv_order.specs.inside.Arrangements.{arrangement_of};
@@ -15,6 +16,7 @@ use crate::sequencing::Sequencing;
 use crate::trial::Arranged;
 use hv_match::{Candidates as Matchings, Matcher};
 use hv_plan::{Child, Tree};
+use hv_state::EverTrue;
 use hv_world::ObjectId;
 use std::alloc::Global;
 use std::rc::Rc;
@@ -77,19 +79,22 @@ fn arranged(
     })
 }
 
-/// All candidates of a node of a tree of the matcher's world, whose method has this sequencing.
+/// All candidates of a node of a tree of the matcher's world, whose method has this sequencing; where
+/// it is told which atoms are ever true, those whose precondition needs another are left out.
 pub(crate) fn candidates_of<'a>(
     alloc: Global,
     matcher: &'a Matcher<'_, '_>,
     tree: &'a Tree<'_, '_>,
     number: u32,
     sequencing: Rc<Sequencing>,
+    ever: Option<EverTrue<'a>>,
 ) -> Result<Lister<'a>, Memory>
     requires tree { IsTreeIn matcher.now (tree_view tree.now) }
     requires number { number < length (tree_view tree.now).nodes }
     requires sequencing { IsSequencingAt matcher.now (tree_view tree.now) number
         sequencing.value }
-    ensures { IfOk result (ListsAll matcher.now (tree_view tree.now) number) }
+    ensures { IfOk result (ListsAll matcher.now (tree_view tree.now) number
+        (option_map ever_rows ever.entry)) }
 {
     let node = node_of(tree, number);
     Ok(Lister {
@@ -97,7 +102,7 @@ pub(crate) fn candidates_of<'a>(
         node: number,
         children: node.children(),
         sequencing,
-        coming: Matchings::new(alloc, matcher, tree, number)?,
+        coming: Matchings::new(alloc, matcher, tree, number, ever)?,
         given: 0,
     })
 }

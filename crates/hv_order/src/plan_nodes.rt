@@ -157,7 +157,13 @@ impl<'a, 's, 'm, 'p, 't, 'c, 'd> Nodes for PlanNodes<'a, 's, 'm, 'p, 't, 'c, 'd>
         let _count = self.tree.node_count();
         let number = node as u32;
         let shared = sequencing_of(self.world, &self.sequencings, self.tree, number).clone()?;
-        candidates_of(alloc, self.matcher, self.tree, number, shared)
+        // Where preconditions count, no candidate is of use whose precondition is never true.
+        let ever = if self.is_with {
+            Some(self.trace.ever_true())
+        } else {
+            None
+        };
+        candidates_of(alloc, self.matcher, self.tree, number, shared, ever)
     }
 
     fn earliest(&self, node: u32) -> u32 {

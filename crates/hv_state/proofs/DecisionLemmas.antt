@@ -7,11 +7,10 @@ use Rattle.hv_world.specs.Bindings.{GroundAtom, GroundAction, atom_under, object
 use Rattle.hv_world.specs.Effects.{SomeMakes, Adds, Deletes}
 use Rattle.hv_world.specs.Worlds.{World, Action}
 use Rattle.hv_world.specs.Values.{Formula, Formulas, holds, and, or, not, imply, forall, exists, equal, no_formulas, more_formulas, Effect, Effects, becomes, for_each, no_effects, more_effects}
-use Rattle.hv_state.specs.Atoms.{Atoms, After, atoms_under}
+use Rattle.hv_state.specs.Atoms.{Atoms, After, atoms_under, row_of}
 use Rattle.hv_state.specs.Truth.{IsDecided, ForEach, ForSome, True, AllTrue, SomeTrue}
 use Rattle.hv_state.specs.Plans.{Plan, AfterAction, AfterActions, Start, StateAt}
 use Rattle.hv_state.specs.inside.Makings.{IsMadeBy, IsMadeBySome}
-use Rattle.hv_state.specs.inside.Rows.{row_of}
 use Rattle.hv_state.proofs.MadeLemmas.{made_is}
 use Rattle.hv_state.proofs.NoteLemmas.{decided}
 use Rattle.hv_state.proofs.StateLemmas.{same_atom}

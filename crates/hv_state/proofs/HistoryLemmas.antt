@@ -7,11 +7,12 @@ use Rattle.std.proofs.lemmas.Bool.{cases_lt}
 use Rattle.std.proofs.lemmas.List.{get_or-map, get_or_default, length-map}
 use Rattle.hv_lists.proofs.Bools.{if_true, if_false}
 use Rattle.hv_lists.proofs.Contained.{none_in_empty}
+use Rattle.hv_state.specs.Atoms.{row_of}
 use Rattle.hv_state.specs.declared.history.Change as code
 use Rattle.hv_state.specs.declared.history.History.{History}
 use Rattle.hv_world.specs.Bindings.{GroundAtom}
 use Rattle.hv_state.specs.inside.Bits.{Has}
-use Rattle.hv_state.specs.inside.Rows.{row_of, atom_of, IsBelow, Ascend, IsPlace}
+use Rattle.hv_state.specs.inside.Rows.{atom_of, IsBelow, Ascend, IsPlace}
 use Rattle.hv_state.specs.Changes.{Change, told_from, told}
 use Rattle.hv_state.specs.inside.Histories.{Table, Rise, beside, rows_of, change_view, changes_of, history_view, kept, AreFlagged}
 use Rattle.hv_state.proofs.RowLemmas.{below_itself, contains_cases}

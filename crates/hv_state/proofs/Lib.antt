@@ -21,3 +21,5 @@ pub mod LitLemmas
 pub mod TakeLemmas
 pub mod GuessLemmas
 pub mod Cited
+pub mod NeededLemmas
+pub mod EverLemmas

@@ -6,8 +6,8 @@ use Rattle.hv_state.specs.declared.rows.Row.{Row}
 use Rattle.std.proofs.lemmas.List.{get_or_default, get_or-map, length-map, map_push}
 use Rattle.std.proofs.lemmas.List.Elements.{Contains-append_left, Contains-append_right, Contains-append_cases, Contains-push, Contains-push_cases}
 use Rattle.hv_world.specs.Bindings.{GroundAtom}
-use Rattle.hv_state.specs.Atoms.{Same, After}
-use Rattle.hv_state.specs.inside.Rows.{row_of, rows_in, Ascend, HasSameRows}
+use Rattle.hv_state.specs.Atoms.{Same, After, row_of}
+use Rattle.hv_state.specs.inside.Rows.{rows_in, Ascend, HasSameRows}
 use Rattle.hv_state.specs.inside.Bits.{Has, Bits, Lit, Shown, Knows, AreBits, AreLit, AreDark, AreLacking, IsChanged}
 use Rattle.hv_state.proofs.RowLemmas.{contains_cases}
 use Rattle.hv_state.proofs.StateLemmas.{atom_listed, row_listed}

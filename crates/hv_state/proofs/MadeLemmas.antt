@@ -11,10 +11,10 @@ use Rattle.hv_world.specs.Types.{Typing}
 use Rattle.hv_world.specs.Values.{Effect, Effects, becomes, for_each, no_effects, more_effects, effects_of}
 use Rattle.hv_world.specs.Views.{effect_view}
 use Rattle.hv_world.specs.declared.effect.Effect as code
-use Rattle.hv_state.specs.Atoms.{Atoms, Same}
+use Rattle.hv_state.specs.Atoms.{Atoms, Same, row_of}
 use Rattle.hv_state.specs.Truth.{ForSome}
 use Rattle.hv_state.specs.inside.Makings.{IsMadeBy, IsMadeBySome}
-use Rattle.hv_state.specs.inside.Rows.{row_of, atom_of, IsRowOf}
+use Rattle.hv_state.specs.inside.Rows.{atom_of, IsRowOf}
 use Rattle.hv_state.proofs.SomeLemmas.{SomeOf}
 use Rattle.hv_state.proofs.StateLemmas.{same_atom, atom_listed, row_listed}
 

@@ -12,8 +12,8 @@ use Rattle.hv_world.specs.Effects.{Adds, Deletes}
 use Rattle.hv_world.specs.Worlds.{World, Action}
 use Rattle.hv_world.specs.Values.{Formula}
 use Rattle.hv_state.specs.Truth.{IsDecided, True}
-use Rattle.hv_state.specs.Atoms.{Atoms, Same, After}
-use Rattle.hv_state.specs.inside.Rows.{row_of, IsRowOf, HasSameRows}
+use Rattle.hv_state.specs.Atoms.{Atoms, Same, After, row_of}
+use Rattle.hv_state.specs.inside.Rows.{IsRowOf, HasSameRows}
 use Rattle.hv_state.specs.Plans.{Plan, AfterAction, StateAt, IsApplicableIn, IsApplicable, StopsAt}
 use Rattle.hv_state.specs.Changes.{Change, Stays, AreChanges, none_yet, stays, turns, told, Tells, TrueAfter}
 use Rattle.hv_state.specs.inside.Histories.{Table, beside, rows_of, kept}
@@ -25,7 +25,7 @@ use Rattle.hv_state.proofs.GrowLemmas.{empty_rows}
 use Rattle.hv_state.proofs.ChangeLemmas.{told_push, is_from, late, Says, tells}
 
 -- whether a list has an atom
-row_decided : (xs : List (List ℕ)) (x : List ℕ) → Contains xs x ⊎ (Contains xs x → ⊥)
+pub row_decided : (xs : List (List ℕ)) (x : List ℕ) → Contains xs x ⊎ (Contains xs x → ⊥)
 row_decided [] x = inr (none_in_empty x)
 row_decided (y ∷ ys) x = by (bytes_eq x y) (bytes_decides x y).0 (bytes_decides x y).1 (row_decided ys x)
   where

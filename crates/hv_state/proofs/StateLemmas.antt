@@ -3,8 +3,8 @@ use Rattle.std.proofs.Common.{◌≡◌, ◌<◌, ◌⊎◌, inl, inr, ℕ, List
 use Rattle.std.specs.List.{Contains}
 use Rattle.std.proofs.lemmas.List.{get_or-map, length-map}
 use Rattle.hv_world.specs.Bindings.{GroundAtom}
-use Rattle.hv_state.specs.Atoms.{Same, After}
-use Rattle.hv_state.specs.inside.Rows.{row_of, atom_of, Listed, IsWithoutAll, IsWithAll, HasSameRows}
+use Rattle.hv_state.specs.Atoms.{Same, After, row_of}
+use Rattle.hv_state.specs.inside.Rows.{atom_of, Listed, IsWithoutAll, IsWithAll, HasSameRows}
 
 -- a row is of one atom
 pub same_atom : (g h : GroundAtom) → row_of g ≡ row_of h → g ≡ h

@@ -9,11 +9,11 @@ use Rattle.hv_world.specs.Bindings.{GroundAtom, atom_under}
 use Rattle.hv_world.specs.Types.{Typing}
 use Rattle.hv_world.specs.Values.{Atom, becomes}
 use Rattle.hv_state.specs.declared.rows.Row.{Row}
-use Rattle.hv_state.specs.Atoms.{Atoms, Same}
+use Rattle.hv_state.specs.Atoms.{Atoms, Same, row_of}
 use Rattle.hv_state.specs.inside.Histories.{Table}
 use Rattle.hv_state.specs.inside.Makings.{IsMadeBy}
 use Rattle.hv_state.specs.inside.Notes.{IsSet}
-use Rattle.hv_state.specs.inside.Rows.{row_of, rows_in, IsRowOf, HaveCome, HaveJoined}
+use Rattle.hv_state.specs.inside.Rows.{rows_in, IsRowOf, HaveCome, HaveJoined}
 use Rattle.hv_state.specs.inside.Takings.{TakenInTurn, no_more, one_more, HaveBeenTaken}
 use Rattle.hv_state.proofs.NoteLemmas.{set_both, set_like, set_nothing}
 use Rattle.hv_state.proofs.RowLemmas.{contains_cases}

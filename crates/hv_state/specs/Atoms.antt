@@ -1,5 +1,5 @@
 -- Sets of atoms without variables, which states are.
-use Rattle.std.specs.Prelude.{ℕ, ◌↔◌, ◌⊎◌, List, map}
+use Rattle.std.specs.Prelude.{ℕ, ◌↔◌, ◌⊎◌, List, ◌∷◌, map}
 use Rattle.hv_world.specs.Values.{Atom}
 use Rattle.hv_world.specs.Views.{term_view}
 use Rattle.hv_world.specs.Bindings.{GroundAtom, ground_atom, atom_under, objects_in, object_of}
@@ -30,3 +30,7 @@ objects_read (Given numbers) = numbers.now
 
 abbrev pub atom_read : AtomView → GroundAtom
 atom_read v = ground_atom v.predicate.0 (objects_read v.objects)
+
+-- an atom as a row: its predicate, and then its objects
+abbrev pub row_of : GroundAtom → List ℕ
+row_of g = g.predicate ∷ g.objects

@@ -2,7 +2,7 @@
 
 ghost use Rattle.std.specs.Prelude.{◌≡◌, map};
 ghost use Rattle.hv_world.specs.Views.{term_view, atom_view};
-ghost use Rattle.hv_world.specs.Bindings.{atom_under, objects_in, object_of};
+ghost use Rattle.hv_world.specs.Bindings.{atom_under, ground_atom, objects_in, object_of};
 ghost use Rattle.hv_state.specs.Atoms.{atom_read, objects_read};
 
 use hv_world::{Atom, Binding, ObjectId, PredicateId, Term};
@@ -34,7 +34,17 @@ impl<'a> AtomView<'a> {
         }
     }
 
-    /// The same, with the objects of up to three terms looked up once and put down in `numbers`. It is
+    /// An atom of a predicate whose objects have these numbers.
+    pub fn of_numbers(predicate: PredicateId, numbers: &'a [usize]) -> AtomView<'a>
+        ensures { atom_read result ≡ ground_atom predicate.0 numbers.now }
+    {
+        AtomView {
+            predicate,
+            objects: Objects::Given(numbers),
+        }
+    }
+
+    /// The same as `new`, with the objects of up to three terms looked up once and put down in `numbers`. It is
     /// written out where it is called, since what it answers is large, and a copy of it would wait for
     /// all that was written before.
     #[inline(always)]

@@ -1,13 +1,14 @@
 //! A state as a row of bits.
 
-ghost use Rattle.std.specs.Prelude.{ℕ, List, ◌↔◌, IfOk};
+ghost use Rattle.std.specs.Prelude.{ℕ, List, ◌↔◌, IsTrue, IfOk};
 ghost use Rattle.std.specs.List.{Contains};
+ghost use Rattle.hv_state.specs.Atoms.{atom_read, row_of};
 ghost use Rattle.hv_state.specs.inside.Rows.{rows_in};
 ghost use Rattle.hv_state.specs.inside.Bits.{Lit, Shown, Knows, AreBits, IsChanged};
 
 use crate::atom::AtomView;
 use crate::bits::has_bit;
-use crate::find::{guesses_of, look_up_at};
+use crate::find::{guesses_of, look_up, look_up_at};
 use crate::ground::GroundAtoms;
 use crate::guesses::{Guesses, Stride};
 use crate::lit::{bright, clear_all, knows_all, lacking, lit_rows, set_all};
@@ -90,6 +91,13 @@ impl BitState {
         let mut rows = copy_of(alloc, &self.table)?;
         push_copies(&mut rows, more)?;
         BitState::over(alloc, lit, &rows)
+    }
+
+    /// Whether the table has an atom: each that is true is there, and others may be.
+    pub(crate) fn knows(&self, atom: &AtomView<'_>) -> bool
+        ensures { IsTrue result ↔ Contains self.now.0 (row_of (atom_read atom.now)) }
+    {
+        look_up(&self.table, &self.guesses, atom).is_some()
     }
 
     // Sees to it that the table has these rows. The same atoms are true as before.

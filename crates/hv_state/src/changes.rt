@@ -1,11 +1,12 @@
 //! When the truth of atoms changes on the way of a plan.
 
 ghost use Rattle.std.specs.Prelude.{◌≡◌, ◌<◌, ℕ, Bool, List, [], Ok, length, map, false};
-ghost use Rattle.std.specs.Prelude.{IfOk, OnOk, OnErr, MatchOption, All};
+ghost use Rattle.std.specs.Prelude.{◌↔◌, IsTrue, IfOk, OnOk, OnErr, MatchOption, All};
 ghost use Rattle.std.specs.List.{Contains};
 ghost use Rattle.hv_world.specs.Bindings.{GroundAtom};
 ghost use Rattle.hv_state.specs.Atoms.{atom_read};
-ghost use Rattle.hv_state.specs.inside.Rows.{row_of, rows_in, Ascend, IsPlace};
+ghost use Rattle.hv_state.specs.Atoms.{row_of};
+ghost use Rattle.hv_state.specs.inside.Rows.{rows_in, Ascend, IsPlace};
 ghost use Rattle.hv_state.specs.inside.Histories.{Rise, kept, rows_of, IsNext, AreFlagged};
 ghost use Rattle.hv_state.specs.inside.Histories.{change_view, changes_of, history_view};
 ghost use Rattle.hv_state.specs.inside.Notes.{IsTurnedAt, IsSet};
@@ -95,6 +96,16 @@ impl Changes {
             self.stride.set(stride.found(place));
         }
         found
+    }
+
+    /// Whether an action touches an atom.
+    pub(crate) fn touches(&self, atom: &AtomView<'_>) -> bool
+        ensures { IsTrue result ↔ Contains (rows_of self.now) (row_of (atom_read atom.now)) }
+    {
+        if !has_bit(&self.flags, atom.predicate.0) {
+            return false;
+        }
+        self.place_of(atom).is_some()
     }
 
     // The history of an atom; none where no action touches it.

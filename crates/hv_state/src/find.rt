@@ -4,7 +4,8 @@ ghost use Rattle.std.specs.Prelude.{◌≡◌, ◌↔◌, ℕ, List, Ok, IsTrue,
 ghost use Rattle.std.specs.List.{Contains};
 ghost use Rattle.hv_state.specs.Atoms.{atom_read};
 ghost use Rattle.hv_state.specs.inside.Hashes.{TellRows};
-ghost use Rattle.hv_state.specs.inside.Rows.{row_of, Ascend, IsPlace};
+ghost use Rattle.hv_state.specs.Atoms.{row_of};
+ghost use Rattle.hv_state.specs.inside.Rows.{Ascend, IsPlace};
 
 use crate::atom::AtomView;
 use crate::guesses::{Guesses, hash_of, hash_of_row};

@@ -8,7 +8,8 @@ ghost use Rattle.hv_world.specs.WorldViews.{world_view};
 ghost use Rattle.hv_world.specs.Bindings.{objects_in};
 ghost use Rattle.hv_world.specs.Effects.{SomeMakes};
 ghost use Rattle.hv_state.specs.Atoms.{Same, atom_read};
-ghost use Rattle.hv_state.specs.inside.Rows.{row_of, rows_in};
+ghost use Rattle.hv_state.specs.Atoms.{row_of};
+ghost use Rattle.hv_state.specs.inside.Rows.{rows_in};
 
 use crate::atom::AtomView;
 use crate::made::push_made;
@@ -27,7 +28,8 @@ pub struct GroundAtoms {
 impl Model for GroundAtoms {
     ghost use Rattle.std.specs.Prelude.{◌≡◌, List, map};
     ghost use Rattle.hv_world.specs.Bindings.{GroundAtom};
-    ghost use Rattle.hv_state.specs.inside.Rows.{row_of, atom_of, rows_in};
+    ghost use Rattle.hv_state.specs.Atoms.{row_of};
+    ghost use Rattle.hv_state.specs.inside.Rows.{atom_of, rows_in};
 
     ghost Value = { List GroundAtom };
 

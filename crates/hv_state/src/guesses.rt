@@ -4,7 +4,8 @@ ghost use Rattle.std.specs.Prelude.{◌≡◌, ◌<◌, fold, [], length, slice_
 ghost use Rattle.hv_world.specs.Bindings.{objects_in};
 ghost use Rattle.hv_state.specs.Atoms.{atom_read};
 ghost use Rattle.hv_state.specs.inside.Hashes.{mix, hash, bucket, HasRoom, IsPut, IsNoted};
-ghost use Rattle.hv_state.specs.inside.Rows.{row_of, objects_with};
+ghost use Rattle.hv_state.specs.Atoms.{row_of};
+ghost use Rattle.hv_state.specs.inside.Rows.{objects_with};
 
 use crate::atom::{AtomView, Objects, object_of};
 use hv_text::Memory;

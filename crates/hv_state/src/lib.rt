@@ -7,6 +7,7 @@ mod bit_state;
 mod bits;
 mod changes;
 mod evaluate;
+mod ever;
 mod facts;
 mod find;
 mod ground;
@@ -16,6 +17,7 @@ mod lanes;
 mod laws;
 mod lit;
 mod made;
+mod needed;
 mod next;
 mod pass;
 mod rows;
@@ -28,12 +30,14 @@ mod trace;
 pub use atom::AtomView;
 pub use bit_state::BitState;
 pub use evaluate::truth;
+pub use ever::EverTrue;
 pub use ground::GroundAtoms;
 pub use lanes::next_row;
 pub use laws::{
-    adds_come_last, changes_tell, no_object_fails_and_none_serves, truth_is_decided,
-    truth_is_of_sets, truth_stays,
+    adds_come_last, changes_tell, needed_atoms_are_true, no_object_fails_and_none_serves,
+    truth_is_decided, truth_is_of_sets, truth_stays,
 };
+pub use needed::needed_atoms;
 pub use sorted::SortedState;
 pub use state::State;
 pub use trace::{Stop, Trace};

@@ -3,7 +3,8 @@
 ghost use Rattle.std.specs.Prelude.{◌≡◌, ◌∷◌, [], IfOk};
 ghost use Rattle.hv_world.specs.Bindings.{GroundAtom};
 ghost use Rattle.hv_state.specs.Atoms.{atom_read};
-ghost use Rattle.hv_state.specs.inside.Rows.{row_of, HaveCome, HaveJoined};
+ghost use Rattle.hv_state.specs.Atoms.{row_of};
+ghost use Rattle.hv_state.specs.inside.Rows.{HaveCome, HaveJoined};
 ghost use Rattle.hv_state.specs.inside.Parts.{MadeBy, MadeBySome, MadeForSome};
 ghost use Rattle.hv_state.specs.inside.Takings.{HaveBeenTaken};
 

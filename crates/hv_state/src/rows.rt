@@ -4,7 +4,8 @@ ghost use Rattle.std.specs.Prelude.{◌≡◌, ◌↔◌, ◌++◌, ◌∷◌, I
 ghost use Rattle.std.specs.Ordering.{nat_cmp};
 ghost use Rattle.std.specs.Cmp.Lexicographic.{slice_cmp};
 ghost use Rattle.hv_state.specs.Atoms.{objects_read, atom_read};
-ghost use Rattle.hv_state.specs.inside.Rows.{row_of, atom_of, rows_in, rows_with};
+ghost use Rattle.hv_state.specs.Atoms.{row_of};
+ghost use Rattle.hv_state.specs.inside.Rows.{atom_of, rows_in, rows_with};
 ghost use Rattle.hv_state.specs.inside.Rows.{objects_with, HaveCome};
 ghost use Rattle.hv_state.specs.inside.Rows.{Ascend, HasSameRows};
 

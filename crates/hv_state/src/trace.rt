@@ -6,9 +6,12 @@ ghost use Rattle.hv_world.specs.Views.{formula_view};
 ghost use Rattle.hv_world.specs.Bindings.{objects_in};
 ghost use Rattle.hv_state.specs.Plans.{Plan, plan_of, IsTrueAt, CanRun, IsStop, GoalHolds};
 ghost use Rattle.hv_state.specs.Changes.{IsNextChange, AreFalse, IsFirstTrue};
+ghost use Rattle.hv_state.specs.Ever.{HasAllEver, ever_rows};
 
+use crate::bit_state::BitState;
 use crate::changes::{Changes, Moment};
 use crate::evaluate::evaluate;
+use crate::ever::EverTrue;
 use crate::next::next_change;
 use crate::pass::pass;
 use crate::state::State;
@@ -60,6 +63,18 @@ impl<'a, 's, S: State> Model for Trace<'a, 's, S> {
 
     ghost invariant = { λ t.
         IsRecorded (plan_of t.world.now t.actions.now) (S.atoms t.first) t.changes };
+}
+
+impl Trace<'_, '_, BitState> {
+    /// The atoms that may be true somewhere on the way of the plan.
+    pub fn ever_true(&self) -> EverTrue<'_>
+        ensures { HasAllEver self.now (ever_rows result) }
+    {
+        EverTrue {
+            first: &self.first,
+            changes: &self.changes,
+        }
+    }
 }
 
 impl<'a, 's, S: State> Trace<'a, 's, S> {

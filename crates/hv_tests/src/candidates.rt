@@ -5,6 +5,7 @@ ghost use Rattle.hv_world.specs.WorldViews.{world_view};
 ghost use Rattle.hv_plan.specs.BuiltTrees.{tree_view};
 ghost use Rattle.hv_plan.specs.PlanTrees.{IsTreeIn};
 
+mod possible;
 mod slow;
 
 use crate::texts::{
@@ -17,8 +18,8 @@ use hv_plan::Tree;
 use hv_world::{ObjectId, World};
 use std::alloc::Global;
 
-// The number of the node of an id, which the root line's has none.
-fn node_of(tree: &Tree<'_, '_>, id: Option<u64>) -> Option<u32>
+/// The number of the node of an id, which the root line's has none.
+pub(crate) fn node_of(tree: &Tree<'_, '_>, id: Option<u64>) -> Option<u32>
     ensures { IfSome result (λ v. v < length (tree_view tree.now).nodes) }
 {
     for number in 0..tree.node_count() {
@@ -29,8 +30,8 @@ fn node_of(tree: &Tree<'_, '_>, id: Option<u64>) -> Option<u32>
     None
 }
 
-// The world made ready.
-fn matcher_of<'w, 's>(alloc: Global, world: &'w World<'s>) -> Option<Matcher<'w, 's>>
+/// The world made ready.
+pub(crate) fn matcher_of<'w, 's>(alloc: Global, world: &'w World<'s>) -> Option<Matcher<'w, 's>>
     ensures { IfSome result (λ m. m ≡ world_view world.now) }
 {
     match Matcher::new(alloc, world) {
@@ -46,8 +47,8 @@ pub(crate) struct Candidate {
     pub(crate) objects: Vec<ObjectId>,
 }
 
-// The candidate that is lent.
-fn lent(alloc: Global, candidates: &Candidates<'_>) -> Option<Candidate> {
+/// The candidate that is lent.
+pub(crate) fn lent(alloc: Global, candidates: &Candidates<'_>) -> Option<Candidate> {
     let mut children = Vec::new(alloc);
     for place in candidates.children() {
         children.push(*place as usize).ok()?;
@@ -56,13 +57,18 @@ fn lent(alloc: Global, candidates: &Candidates<'_>) -> Option<Candidate> {
     Some(Candidate { children, objects })
 }
 
-// The candidates of a node, where they are fewer than a thousand and each is said to be one.
-fn all(alloc: Global, world: &World<'_>, tree: &Tree<'_, '_>, node: u32) -> Option<Vec<Candidate>>
+/// The candidates of a node, where they are fewer than a thousand and each is said to be one.
+pub(crate) fn all(
+    alloc: Global,
+    world: &World<'_>,
+    tree: &Tree<'_, '_>,
+    node: u32,
+) -> Option<Vec<Candidate>>
     requires tree { IsTreeIn (world_view world.now) (tree_view tree.now) }
     requires node { node < length (tree_view tree.now).nodes }
 {
     let matcher = matcher_of(alloc, world)?;
-    let mut candidates = Candidates::new(alloc, &matcher, tree, node).ok()?;
+    let mut candidates = Candidates::new(alloc, &matcher, tree, node, None).ok()?;
     let mut all = Vec::new(alloc);
     for _ in 0..1000 {
         let has_next = candidates.has_next().ok()?;

@@ -1,10 +1,12 @@
 -- What a search finds, as candidates.
-use Rattle.std.specs.Prelude.{◌≡◌, ◌↔◌, ◌≤◌, ℕ, List, [], map, length, take, drop, Contains}
+use Rattle.std.specs.Prelude.{◌≡◌, ◌↔◌, ◌≤◌, ℕ, true, List, [], map, length, take, drop, Option, Contains}
 use Rattle.hv_lists.specs.Lists.{Once}
 use Rattle.hv_world.specs.Bindings.{object_number}
 use Rattle.hv_world.specs.Worlds.{World, Method}
 use Rattle.hv_world.specs.declared.id.ObjectId.{ObjectId}
+use Rattle.hv_state.specs.Needed.{needed}
 use Rattle.hv_plan.specs.PlanTrees.{Node, PlanTree}
+use Rattle.hv_match.specs.Possible.{are_possible}
 use Rattle.hv_match.specs.Candidates.{IsCandidate, Listing, child_tasks}
 use Rattle.hv_match.specs.Counts.{IsCount}
 use Rattle.hv_match.specs.inside.Search.{below}
@@ -41,12 +43,13 @@ abbrev pub IsListing : code.Puzzle → State → List ℕ → List ObjectId → 
 IsListing p at M os =
     IsStateOf p at × (length M ≡ length p.table.now.subtasks.now) × (length os ≡ length p.table.now.ranges.items)
 
--- to come are just the candidates of a node by its method, each once, and no more than the count
-pub record IsWhole (w : World) (m : Method) (t : PlanTree) (n : Node) (l : Listing) : Type 0 where
-  pub exact : (M B : List ℕ) → Contains l.coming (M, B) ↔ IsCandidate w m n.objects (child_tasks t n) M B
+-- to come are just the candidates of a node by its method that are possible, each once, and no more than the count
+pub record IsWhole (w : World) (m : Method) (t : PlanTree) (n : Node) (ever : Option (List (List ℕ))) (l : Listing) : Type 0 where
+  pub exact :
+      (M B : List ℕ) → Contains l.coming (M, B) ↔ (IsCandidate w m n.objects (child_tasks t n) M B × (are_possible ever B (needed m.precondition) ≡ true))
   pub once : Once l.coming
   pub few : (k : ℕ) → IsCount w m k → length l.coming ≤ k
 
 -- so for each method whose table this is
-abbrev pub IsWholeBy : MethodTable → PlanTree → Node → Listing → Type 0
-IsWholeBy table t n l = (w : World) (m : Method) → IsTableOf w m table → IsWhole w m t n l
+abbrev pub IsWholeBy : MethodTable → PlanTree → Node → Option (List (List ℕ)) → Listing → Type 0
+IsWholeBy table t n ever l = (w : World) (m : Method) → IsTableOf w m table → IsWhole w m t n ever l

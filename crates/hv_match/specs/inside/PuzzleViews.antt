@@ -1,7 +1,8 @@
 -- What the puzzle of the search says.
 use Rattle.std.specs.Prelude.{map, length, option_map}
 use Rattle.hv_world.specs.Bindings.{object_number}
-use Rattle.hv_world.specs.Views.{term_view, subtask_view, constraint_view}
+use Rattle.hv_world.specs.Views.{term_view, subtask_view, constraint_view, atom_view}
+use Rattle.hv_state.specs.Ever.{ever_rows}
 use Rattle.hv_match.specs.inside.Puzzles.{Puzzle, options, is_good, levels}
 use Rattle.hv_match.specs.inside.Search.{Search}
 use Rattle.hv_match.specs.inside.Tables.{work_view}
@@ -15,6 +16,8 @@ puzzle_view p = record {
   subtasks = map subtask_view p.table.now.subtasks.now;
   constraints = map constraint_view p.table.now.constraints.now;
   children = map (option_map work_view) p.children.items;
+  atoms = map (λ a. atom_view a.now) p.table.now.needed.items;
+  ever = option_map ever_rows p.ever;
 }
 
 -- the search for its matches

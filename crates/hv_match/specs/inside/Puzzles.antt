@@ -1,10 +1,11 @@
 -- What the search for the candidates of a node works on, and what it tests.
 use Rattle.std.specs.Prelude.{◌≡◌, ◌<◌, ◌*◌, ℕ, ◌+◌, ◌-◌, Bool, true, false, not, ◌&&◌, List, [], ◌∷◌, map, length, take, drop, nat_eq, slice_get, slice_index, slice_index_or, Option, Some, None, if◌then◌else◌, Contains}
 use Rattle.std.specs.List.{AllZip}
-use Rattle.hv_world.specs.Values.{Term, TaskName, Subtask, Constraint}
+use Rattle.hv_world.specs.Values.{Term, TaskName, Subtask, Constraint, Atom}
 use Rattle.hv_world.specs.Bindings.{object_of}
 use Rattle.hv_world.specs.Alike.{same_name, is_variable, is_free, keys, is_object}
 use Rattle.hv_lists.specs.Lists.{Once}
+use Rattle.hv_match.specs.Possible.{is_possible, are_possible}
 use Rattle.hv_match.specs.Counts.{product}
 use Rattle.hv_match.specs.inside.Counting.{rising}
 
@@ -17,7 +18,8 @@ abbrev pub work : TaskName → List ℕ → Work
 work n os = record { name = n; objects = os }
 
 -- the objects that each parameter may have, the terms of the task and the objects that stand for them, the subtasks, the
--- constraints, and what the children do
+-- constraints, what the children do, the atoms that the precondition needs, and the rows of atoms that are ever true, where
+-- these count
 pub record Puzzle : Type 0 where
   pub ranges : List (List ℕ)
   pub task : List Term
@@ -25,6 +27,8 @@ pub record Puzzle : Type 0 where
   pub subtasks : List Subtask
   pub constraints : List Constraint
   pub children : List (Option Work)
+  pub atoms : List Atom
+  pub ever : Option (List (List ℕ))
 
 -- the child at a place, and its objects
 abbrev pub child_at : List (Option Work) → ℕ → Option Work
@@ -142,7 +146,8 @@ all_hold B (c ∷ cs) = holds B c && all_hold B cs
 
 -- the children at M do the subtasks under B, and all else holds under B
 abbrev pub suits : Puzzle → List ℕ → List ℕ → Bool
-suits p M B = are_in B p.ranges && (same_values B p.task p.objects && (all_do p.children B M p.subtasks && all_hold B p.constraints))
+suits p M B =
+    are_in B p.ranges && (same_values B p.task p.objects && (all_do p.children B M p.subtasks && (all_hold B p.constraints && are_possible p.ever B p.atoms)))
 
 -- M and B are a candidate
 abbrev pub fits : Puzzle → List ℕ → List ℕ → Bool
@@ -171,6 +176,7 @@ pub record IsMatch (p : Puzzle) (M B : List ℕ) : Type 0 where
   pub task : map (object_of B) p.task ≡ p.objects
   pub done : AllZip (Done p.children B) M p.subtasks
   pub constraints : all_hold B p.constraints ≡ true
+  pub possible : are_possible p.ever B p.atoms ≡ true
 
 -- how many objects the i-th parameter and those after it may have, apart from the arguments
 abbrev pub widths : Puzzle → ℕ → List (List ℕ) → List ℕ
@@ -219,3 +225,11 @@ IsKnown p q t o = (B : List ℕ) → GoesOn p q B → object_of B t ≡ o
 -- the constraint does not hold
 abbrev pub CannotHold : Puzzle → List ℕ → Constraint → Type 0
 CannotHold p q c = (B : List ℕ) → GoesOn p q B → holds B c ≡ false
+
+-- the terms are these objects
+abbrev pub AreKnown : Puzzle → List ℕ → List Term → List ℕ → Type 0
+AreKnown p q ts os = (B : List ℕ) → GoesOn p q B → map (object_of B) ts ≡ os
+
+-- the atom is not possible
+abbrev pub CannotBeTrue : Puzzle → List ℕ → Atom → Type 0
+CannotBeTrue p q a = (B : List ℕ) → GoesOn p q B → is_possible p.ever B a ≡ false

@@ -7,11 +7,12 @@ use Rattle.hv_world.specs.Values.{object, Subtask, subtask}
 use Rattle.hv_world.specs.Types.{Typing, Of}
 use Rattle.hv_world.specs.Worlds.{World, Method, terms_of}
 use Rattle.hv_world.specs.Bindings.{object_number}
-use Rattle.hv_world.specs.Views.{type_number, term_view, subtask_view, constraint_view}
+use Rattle.hv_world.specs.Views.{type_number, term_view, subtask_view, constraint_view, atom_view}
 use Rattle.hv_world.specs.MethodViews.{method_view}
 use Rattle.hv_world.specs.declared.method.Method as code_method
 use Rattle.hv_world.specs.declared.id.ObjectId.{ObjectId}
 use Rattle.hv_world.specs.declared.id.TypeId.{TypeId}
+use Rattle.hv_state.specs.Needed.{needed}
 use Rattle.hv_plan.specs.PlanTrees.{Node}
 use Rattle.hv_match.specs.Candidates.{node_method}
 use Rattle.hv_match.specs.Counts.{CountIs}
@@ -45,6 +46,7 @@ pub record IsTableOf (w : World) (m : Method) (t : MethodTable) : Type 0 where
   pub task : map term_view t.task.now ≡ terms_of m.task
   pub subtasks : map subtask_view t.subtasks.now ≡ m.network.subtasks
   pub constraints : map constraint_view t.constraints.now ≡ m.network.constraints
+  pub needed : map (λ a. atom_view a.now) t.needed.items ≡ needed m.precondition
   pub count : CountIs w m (λ k. t.count ≡ in_64_bits k)
 
 -- the table of the method of a node
@@ -72,3 +74,4 @@ pub record IsPuzzleOf (w : World) (m : Method) (objects : List ℕ) (children : 
   pub subtasks : p.subtasks ≡ m.network.subtasks
   pub constraints : p.constraints ≡ m.network.constraints
   pub works : map (option_map as_subtask) p.children ≡ children
+  pub atoms : p.atoms ≡ needed m.precondition

@@ -1,10 +1,12 @@
 -- What lists the candidates of a node of a plan's tree.
-use Rattle.std.specs.Prelude.{◌≡◌, ◌↔◌, ℕ, List, map, slice_get, Some, Contains}
+use Rattle.std.specs.Prelude.{◌≡◌, ℕ, true, List, map, slice_get, Option, Some, None}
 use Rattle.hv_world.specs.Worlds.{World, Method}
 use Rattle.hv_plan.specs.PlanTrees.{Node, PlanTree}
 use Rattle.hv_plan.specs.TreeViews.{child_view}
 use Rattle.hv_plan.specs.declared.tree.Child.{Child}
-use Rattle.hv_match.specs.Candidates.{IsCandidateAt, node_method}
+use Rattle.hv_match.specs.Candidates.{HasAllAt, node_method}
+use Rattle.hv_state.specs.Ever.{HasAllEver}
+use Rattle.hv_order.specs.Settings.{Setting}
 use Rattle.hv_order.specs.inside.Arrangements.{Arrangement, lists_of}
 use Rattle.hv_order.specs.inside.Sequencings.{IsSequencing}
 use Rattle.hv_order.specs.inside.Children.{child_at}
@@ -26,9 +28,9 @@ arranged_by v children s c =
 abbrev pub still_listed : Lister → List Arrangement
 still_listed l = map (arranged_by l.node l.children.now l.sequencing.value) l.coming.coming
 
--- All candidates of the node of number v are to come: these are the node's children, and the subtasks
--- are laid out as its method allows
-pub record ListsAll (w : World) (t : PlanTree) (v : ℕ) (l : Lister) : Type 0 where
+-- All possible candidates of the node of number v are to come: these are the node's children, and the
+-- subtasks are laid out as its method allows
+pub record ListsAll (w : World) (t : PlanTree) (v : ℕ) (ever : Option (List (List ℕ))) (l : Lister) : Type 0 where
   pub of_node : l.node ≡ v
   pub node : Node
   pub has_node : slice_get t.nodes v ≡ Some node
@@ -36,4 +38,9 @@ pub record ListsAll (w : World) (t : PlanTree) (v : ℕ) (l : Lister) : Type 0 w
   pub has_method : node_method w node ≡ Some method
   pub children : map child_view l.children.now ≡ node.children
   pub sequencing : IsSequencing method.network.order l.sequencing.value
-  pub all : (M B : List ℕ) → Contains l.coming.coming (M, B) ↔ IsCandidateAt w t v M B
+  pub all : HasAllAt w t v ever l.coming
+
+-- the rows, where some are given, have each atom that is ever true, and preconditions count
+abbrev pub IsEver : Setting → Option (List (List ℕ)) → Type 0
+IsEver q None = Unit {0}
+IsEver q (Some rows) = (q.is_with ≡ true) × HasAllEver q.plan rows

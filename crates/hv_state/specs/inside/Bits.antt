@@ -2,8 +2,8 @@
 use Rattle.std.specs.Prelude.{◌≡◌, ℕ, ◌≤◌, ◌*◌, ◌/◌, ◌%◌, ◌↔◌, ◌⊎◌, List, length, slice_index}
 use Rattle.std.specs.List.{Contains}
 use Rattle.std.specs.Int.{bit_at}
-use Rattle.hv_state.specs.Atoms.{Atoms}
-use Rattle.hv_state.specs.inside.Rows.{row_of, Ascend}
+use Rattle.hv_state.specs.Atoms.{Atoms, row_of}
+use Rattle.hv_state.specs.inside.Rows.{Ascend}
 
 -- the bit of i is set; 64 bits stand in a word, and behind the last word none is set
 abbrev pub Has : List ℕ → ℕ → Type 0

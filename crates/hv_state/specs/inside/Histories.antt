@@ -2,9 +2,10 @@
 use Rattle.std.specs.Prelude.{◌≡◌, ℕ, ◌<◌, ◌≤◌, ◌⊎◌, List, [], ◌∷◌, ◌++◌, map, bytes_eq, option_to_list, AllPairs, All, if◌then◌else◌}
 use Rattle.std.specs.List.{Contains}
 use Rattle.hv_world.specs.Bindings.{GroundAtom}
+use Rattle.hv_state.specs.Atoms.{row_of}
 use Rattle.hv_state.specs.Changes.{Change}
 use Rattle.hv_state.specs.inside.Bits.{Has}
-use Rattle.hv_state.specs.inside.Rows.{row_of, atom_of, Ascend}
+use Rattle.hv_state.specs.inside.Rows.{atom_of, Ascend}
 use Rattle.hv_state.specs.declared.history.Change as code_change
 use Rattle.hv_state.specs.declared.history.History as code_history
 

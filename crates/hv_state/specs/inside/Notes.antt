@@ -4,10 +4,10 @@ use Rattle.std.specs.List.{Contains}
 use Rattle.hv_world.specs.Bindings.{GroundAtom, GroundAction}
 use Rattle.hv_world.specs.Effects.{Adds, Deletes}
 use Rattle.hv_world.specs.Worlds.{World}
-use Rattle.hv_state.specs.Atoms.{Atoms, Same}
+use Rattle.hv_state.specs.Atoms.{Atoms, Same, row_of}
 use Rattle.hv_state.specs.Plans.{Plan, IsApplicableIn, AfterAction, StateAt, CanRun}
 use Rattle.hv_state.specs.declared.rows.Row.{Row}
-use Rattle.hv_state.specs.inside.Rows.{row_of, rows_in, HaveJoined}
+use Rattle.hv_state.specs.inside.Rows.{rows_in, HaveJoined}
 use Rattle.hv_state.specs.Changes.{Change, AreChanges, Tells, TrueAfter}
 use Rattle.hv_state.specs.inside.Histories.{Table, Rise, rows_of, kept}
 

@@ -12,11 +12,7 @@ use Rattle.hv_world.specs.declared.formula.Atom as code_atom
 use Rattle.hv_world.specs.declared.formula.Term as code_term
 use Rattle.hv_state.specs.declared.rows.Row.{Row}
 use Rattle.hv_state.specs.declared.shared.SharedRow.{SharedRow}
-use Rattle.hv_state.specs.Atoms.{Atoms, atoms_under}
-
--- an atom as a row: its predicate, and then its objects
-abbrev pub row_of : GroundAtom → List ℕ
-row_of g = g.predicate ∷ g.objects
+use Rattle.hv_state.specs.Atoms.{Atoms, atoms_under, row_of}
 
 -- the atom of a row
 abbrev pub atom_of : List ℕ → GroundAtom

@@ -1,4 +1,5 @@
-use Rattle.std.proofs.Common.{refl}
+use Rattle.std.proofs.Common.{refl, option_map}
+use Rattle.hv_state.specs.Ever.{ever_rows}
 use Rattle.hv_plan.specs.BuiltTrees.{tree_view}
 use Rattle.hv_plan.specs.TreeViews.{node_view}
 use Rattle.hv_order.proofs.Sequenced.{lists_all}
@@ -6,5 +7,5 @@ use Rattle.hv_order.proofs.lister.candidates_of.Goals as goal
 
 pub returns : goal.returns
 returns c =
-    lists_all c.args.matcher.now (tree_view c.args.tree.now) c.args.number (node_view c.node_of-node.result) _ c.node_of-node.ensures
+    lists_all c.args.matcher.now (tree_view c.args.tree.now) c.args.number (node_view c.node_of-node.result) (option_map ever_rows c.args.ever) _ c.node_of-node.ensures
     c.requires.sequencing refl c.children.ensures c.in_ok-new.ensures.exact

@@ -2,8 +2,7 @@ use Rattle.std.proofs.Common.{rules, ◌≡◌}
 use Rattle.std.specs.Ordering.{nat_cmp}
 use Rattle.std.specs.Cmp.Lexicographic.{slice_cmp}
 use Rattle.std.proofs.lemmas.Fn.{answers_by}
-use Rattle.hv_state.specs.Atoms.{atom_read}
-use Rattle.hv_state.specs.inside.Rows.{row_of}
+use Rattle.hv_state.specs.Atoms.{atom_read, row_of}
 use Rattle.hv_state.proofs.RowLemmas.{searched}
 use Rattle.hv_state.proofs.find.find.Goals as goal
 

@@ -1,7 +1,7 @@
 use Rattle.std.proofs.Common.{◌≡◌, Ok, MatchOption, map, length, sym, subst, ap, ◌∙◌}
 use Rattle.std.specs.List.{Contains}
-use Rattle.hv_state.specs.Atoms.{atom_read}
-use Rattle.hv_state.specs.inside.Rows.{row_of, IsPlace}
+use Rattle.hv_state.specs.Atoms.{atom_read, row_of}
+use Rattle.hv_state.specs.inside.Rows.{IsPlace}
 use Rattle.hv_state.specs.inside.Hashes.{hash, bucket, HasRoom}
 use Rattle.hv_state.proofs.GuessLemmas.{AreOthers, not_there, last_free, others_all, found_or_not}
 use Rattle.hv_state.proofs.find.look_up.Goals as goal

@@ -1,6 +1,5 @@
 use Rattle.std.proofs.Common.{map}
-use Rattle.hv_state.specs.Atoms.{atom_read}
-use Rattle.hv_state.specs.inside.Rows.{row_of}
+use Rattle.hv_state.specs.Atoms.{atom_read, row_of}
 use Rattle.hv_state.proofs.GuessLemmas.{AreOthers}
 use Rattle.hv_state.proofs.find.look_up.Given as goal
 

@@ -1,7 +1,7 @@
 use Rattle.std.proofs.Common.{◌↔◌, List, ℕ, sym, subst, ap, ◌∙◌}
 use Rattle.hv_lists.proofs.Options.{on_err}
-use Rattle.hv_state.specs.Atoms.{Same}
-use Rattle.hv_state.specs.inside.Rows.{row_of, rows_in}
+use Rattle.hv_state.specs.Atoms.{Same, row_of}
+use Rattle.hv_state.specs.inside.Rows.{rows_in}
 use Rattle.hv_state.specs.inside.Bits.{Bits, Lit, Shown, Knows, IsChanged}
 use Rattle.hv_state.proofs.LitLemmas.{shown_changed}
 use Rattle.hv_state.proofs.bit_state.BitStateState.apply.Goals as goal

@@ -1,7 +1,7 @@
 use Rattle.std.proofs.Common.{◌↔◌, Ok, IsTrue, true≢false, sym, subst, ap, ◌∙◌}
 use Rattle.std.specs.List.{Contains}
-use Rattle.hv_state.specs.Atoms.{atom_read}
-use Rattle.hv_state.specs.inside.Rows.{row_of, rows_in, IsPlace}
+use Rattle.hv_state.specs.Atoms.{atom_read, row_of}
+use Rattle.hv_state.specs.inside.Rows.{rows_in, IsPlace}
 use Rattle.hv_state.specs.declared.guesses.Guesses.{Guesses}
 use Rattle.hv_state.specs.inside.Bits.{Has, Lit}
 use Rattle.hv_state.specs.inside.Hashes.{TellRows}

@@ -1,6 +1,6 @@
 use Rattle.std.proofs.Common.{map, sym, subst, ap, ◌∙◌, true≢false}
+use Rattle.hv_state.specs.Atoms.{row_of}
 use Rattle.hv_state.specs.inside.Bits.{Has}
-use Rattle.hv_state.specs.inside.Rows.{row_of}
 use Rattle.hv_state.specs.inside.Histories.{beside, history_view}
 use Rattle.hv_state.proofs.HistoryLemmas.{unflagged}
 use Rattle.hv_state.proofs.changes.Changes.has_some_of.Goals as goal

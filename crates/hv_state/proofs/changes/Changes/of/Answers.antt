@@ -1,7 +1,7 @@
 use Rattle.std.proofs.Common.{Ok, map, refl, sym, ap, ◌∙◌, subst}
 use Rattle.std.specs.List.{Contains}
-use Rattle.hv_state.specs.Atoms.{atom_read}
-use Rattle.hv_state.specs.inside.Rows.{row_of, IsPlace}
+use Rattle.hv_state.specs.Atoms.{atom_read, row_of}
+use Rattle.hv_state.specs.inside.Rows.{IsPlace}
 use Rattle.hv_state.specs.inside.Histories.{beside, history_view}
 use Rattle.hv_state.proofs.HistoryLemmas.{numbers_are, found_in, not_found_in, changes_beside, list_rises, lacking_beside}
 use Rattle.hv_state.proofs.changes.Changes.of.Goals as goal

@@ -1,8 +1,8 @@
 use Rattle.std.proofs.Common.{Ok, MatchOption, map, sym, subst, ap, ◌∙◌}
 use Rattle.std.specs.List.{Contains}
-use Rattle.hv_state.specs.Atoms.{atom_read}
+use Rattle.hv_state.specs.Atoms.{atom_read, row_of}
 use Rattle.hv_state.specs.inside.Hashes.{TellRows}
-use Rattle.hv_state.specs.inside.Rows.{row_of, Ascend, IsPlace}
+use Rattle.hv_state.specs.inside.Rows.{Ascend, IsPlace}
 use Rattle.hv_state.proofs.HistoryLemmas.{numbers, rows_are, numbers_are}
 use Rattle.hv_state.proofs.changes.Changes.place_of.Goals as goal
 

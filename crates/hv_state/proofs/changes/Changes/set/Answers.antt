@@ -1,9 +1,9 @@
 use Rattle.std.proofs.Common.{◌≡◌, ◌+◌, ◌↔◌, ℕ, Ok, map, sym, subst, IsTrue}
 use Rattle.std.specs.List.{Contains}
-use Rattle.hv_state.specs.Atoms.{atom_read}
+use Rattle.hv_state.specs.Atoms.{atom_read, row_of}
 use Rattle.hv_state.specs.Changes.{Change, Tells}
 use Rattle.hv_state.specs.inside.Hashes.{TellRows}
-use Rattle.hv_state.specs.inside.Rows.{row_of, IsPlace}
+use Rattle.hv_state.specs.inside.Rows.{IsPlace}
 use Rattle.hv_state.specs.inside.Histories.{IsTable, AreFlagged, history_view, rows_of}
 use Rattle.hv_state.specs.inside.Notes.{Before, IsSet}
 use Rattle.hv_state.proofs.HistoryLemmas.{numbers_are, found_in, not_found_in, changes_beside}

@@ -1,7 +1,7 @@
 use Rattle.std.proofs.Common.{◌≡◌, ◌↔◌, subst, ap, ◌∙◌, true, is_ok}
 use Rattle.std.specs.List.{Contains}
-use Rattle.hv_state.specs.Atoms.{atom_read}
-use Rattle.hv_state.specs.inside.Rows.{row_of, rows_shared}
+use Rattle.hv_state.specs.Atoms.{atom_read, row_of}
+use Rattle.hv_state.specs.inside.Rows.{rows_shared}
 use Rattle.hv_state.proofs.RowLemmas.{place_tells}
 use Rattle.hv_state.proofs.sorted.SortedStateState.holds.Goals as goal
 

@@ -1,0 +1,109 @@
+//! Candidates that are left out where their precondition needs an atom that is never true.
+
+ghost use Rattle.std.specs.Prelude.{◌<◌, length};
+ghost use Rattle.hv_world.specs.WorldViews.{world_view};
+ghost use Rattle.hv_plan.specs.BuiltTrees.{tree_view};
+ghost use Rattle.hv_plan.specs.PlanTrees.{IsTreeIn};
+
+use crate::candidates::{Candidate, all, lent, matcher_of, node_of};
+use crate::worlds::{object, plan_of, tree_of, world_of};
+use hv_match::Candidates;
+use hv_plan::Tree;
+use hv_state::{BitState, Trace};
+use hv_world::World;
+use std::alloc::Global;
+
+// `seen` is true of a place that is seen on the way, and of no other.
+const LINKS: &[u8] = b"(define (domain links) (:types place)\n\
+    (:predicates (link ?a ?b - place) (seen ?a - place) (far ?a ?b ?c ?d - place))\n\
+    (:task go :parameters (?a - place)) (:task stay :parameters (?a - place))\n\
+    (:method m :parameters (?a ?b ?c - place) :task (go ?a)\n\
+    :precondition (and (link ?a ?b) (link ?b ?c) (seen ?c)) :subtasks (see ?a))\n\
+    (:method one :parameters (?a ?b - place) :task (go ?a)\n\
+    :precondition (link ?b ?a) :subtasks (see ?a))\n\
+    (:method either :parameters (?a ?b - place) :task (go ?a)\n\
+    :precondition (or (link ?b ?a) (link ?a ?b)) :subtasks (see ?a))\n\
+    (:method wide :parameters (?a ?b - place) :task (go ?a)\n\
+    :precondition (and (far ?a ?b ?a ?b) (not (link ?b ?b))) :subtasks (see ?a))\n\
+    (:method never :parameters (?a - place) :task (go ?a)\n\
+    :precondition (and (link ?a ?a) (seen ?a)) :subtasks (see ?a))\n\
+    (:action see :parameters (?a - place) :effect (seen ?a)))";
+
+const PLACES: &[u8] = b"(define (problem places) (:domain links) (:objects p q r s - place)\n\
+    (:htn :subtasks (go p)) (:init (link p q) (link q r) (link p s) (link s p)))";
+
+// Plans, how many candidates line 2 has, and how many of them are possible.
+const WAYS: [(&[u8], usize, usize); 5] = [
+    (b"==>\n1 see p\nroot 2\n2 go p -> m 1\n<==", 16, 1),
+    (b"==>\n1 see p\nroot 2\n2 go p -> one 1\n<==", 4, 1),
+    // a disjunction needs none of its parts, and of four objects nothing is asked
+    (b"==>\n1 see p\nroot 2\n2 go p -> either 1\n<==", 4, 4),
+    (b"==>\n1 see p\nroot 2\n2 go p -> wide 1\n<==", 4, 4),
+    (b"==>\n1 see p\nroot 2\n2 go p -> never 1\n<==", 1, 0),
+];
+
+// The possible candidates of a node, where they are fewer than a hundred.
+fn possible(
+    alloc: Global,
+    world: &World<'_>,
+    tree: &Tree<'_, '_>,
+    node: u32,
+) -> Option<Vec<Candidate>>
+    requires tree { IsTreeIn (world_view world.now) (tree_view tree.now) }
+    requires node { node < length (tree_view tree.now).nodes }
+{
+    let trace: Trace<BitState> = Trace::run(alloc, world, tree.actions()).ok()?;
+    let matcher = matcher_of(alloc, world)?;
+    let ever = Some(trace.ever_true());
+    let mut candidates = Candidates::new(alloc, &matcher, tree, node, ever).ok()?;
+    let mut possible = Vec::new(alloc);
+    for _ in 0..100 {
+        if !candidates.advance().ok()? {
+            return Some(possible);
+        }
+        possible.push(lent(alloc, &candidates)?).ok()?;
+    }
+    None
+}
+
+// The candidates of line 2, how many there are and those of them that are possible.
+fn ways(alloc: Global, world: &World<'_>, plan: &'static [u8]) -> Option<(usize, Vec<Candidate>)> {
+    let plan = plan_of(alloc, plan)?;
+    let tree = tree_of(alloc, world, &plan)?;
+    let node = node_of(&tree, Some(2))?;
+    let every = all(alloc, world, &tree, node)?;
+    Some((every.len(), possible(alloc, world, &tree, node)?))
+}
+
+// How many there are.
+fn counted(alloc: Global, plan: &'static [u8]) -> Option<(usize, usize)> {
+    let world = world_of(alloc, LINKS, PLACES)?;
+    let (every, possible) = ways(alloc, &world, plan)?;
+    Some((every, possible.len()))
+}
+
+// Whether the first possible candidate has objects of these names.
+fn has_objects(alloc: Global, plan: &'static [u8], names: [&'static [u8]; 3]) -> Option<bool> {
+    let world = world_of(alloc, LINKS, PLACES)?;
+    let (_, possible) = ways(alloc, &world, plan)?;
+    let found = &possible.first()?.objects;
+    for (place, name) in names.iter().enumerate() {
+        if found.get(place).copied() != object(&world, name) {
+            return Some(false);
+        }
+    }
+    Some(found.len() == names.len())
+}
+
+#[test]
+fn needed_atoms_leave_possible_candidates(rt: HostRuntime) {
+    for (plan, every, possible) in WAYS {
+        assert_eq!(rt; counted(rt.alloc(), plan), Some((every, possible)));
+    }
+    // from p over s, which is linked to p, where it was seen
+    let (plan, _, _) = WAYS[0];
+    assert_eq!(rt;
+        has_objects(rt.alloc(), plan, [b"p", b"s", b"p"]),
+        Some(true)
+    );
+}
