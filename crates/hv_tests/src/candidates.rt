@@ -58,10 +58,10 @@ pub(crate) fn lent(alloc: Global, candidates: &Candidates<'_>) -> Option<Candida
 }
 
 /// The candidates of a node, where they are fewer than a thousand and each is said to be one.
-pub(crate) fn all(
+pub(crate) fn all<'a>(
     alloc: Global,
-    world: &World<'_>,
-    tree: &Tree<'_, '_>,
+    world: &'a World<'_>,
+    tree: &'a Tree<'_, '_>,
     node: u32,
 ) -> Option<Vec<Candidate>>
     requires tree { IsTreeIn (world_view world.now) (tree_view tree.now) }
