@@ -18,8 +18,8 @@ told_push o k (d ∷ cs) c = told_push (if nat_le d.0 k then Some d.1 else o) k 
 pub is_from : (n k : ℕ) → n ≤ k → nat_le n k ≡ true
 is_from n k le = grind arith
 
-is_later : (n k : ℕ) → k < n → nat_le n k ≡ false
-is_later n k lt = grind arith
+pub is_late : (n k : ℕ) → k < n → nat_le n k ≡ false
+is_late n k lt = grind arith
 
 module _ (p : Plan) (g : GroundAtom) where
   -- behind the last change nothing is told anew
@@ -52,7 +52,7 @@ module _ (p : Plan) (g : GroundAtom) where
     where
       by : ((j : ℕ) → j ≤ n → Says j (told j cs)) → (n < k) ⊎ (k ≤ n) → Says k (told k (cs ++ (suc n, b) ∷ []))
       by so_far (inr within) =
-          subst (Says k) (sym (told_push None k cs (suc n, b) ∙ if_false (nat_le (suc n) k) (Some b) (told k cs) (is_later (suc n) k (omega (arith, within))))) (so_far k within)
+          subst (Says k) (sym (told_push None k cs (suc n, b) ∙ if_false (nat_le (suc n) k) (Some b) (told k cs) (is_late (suc n) k (omega (arith, within))))) (so_far k within)
       by so_far (inl past) =
           let here : suc n ≡ k = omega (arith, past, le) in
           subst (λ j. Says j (told j (cs ++ (suc n, b) ∷ []))) here

@@ -1,11 +1,17 @@
 -- What the formulas of the code say.
 use Rattle.std.proofs.Common.{◌≡◌, ◌<◌, ◌+◌, ℕ, zero, suc, List, [], ◌∷◌, length, map, get_or, arith, ap, rules}
 use Rattle.std.specs.Global.{Vec, Box}
-use Rattle.hv_world.specs.declared.formula.Formula.{Formula, Forall, Exists, the_lemmas}
+use Rattle.hv_world.specs.declared.formula.Formula.{Formula, And, Or, Forall, Exists, the_lemmas}
 use Rattle.hv_world.specs.declared.id.TypeId.{TypeId}
-use Rattle.hv_world.specs.Values.{forall, exists, formulas_of}
+use Rattle.hv_world.specs.Values.{and, or, forall, exists, formulas_of}
 use Rattle.hv_world.specs.Views.{formula_view, type_number}
 use Rattle.hv_state.proofs.Levels.{levels, most_levels}
+
+pub view-And : (fs : Vec Formula) → formula_view (And fs) ≡ and (formulas_of (map formula_view fs.items))
+view-And fs = search (rules, the_lemmas)
+
+pub view-Or : (fs : Vec Formula) → formula_view (Or fs) ≡ or (formulas_of (map formula_view fs.items))
+view-Or fs = search (rules, the_lemmas)
 
 pub view-Forall : (ts : Vec TypeId) (b : Box Formula) → formula_view (Forall ts b) ≡ forall (map type_number ts.items) (formula_view b.value)
 view-Forall ts b = search (rules, the_lemmas)

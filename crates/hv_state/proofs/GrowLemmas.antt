@@ -17,7 +17,7 @@ use Rattle.hv_state.specs.inside.Histories.{Table, Rise, IsTable, beside, rows_o
 use Rattle.hv_state.specs.inside.Notes.{Before, EndsAt, IsTurned, IsTurnedAt, replaced}
 use Rattle.hv_state.proofs.RowLemmas.{below_itself}
 use Rattle.hv_state.proofs.PlanLemmas.{read_there}
-use Rattle.hv_state.proofs.ChangeLemmas.{is_from, told_push}
+use Rattle.hv_state.proofs.ChangeLemmas.{is_from, is_late, told_push}
 use Rattle.hv_state.proofs.HistoryLemmas.{is_row, no_row, tail_ascends, beside_at, last_is}
 
 -- one of the code's histories
@@ -113,9 +113,6 @@ front_rises cs c rise i j d lt within =
     front_at [] x n e h = absurd (omega (arith, h))
     front_at (y ∷ xs) x zero e h = refl
     front_at (y ∷ xs) x (suc n) e h = front_at xs x n e (omega (arith, h))
-
-is_late : (n k : ℕ) → k < n → nat_le n k ≡ false
-is_late n k lt = grind arith
 
 -- the changes of a history: those before the last one, and the last one
 module _ (h : History) (c : code.Change) (is : h.last ≡ Some c) where

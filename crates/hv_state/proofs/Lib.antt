@@ -23,3 +23,6 @@ pub mod GuessLemmas
 pub mod Cited
 pub mod NeededLemmas
 pub mod EverLemmas
+pub mod GapLemmas
+pub mod PassedLemmas
+pub mod PastLemmas

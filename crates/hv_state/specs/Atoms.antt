@@ -1,5 +1,5 @@
 -- Sets of atoms without variables, which states are.
-use Rattle.std.specs.Prelude.{ℕ, ◌↔◌, ◌⊎◌, List, ◌∷◌, map}
+use Rattle.std.specs.Prelude.{◌≡◌, ℕ, ◌<◌, ◌≤◌, ◌↔◌, ◌⊎◌, List, [], ◌∷◌, ◌++◌, map}
 use Rattle.hv_world.specs.Values.{Atom}
 use Rattle.hv_world.specs.Views.{term_view}
 use Rattle.hv_world.specs.Bindings.{GroundAtom, ground_atom, atom_under, objects_in, object_of}
@@ -30,6 +30,10 @@ objects_read (Given numbers) = numbers.now
 
 abbrev pub atom_read : AtomView → GroundAtom
 atom_read v = ground_atom v.predicate.0 (objects_read v.objects)
+
+-- with other last objects, from its own on up to before a number, an atom is not in the set
+abbrev pub IsPassedOver : Atoms → GroundAtom → ℕ → Type 0
+IsPassedOver S g until = (os : List ℕ) (o n : ℕ) → g.objects ≡ os ++ o ∷ [] → o ≤ n → n < until → S (ground_atom g.predicate (os ++ n ∷ [])) → ⊥
 
 -- an atom as a row: its predicate, and then its objects
 abbrev pub row_of : GroundAtom → List ℕ

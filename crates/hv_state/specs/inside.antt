@@ -7,3 +7,4 @@ pub mod Makings
 pub mod Parts
 pub mod Takings
 pub mod Hashes
+pub mod Gaps

@@ -1,6 +1,6 @@
 //! Atoms as they are read, with the objects of their variables.
 
-ghost use Rattle.std.specs.Prelude.{◌≡◌, map};
+ghost use Rattle.std.specs.Prelude.{◌≡◌, ◌++◌, ◌∷◌, [], ℕ, List, map, IfSome};
 ghost use Rattle.hv_world.specs.Views.{term_view, atom_view};
 ghost use Rattle.hv_world.specs.Bindings.{atom_under, ground_atom, objects_in, object_of};
 ghost use Rattle.hv_state.specs.Atoms.{atom_read, objects_read};
@@ -21,6 +21,22 @@ pub(crate) enum Objects<'a> {
     OfTerms(&'a [Term], &'a Binding<'a>),
     /// These, by their numbers.
     Given(&'a [usize]),
+}
+
+impl<'a> Objects<'a> {
+    /// All but the last of them, where they are put down.
+    pub(crate) fn before_last(self) -> Option<&'a [usize]>
+        ensures { IfSome result (λ before. (os : List ℕ) (o : ℕ)
+            → objects_read self.entry ≡ os ++ o ∷ [] → before.now ≡ os) }
+    {
+        let Objects::Given(numbers) = self else {
+            return None;
+        };
+        match numbers.split_last() {
+            Some((_, before)) => Some(before),
+            None => None,
+        }
+    }
 }
 
 impl<'a> AtomView<'a> {

@@ -2,21 +2,20 @@
 
 ghost use Rattle.std.specs.Prelude.{ℕ, List, ◌↔◌, IsTrue, IfOk};
 ghost use Rattle.std.specs.List.{Contains};
-ghost use Rattle.hv_state.specs.Atoms.{atom_read, row_of};
-ghost use Rattle.hv_state.specs.inside.Rows.{rows_in};
+ghost use Rattle.hv_state.specs.Atoms.{atom_read, row_of, IsPassedOver};
+ghost use Rattle.hv_state.specs.inside.Rows.{rows_in, Listed};
 ghost use Rattle.hv_state.specs.inside.Bits.{Lit, Shown, Knows, AreBits, IsChanged};
 
 use crate::atom::AtomView;
 use crate::bits::has_bit;
-use crate::find::{guesses_of, look_up, look_up_at};
+use crate::find::{guesses_of, look_up, look_up_at, next_possible};
 use crate::ground::GroundAtoms;
 use crate::guesses::{Guesses, Stride};
 use crate::lit::{bright, clear_all, knows_all, lacking, lit_rows, set_all};
 use crate::rows::{Row, copy_of, merge_distinct, push_copies, rows_of, sort_distinct};
 use crate::state::State;
-use crate::touched::touched;
 use hv_text::Memory;
-use hv_world::{Binding, GroundActions, World};
+use hv_world::{Binding, World};
 use std::alloc::Global;
 use std::cell::Cell;
 use std::marker::Model;
@@ -100,6 +99,14 @@ impl BitState {
         look_up(&self.table, &self.guesses, atom).is_some()
     }
 
+    /// The first number, from that of an atom's last object on, with which in its place the table may
+    /// have the atom.
+    pub(crate) fn next_known(&self, atom: &AtomView<'_>) -> usize
+        ensures { IsPassedOver (Listed self.now.0) (atom_read atom.now) result }
+    {
+        next_possible(&self.table, atom)
+    }
+
     // Sees to it that the table has these rows. The same atoms are true as before.
     fn know_all(&mut self, rows: &[Row]) -> Result<(), Memory>
         ensures known { IfOk result (λ _. Knows self.new.0 (rows_in rows.now)) }
@@ -123,11 +130,10 @@ impl State for BitState {
     fn initial_for(
         alloc: Global,
         world: &World<'_>,
-        actions: &GroundActions,
+        touched: &GroundAtoms,
     ) -> Result<BitState, Memory> {
-        let touched = touched(alloc, world, actions)?;
         let begun = rows_of(alloc, world.init(), &Binding::Given(&[]))?;
-        BitState::over(alloc, begun, &touched)
+        BitState::over(alloc, begun, touched.rows())
     }
 
     fn copy(&self, alloc: Global) -> Result<BitState, Memory> {
@@ -151,6 +157,10 @@ impl State for BitState {
             }
             None => false,
         }
+    }
+
+    fn next_possible(&self, atom: &AtomView<'_>) -> usize {
+        self.next_known(atom)
     }
 
     fn apply(&mut self, deletes: &GroundAtoms, adds: &GroundAtoms) -> Result<(), Memory> {

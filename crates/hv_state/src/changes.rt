@@ -4,9 +4,9 @@ ghost use Rattle.std.specs.Prelude.{◌≡◌, ◌<◌, ℕ, Bool, List, [], Ok,
 ghost use Rattle.std.specs.Prelude.{◌↔◌, IsTrue, IfOk, OnOk, OnErr, MatchOption, All};
 ghost use Rattle.std.specs.List.{Contains};
 ghost use Rattle.hv_world.specs.Bindings.{GroundAtom};
-ghost use Rattle.hv_state.specs.Atoms.{atom_read};
+ghost use Rattle.hv_state.specs.Atoms.{atom_read, IsPassedOver};
 ghost use Rattle.hv_state.specs.Atoms.{row_of};
-ghost use Rattle.hv_state.specs.inside.Rows.{rows_in, Ascend, IsPlace};
+ghost use Rattle.hv_state.specs.inside.Rows.{rows_in, Ascend, IsPlace, Listed};
 ghost use Rattle.hv_state.specs.inside.Histories.{Rise, kept, rows_of, IsNext, AreFlagged};
 ghost use Rattle.hv_state.specs.inside.Histories.{change_view, changes_of, history_view};
 ghost use Rattle.hv_state.specs.inside.Notes.{IsTurnedAt, IsSet};
@@ -15,9 +15,9 @@ ghost use Rattle.hv_state.specs.Changes.{told, TrueAfter};
 use crate::atom::AtomView;
 use crate::bits::{has_bit, raise};
 use crate::facts::Facts;
-use crate::find::{guesses_of, look_up_at};
+use crate::find::{guesses_of, look_up_at, next_possible};
 use crate::guesses::{Guesses, Stride};
-use crate::history::{Change, History};
+use crate::history::{Change, History, least};
 use crate::rows::Row;
 use crate::state::State;
 use hv_text::Memory;
@@ -27,13 +27,15 @@ use std::cell::Cell;
 use std::marker::Model;
 
 /// The atoms that a plan's actions touch, in order, each with its changes; guesses of where an atom
-/// stands, and where those stood that were found last; and for each predicate a bit, which is set where
-/// an atom of it stands there.
+/// stands, and where those stood that were found last; how many changes of the atom asked last were up
+/// to the index that was asked; and for each predicate a bit, which is set where an atom of it stands
+/// there.
 #[derive(Drop)]
 pub(crate) struct Changes {
     list: Vec<History>,
     guesses: Guesses,
     stride: Cell<Stride>,
+    recent: Cell<usize>,
     flags: Vec<u64>,
 }
 
@@ -63,6 +65,7 @@ fn flags_of(alloc: Global, rows: &[Row]) -> Result<Vec<u64>, Memory>
 }
 
 // Has the changes of the history at a place turn.
+#[inline(always)]
 fn turn_at(list: &mut Vec<History>, place: usize, change: Change) -> Result<(), Memory>
     requires place { place < length list.old.items }
     requires rise { All (λ e. Rise e.1) (map history_view list.old.items) }
@@ -108,6 +111,14 @@ impl Changes {
         self.place_of(atom).is_some()
     }
 
+    /// The first number, from that of an atom's last object on, with which in its place an action may
+    /// touch the atom.
+    pub(crate) fn next_touched(&self, atom: &AtomView<'_>) -> usize
+        ensures { IsPassedOver (Listed (rows_of self.now)) (atom_read atom.now) result }
+    {
+        next_possible(&self.list, atom)
+    }
+
     // The history of an atom; none where no action touches it.
     #[inline(always)]
     fn of(&self, atom: &AtomView<'_>) -> Option<&History>
@@ -129,7 +140,7 @@ impl Changes {
         ensures { IsNext self.now k end (λ g. atom_read atom.now ≡ g) result }
     {
         match self.of(atom) {
-            Some(history) => history.next(k, end),
+            Some(history) => history.next(k, end, &self.recent),
             None => end,
         }
     }
@@ -153,12 +164,14 @@ impl Changes {
             list,
             guesses,
             stride: Cell::new(Stride::start()),
+            recent: Cell::new(0),
             flags,
         })
     }
 
     /// From an index on an atom is true, or false. It is noted where its changes, or else the first
     /// state, say otherwise; a change at the same index is undone then.
+    #[inline(always)]
     pub(crate) fn set<S: State>(
         &mut self,
         first: &S,
@@ -183,7 +196,7 @@ impl Changes {
         ensures { result ≡ told k (kept self.now (atom_read atom.now)) }
     {
         match self.of(atom) {
-            Some(history) => history.told(k),
+            Some(history) => history.told(k, &self.recent),
             None => None,
         }
     }
@@ -205,5 +218,12 @@ impl<S: State> Facts for Moment<'_, S> {
             Some(is_true) => is_true,
             None => self.first.holds(atom),
         }
+    }
+
+    fn next_possible(&self, atom: &AtomView<'_>) -> usize {
+        least(
+            self.first.next_possible(atom),
+            self.changes.next_touched(atom),
+        )
     }
 }

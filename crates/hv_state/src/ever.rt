@@ -1,12 +1,13 @@
 //! Which atoms may be true somewhere on the way of a plan.
 
-ghost use Rattle.std.specs.Prelude.{◌≡◌};
-ghost use Rattle.hv_state.specs.Atoms.{atom_read};
+ghost use Rattle.std.specs.Prelude.{◌≡◌, true};
+ghost use Rattle.hv_state.specs.Atoms.{atom_read, IsPassedOver};
 ghost use Rattle.hv_state.specs.Ever.{ever_rows, is_listed};
 
 use crate::atom::AtomView;
 use crate::bit_state::BitState;
 use crate::changes::Changes;
+use crate::history::least;
 
 /// The atoms that are true at the start of a plan, or that its actions touch: no others are true
 /// anywhere on its way.
@@ -26,5 +27,15 @@ impl EverTrue<'_> {
             return true;
         }
         self.changes.touches(atom)
+    }
+
+    /// The first number, from that of an atom's last object on, with which in its place the atom may
+    /// be true at the start or after some of the actions. Nothing is worked out for it either, and it
+    /// may be told too low.
+    pub fn next_possible(&self, atom: &AtomView<'_>) -> usize
+        ensures { IsPassedOver (λ g. is_listed (ever_rows self.now) g ≡ true)
+            (atom_read atom.now) result }
+    {
+        least(self.first.next_known(atom), self.changes.next_touched(atom))
     }
 }

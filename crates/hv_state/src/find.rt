@@ -1,16 +1,18 @@
 //! Where the row of an atom stands in a list.
 
-ghost use Rattle.std.specs.Prelude.{◌≡◌, ◌↔◌, ℕ, List, Ok, IsTrue, map, MatchOption, IfOk};
+ghost use Rattle.std.specs.Prelude.{◌≡◌, ◌↔◌, ◌≤◌, ◌∷◌, ◌++◌, ℕ, List, Ok, IsTrue, map};
+ghost use Rattle.std.specs.Prelude.{MatchOption, IfOk};
 ghost use Rattle.std.specs.List.{Contains};
-ghost use Rattle.hv_state.specs.Atoms.{atom_read};
+ghost use Rattle.hv_state.specs.Atoms.{atom_read, IsPassedOver};
 ghost use Rattle.hv_state.specs.inside.Hashes.{TellRows};
 ghost use Rattle.hv_state.specs.Atoms.{row_of};
-ghost use Rattle.hv_state.specs.inside.Rows.{Ascend, IsPlace};
+ghost use Rattle.hv_state.specs.inside.Rows.{Ascend, IsPlace, Listed};
 
 use crate::atom::AtomView;
 use crate::guesses::{Guesses, hash_of, hash_of_row};
 use crate::rows::{compare, is_row};
 use hv_text::Memory;
+use hv_world::PredicateId;
 use std::alloc::Global;
 
 /// What has a row, by which lists of it are in order.
@@ -94,6 +96,43 @@ pub(crate) fn look_up_at<T: HasRow>(
         return Some(likely);
     }
     look_up(list, guesses, atom)
+}
+
+// The number that a row has behind a predicate and these objects; else the greatest of all.
+fn number_behind(row: &[usize], predicate: PredicateId, before: &[usize]) -> usize
+    ensures { (n : ℕ) (more : List ℕ)
+        → row.now ≡ predicate.0 ∷ before.now ++ n ∷ more → result ≤ n }
+{
+    let [first, objects @ ..] = row else {
+        return usize::MAX;
+    };
+    if *first != predicate.0 || objects.len() <= before.len() {
+        return usize::MAX;
+    }
+    if &objects[..before.len()] == before {
+        objects[before.len()]
+    } else {
+        usize::MAX
+    }
+}
+
+/// The first number, from that of an atom's last object on, with which in its place the row of the
+/// atom may be listed: by halving. It may be told too low: nothing is looked for where the row itself
+/// is listed, or where the objects of the atom are not put down.
+pub(crate) fn next_possible<T: HasRow>(list: &[T], atom: &AtomView<'_>) -> usize
+    requires { Ascend (map T.numbers list.now) }
+    ensures { IsPassedOver (Listed (map T.numbers list.now)) (atom_read atom.now) result }
+{
+    let Some(before) = atom.objects.before_last() else {
+        return 0;
+    };
+    let Err(place) = find(list, atom) else {
+        return 0;
+    };
+    match list.get(place) {
+        Some(it) => number_behind(it.row(), atom.predicate, before),
+        None => usize::MAX,
+    }
 }
 
 /// Guesses of where the rows of a list stand.

@@ -5,17 +5,19 @@ ghost use Rattle.std.specs.List.{Contains};
 ghost use Rattle.hv_world.specs.Values.{effects_of};
 ghost use Rattle.hv_world.specs.Views.{effect_view};
 ghost use Rattle.hv_world.specs.WorldViews.{world_view};
-ghost use Rattle.hv_world.specs.Bindings.{objects_in};
+ghost use Rattle.hv_world.specs.Bindings.{objects_in, ground_actions_view};
 ghost use Rattle.hv_world.specs.Effects.{SomeMakes};
 ghost use Rattle.hv_state.specs.Atoms.{Same, atom_read};
 ghost use Rattle.hv_state.specs.Atoms.{row_of};
-ghost use Rattle.hv_state.specs.inside.Rows.{rows_in};
+ghost use Rattle.hv_state.specs.inside.Rows.{rows_in, Ascend, AreRowsOfAtoms};
+ghost use Rattle.hv_state.specs.inside.Notes.{TouchedIn};
 
 use crate::atom::AtomView;
 use crate::made::push_made;
 use crate::rows::{Row, row_of};
+use crate::touched::touched;
 use hv_text::Memory;
-use hv_world::{Binding, Effect, World};
+use hv_world::{Binding, Effect, GroundActions, World};
 use std::alloc::Global;
 use std::marker::Model;
 
@@ -71,6 +73,24 @@ impl GroundAtoms {
         Ok(GroundAtoms { rows })
     }
 
+    /// The atoms that some of these actions deletes or adds, in order and each once.
+    ///
+    /// # Errors
+    ///
+    /// `Memory` where a growth was refused.
+    pub(crate) fn touched(
+        alloc: Global,
+        world: &World<'_>,
+        actions: &GroundActions,
+    ) -> Result<GroundAtoms, Memory>
+        ensures ascend { IfOk result (λ a. Ascend (map row_of a)) }
+        ensures exact { IfOk result (λ a. AreRowsOfAtoms
+            (TouchedIn (world_view world.now) (ground_actions_view actions.now)) (map row_of a)) }
+    {
+        let rows = touched(alloc, world, actions)?;
+        Ok(GroundAtoms { rows })
+    }
+
     /// Puts an atom behind the others.
     ///
     /// # Errors
@@ -83,6 +103,13 @@ impl GroundAtoms {
         let row = row_of(*self.rows.allocator(), atom)?;
         self.rows.push(row)?;
         Ok(())
+    }
+
+    /// The rows of the atoms, given away.
+    pub(crate) fn into_rows(self) -> Vec<Row>
+        ensures { rows_in result.items ≡ map row_of self }
+    {
+        self.rows
     }
 
     /// The rows of the atoms.

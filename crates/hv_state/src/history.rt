@@ -4,7 +4,7 @@ ghost use Rattle.std.specs.Prelude.{◌≡◌, ◌↔◌, ◌<◌, ◌+◌, ◌-
 ghost use Rattle.std.specs.Prelude.{slice_get, option_to_list, IsSome, IsTrue, OnOk, OnErr};
 ghost use Rattle.hv_state.specs.Atoms.{atom_read};
 ghost use Rattle.hv_state.specs.Changes.{told, Tells};
-ghost use Rattle.hv_state.specs.inside.Histories.{Rise, IsNextIn, IsLeast};
+ghost use Rattle.hv_state.specs.inside.Histories.{Rise, IsNextIn, IsLeast, ArePast};
 ghost use Rattle.hv_state.specs.inside.Histories.{change_view, in_order, changes_of};
 ghost use Rattle.hv_state.specs.inside.Notes.{Before, EndsAt, IsTurned};
 
@@ -13,6 +13,7 @@ use crate::find::HasRow;
 use crate::rows::Row;
 use crate::state::State;
 use hv_text::Memory;
+use std::cell::Cell;
 
 /// From an index on an atom is true, or false.
 #[derive(Clone, Copy)]
@@ -38,12 +39,39 @@ impl HasRow for History {
     }
 }
 
-// What the last change up to an index says: by halving.
-fn last_up_to(list: &[Change], k: usize) -> Option<bool>
+// Whether so many changes are up to an index, and there are more.
+#[inline(always)]
+fn are_past(list: &[Change], count: usize, k: usize) -> bool
+    requires { Rise (map change_view list.now) }
+    ensures { IsTrue result → ArePast list.now k count }
+{
+    if count == 0 || list.len() <= count {
+        return false;
+    }
+    list[count - 1].from as usize <= k && k < list[count].from as usize
+}
+
+// How many changes are up to an index: as many as in the list that was asked before, where that is
+// so, since an effect for all objects changes many atoms at the same indices; else by halving.
+fn past(list: &[Change], k: usize, recent: &Cell<usize>) -> usize
+    requires { Rise (map change_view list.now) }
+    ensures { ArePast list.now k result }
+{
+    let likely = recent.get();
+    if are_past(list, likely, k) {
+        return likely;
+    }
+    let found = list.partition_point(|change| change.from as usize <= k);
+    recent.set(found);
+    found
+}
+
+// What the last change up to an index says.
+fn last_up_to(list: &[Change], k: usize, recent: &Cell<usize>) -> Option<bool>
     requires { Rise (map change_view list.now) }
     ensures { result ≡ told k (map change_view list.now) }
 {
-    let past = list.partition_point(|change| change.from as usize <= k);
+    let past = past(list, k, recent);
     if past == 0 {
         None
     } else {
@@ -58,13 +86,13 @@ pub(crate) fn least(a: usize, b: usize) -> usize
     if a < b { a } else { b }
 }
 
-// The index of the first change after another index, or else the end: by halving.
-fn next_in(list: &[Change], k: usize, end: usize) -> usize
+// The index of the first change after another index, or else the end.
+fn next_in(list: &[Change], k: usize, end: usize, recent: &Cell<usize>) -> usize
     requires rise { Rise (map change_view list.now) }
     requires before { k < end }
     ensures { IsNextIn (map change_view list.now) k end result }
 {
-    match list.get(list.partition_point(|change| change.from as usize <= k)) {
+    match list.get(past(list, k, recent)) {
         Some(next) => least(next.from as usize, end),
         None => end,
     }
@@ -83,6 +111,7 @@ impl History {
     }
 
     // Whether all changes are before an index: the last one is.
+    #[inline(always)]
     fn is_before(&self, index: usize) -> bool
         requires { Rise (changes_of self.now) }
         ensures { IsTrue result ↔ Before index (changes_of self.now) }
@@ -94,6 +123,7 @@ impl History {
     }
 
     // Whether the last change is at an index.
+    #[inline(always)]
     fn ends_at(&self, index: usize) -> bool
         ensures { IsTrue result ↔ EndsAt index (changes_of self.now) }
     {
@@ -133,6 +163,7 @@ impl History {
     }
 
     /// What the changes say at last, or else the first state.
+    #[inline(always)]
     pub(crate) fn says<S: State>(&self, first: &S, atom: &AtomView<'_>) -> bool
         ensures { (k : ℕ) → Before (k + 1) (changes_of self.now) → IsTrue result
             ↔ Tells (S.atoms first.now (atom_read atom.now)) k (changes_of self.now) }
@@ -149,6 +180,7 @@ impl History {
     /// # Errors
     ///
     /// `Memory` where a growth was refused.
+    #[inline(always)]
     pub(crate) fn turn(&mut self, change: Change) -> Result<(), Memory>
         requires { Rise (changes_of self.old) }
         ensures ok { OnOk result
@@ -164,36 +196,38 @@ impl History {
         Ok(())
     }
 
-    /// What the last change up to an index says.
-    pub(crate) fn told(&self, k: usize) -> Option<bool>
+    /// What the last change up to an index says. How many changes were up to the index that was asked
+    /// before, of whichever atom, is looked at first.
+    #[inline(always)]
+    pub(crate) fn told(&self, k: usize, recent: &Cell<usize>) -> Option<bool>
         requires { Rise (changes_of self.now) }
         ensures { result ≡ told k (changes_of self.now) }
     {
         match self.last {
-            None => last_up_to(&self.earlier, k),
+            None => last_up_to(&self.earlier, k, recent),
             Some(last) => {
                 if last.from as usize <= k {
                     Some(last.is_true)
                 } else {
-                    last_up_to(&self.earlier, k)
+                    last_up_to(&self.earlier, k, recent)
                 }
             }
         }
     }
 
     /// The index of the first change after another index, or else the end.
-    pub(crate) fn next(&self, k: usize, end: usize) -> usize
+    pub(crate) fn next(&self, k: usize, end: usize, recent: &Cell<usize>) -> usize
         requires rise { Rise (changes_of self.now) }
         requires before { k < end }
         ensures { IsNextIn (changes_of self.now) k end result }
     {
         match self.last {
-            None => next_in(&self.earlier, k, end),
+            None => next_in(&self.earlier, k, end, recent),
             Some(last) => {
                 if last.from as usize <= k {
-                    next_in(&self.earlier, k, end)
+                    next_in(&self.earlier, k, end, recent)
                 } else {
-                    next_in(&self.earlier, k, least(last.from as usize, end))
+                    next_in(&self.earlier, k, least(last.from as usize, end), recent)
                 }
             }
         }

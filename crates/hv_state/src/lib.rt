@@ -10,6 +10,7 @@ mod evaluate;
 mod ever;
 mod facts;
 mod find;
+mod gap;
 mod ground;
 mod guesses;
 mod history;

@@ -30,6 +30,7 @@ impl<S: State> Take for Note<'_, S> {
     ghost takes = { λ n g old new.
         IsSet (S.atoms n.first.now) (λ h. g ≡ h) n.from n.is_true old new };
 
+    #[inline(always)]
     fn take(&self, changes: &mut Changes, atom: &AtomView<'_>) -> Result<(), Memory> {
         changes.set(self.first, self.from, atom, self.is_true)
     }

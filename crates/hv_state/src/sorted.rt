@@ -4,7 +4,7 @@ ghost use Rattle.std.specs.Prelude.{ℕ, List};
 ghost use Rattle.hv_state.specs.inside.Rows.{rows_shared, Ascend, Listed};
 
 use crate::atom::AtomView;
-use crate::find::find;
+use crate::find::{find, next_possible};
 use crate::ground::GroundAtoms;
 use crate::rows::{rows_of, sort_distinct};
 use crate::shared::{SharedRow, put_all, remove_all, share, shared_again};
@@ -45,6 +45,10 @@ impl State for SortedState {
 
     fn holds(&self, atom: &AtomView<'_>) -> bool {
         find(&self.rows, atom).is_ok()
+    }
+
+    fn next_possible(&self, atom: &AtomView<'_>) -> usize {
+        next_possible(&self.rows, atom)
     }
 
     fn apply(&mut self, deletes: &GroundAtoms, adds: &GroundAtoms) -> Result<(), Memory> {

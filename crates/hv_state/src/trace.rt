@@ -12,10 +12,10 @@ use crate::bit_state::BitState;
 use crate::changes::{Changes, Moment};
 use crate::evaluate::evaluate;
 use crate::ever::EverTrue;
+use crate::ground::GroundAtoms;
 use crate::next::next_change;
 use crate::pass::pass;
 use crate::state::State;
-use crate::touched::touched;
 use hv_text::Memory;
 use hv_world::{Binding, Formula, GroundActions, World};
 use std::alloc::Global;
@@ -94,8 +94,9 @@ impl<'a, 's, S: State> Trace<'a, 's, S> {
         ensures ran { IfOk result (λ _. CanRun (plan_of world.now actions.now)) }
         ensures stop { IfErr result (IsStop (plan_of world.now actions.now)) }
     {
-        let first = S::initial_for(alloc, world, actions)?;
-        let mut changes = Changes::none(alloc, touched(alloc, world, actions)?)?;
+        let touched = GroundAtoms::touched(alloc, world, actions)?;
+        let first = S::initial_for(alloc, world, &touched)?;
+        let mut changes = Changes::none(alloc, touched.into_rows())?;
         for number in 0..actions.len() {
             if !pass(world, &actions.at(number), &first, &mut changes, number + 1)? {
                 return Err(Stop::Inapplicable(number));

@@ -57,6 +57,27 @@ const FALSE: &[u8] = b"(define (problem false) (:domain yard) (:htn :subtasks ()
     (exists (?x - truck) (and (forall (?x) (= ?x ?x)) (= ?x c)))\n\
     (forall (?x) (exists (?x - truck) (not (at ?x)))))))";
 
+// What is true where atoms hold of few objects, the last of all among them.
+const SPARSE: &[u8] = b"(define (problem sparse) (:domain yard) (:htn :subtasks ())\n\
+    (:objects a b c d e f g h i j k l)\n\
+    (:init (near a c) (near a j) (near b l) (at c) (at j) (at l))\n\
+    (:goal (and\n\
+    (exists (?x) (and (near a ?x) (at ?x))) (exists (?x) (and (at ?x) (near b ?x)))\n\
+    (forall (?x) (imply (near a ?x) (at ?x))) (forall (?x) (or (at ?x) (not (near b ?x))))\n\
+    (forall (?x) (not (and (near c ?x) (at a)))) (exists (?x ?y) (and (near ?x ?y) (= ?y l)))\n\
+    (forall (?x ?y) (imply (near ?x ?y) (at ?y)))\n\
+    (forall (?x) (imply (not (at ?x)) (not (near a ?x)))))))";
+
+// And what is not.
+const SPARSE_FALSE: &[u8] = b"(define (problem sparse) (:domain yard) (:htn :subtasks ())\n\
+    (:objects a b c d e f g h i j k l)\n\
+    (:init (near a c) (near a j) (near b l) (at c) (at j) (at l))\n\
+    (:goal (and\n\
+    (exists (?x) (and (near a ?x) (not (at ?x)))) (exists (?x) (and (near c ?x) (at ?x)))\n\
+    (forall (?x) (imply (near a ?x) (near b ?x))) (forall (?x) (or (near a ?x) (not (near b ?x))))\n\
+    (forall (?x) (not (near b ?x))) (exists (?x) (and (near a ?x) (= ?x k)))\n\
+    (forall (?x ?y) (imply (near ?x ?y) (at ?x))))))";
+
 // Sixteen variables of one quantifier, with two objects for each.
 const SIXTEEN: &[u8] = b"(define (problem sixteen) (:domain yard) (:htn :subtasks ())\n\
     (:objects a b - truck) (:init (at b)) (:goal\n\
@@ -213,6 +234,14 @@ fn formulas_are_true_and_false(rt: HostRuntime) {
     assert!(rt; counted::<SortedState>(rt.alloc(), FALSE) == Some((18, 0)));
     assert!(rt; counted::<BitState>(rt.alloc(), TRUE) == Some((24, 24)));
     assert!(rt; counted::<BitState>(rt.alloc(), FALSE) == Some((18, 0)));
+}
+
+#[test]
+fn objects_are_passed_over_up_to_the_next_that_is_listed(rt: HostRuntime) {
+    assert!(rt; counted::<SortedState>(rt.alloc(), SPARSE) == Some((8, 8)));
+    assert!(rt; counted::<SortedState>(rt.alloc(), SPARSE_FALSE) == Some((7, 0)));
+    assert!(rt; counted::<BitState>(rt.alloc(), SPARSE) == Some((8, 8)));
+    assert!(rt; counted::<BitState>(rt.alloc(), SPARSE_FALSE) == Some((7, 0)));
 }
 
 // Whether the goal of a problem is true at the start.

@@ -1,6 +1,7 @@
 -- The changes of atoms as the code keeps them, and the next of them.
-use Rattle.std.specs.Prelude.{◌≡◌, ℕ, ◌<◌, ◌≤◌, ◌⊎◌, List, [], ◌∷◌, ◌++◌, map, bytes_eq, option_to_list, AllPairs, All, if◌then◌else◌}
+use Rattle.std.specs.Prelude.{◌≡◌, ℕ, ◌<◌, ◌≤◌, ◌⊎◌, true, false, nat_le, length, List, [], ◌∷◌, ◌++◌, map, bytes_eq, option_to_list, AllPairs, All, if◌then◌else◌}
 use Rattle.std.specs.List.{Contains}
+use Rattle.std.specs.List.Sorted.{IsPartitionPoint}
 use Rattle.hv_world.specs.Bindings.{GroundAtom}
 use Rattle.hv_state.specs.Atoms.{row_of}
 use Rattle.hv_state.specs.Changes.{Change}
@@ -48,6 +49,10 @@ history_view h = (h.row.numbers.items, changes_of h)
 -- each predicate of these rows has its bit
 abbrev pub AreFlagged : List ℕ → List (List ℕ) → Type 0
 AreFlagged flags rows = (r : List ℕ) → Contains rows r → Has flags (atom_of r).predicate
+
+-- so many changes are up to an index, and those behind them are after it
+abbrev pub ArePast : List code_change.Change → ℕ → ℕ → Type 0
+ArePast cs k past = (past ≤ length cs) × IsPartitionPoint (λ c. nat_le c.from k ≡ true) (λ c. nat_le c.from k ≡ false) cs past
 
 -- j is the first index after k at which one of these changes is, or else the end
 pub record IsNextIn (cs : List Change) (k end j : ℕ) : Type 0 where

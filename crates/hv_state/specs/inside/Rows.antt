@@ -45,8 +45,11 @@ abbrev pub HaveJoined : List Row → Atoms → List Row → Type 0
 HaveJoined old S new = (r : List ℕ) → Contains (rows_in new) r ↔ (Contains (rows_in old) r ⊎ IsRowOf S r)
 
 -- these are the rows of the atoms of a set
+abbrev pub AreRowsOfAtoms : Atoms → List (List ℕ) → Type 0
+AreRowsOfAtoms S rows = (r : List ℕ) → Contains rows r ↔ IsRowOf S r
+
 abbrev pub AreRowsOf : Atoms → List Row → Type 0
-AreRowsOf S rows = (r : List ℕ) → Contains (rows_in rows) r ↔ IsRowOf S r
+AreRowsOf S rows = AreRowsOfAtoms S (rows_in rows)
 
 -- the rows of the atoms of the code, and the objects of its terms, where variables have those of a binding
 abbrev pub rows_with : Binding → List code_atom.Atom → List (List ℕ)

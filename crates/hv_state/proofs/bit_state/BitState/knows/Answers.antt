@@ -1,4 +1,4 @@
-use Rattle.std.proofs.Common.{◌↔◌, IsTrue, Ok, MatchOption, is_some, sym, subst, ap, ◌∙◌}
+use Rattle.std.proofs.Common.{◌↔◌, IsTrue, Ok, MatchOption, sym, subst, ap, ◌∙◌}
 use Rattle.std.specs.List.{Contains}
 use Rattle.hv_state.specs.Atoms.{atom_read, row_of}
 use Rattle.hv_state.specs.inside.Rows.{rows_in, IsPlace}
