@@ -23,3 +23,4 @@ pub mod Checking
 pub mod Found
 pub mod Cited
 pub mod PossibleLemmas
+pub mod SkipLemmas

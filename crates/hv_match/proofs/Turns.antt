@@ -1,6 +1,6 @@
 -- How one turn of a search changes what is to come, and how many steps are left.
 use Rattle.std.proofs.lemmas.List.Elements.{All-push}
-use Rattle.std.proofs.Common.{◌^◌, ◌≡◌, ℕ, zero, suc, ◌+◌, ◌-◌, ◌<◌, ◌≤◌, Bool, false, List, [], ◌∷◌, ◌++◌, length, take, drop, refl, sym, ap, ◌∙◌, arith, append_assoc, length-append, Contains}
+use Rattle.std.proofs.Common.{◌^◌, ◌≡◌, ℕ, zero, suc, ◌+◌, ◌-◌, ◌<◌, ◌≤◌, Bool, false, List, [], ◌∷◌, ◌++◌, length, take, drop, refl, sym, ap, subst, ◌∙◌, arith, append_assoc, length-append, Contains}
 use Rattle.std.proofs.lemmas.List.{append-nil}
 use Rattle.std.proofs.lemmas.List.Sums.{sum_by-cons}
 use Rattle.hv_lists.proofs.Contained.{at_head, in_tail}
@@ -168,3 +168,37 @@ stayed options levels distinct width a b place e f told wide = record {
   told = rw e told;
   wide = wide;
 }
+
+-- the same place, with another number to go on from
+abbrev pub from_number : State → ℕ → State
+from_number a c = record { chosen = a.chosen; numbers = a.numbers; made_at = a.made_at; next = c; is_over = a.is_over }
+
+pub moved : (options : List ℕ → List ℕ) (levels distinct width : ℕ) (a : State) (c : ℕ) → IsState options levels distinct width a → IsState options levels distinct width (from_number a c)
+moved options levels distinct width a c place = record { short = place.short; even = place.even; path = place.path; numbers = place.numbers; told = place.told; wide = place.wide }
+
+-- several choices, one after another, that lead to nothing are passed over
+module _ (options : List ℕ → List ℕ) (good : List ℕ → Bool) (levels distinct width : ℕ) (a : State) (place : IsState options levels distinct width a) (short : length a.chosen.items < levels) where
+  abbrev pub Leads : ℕ → ℕ → Type 0
+  Leads c upto = (i : ℕ) → c ≤ i → i < upto → (x : ℕ) × (drop i (options a.chosen.items) ≡ x ∷ drop (i + 1) (options a.chosen.items)) × ((k : ℕ) → below options good k (a.chosen.items ++ x ∷ []) 0 ≡ [])
+
+  skipped : (d c : ℕ) → Leads c (c + d)
+      → (rest options good levels [] a.chosen.items a.numbers.items (c + d) ≡ rest options good levels [] a.chosen.items a.numbers.items c)
+      × (left options levels [] a.chosen.items a.numbers.items (c + d) ≤ left options levels [] a.chosen.items a.numbers.items c)
+  skipped zero c h = let same : c + 0 ≡ c = omega arith in rw same (refl, omega arith)
+  skipped (suc d) c h =
+      let (x, this, none) = h c (omega arith) (omega arith) in
+      let further = skipped d (c + 1) (λ i le lt. h i (omega (arith, le)) (omega (arith, lt))) in
+      let same : c + suc d ≡ c + 1 + d = omega arith in
+      let one = passed_coming options levels distinct width (from_number a c) x (moved options levels distinct width a c place) short good this none in
+      let step = passed_steps options levels distinct width (from_number a c) x (moved options levels distinct width a c place) short this in
+      rw same (further.0 ∙ one, omega (arith, further.1, step))
+
+  pub skipped_coming : (c upto : ℕ) → c ≤ upto → Leads c upto → rest options good levels [] a.chosen.items a.numbers.items upto ≡ rest options good levels [] a.chosen.items a.numbers.items c
+  skipped_coming c upto le h =
+      let same : c + (upto - c) ≡ upto = omega (arith, le) in
+      subst (λ n. rest options good levels [] a.chosen.items a.numbers.items n ≡ rest options good levels [] a.chosen.items a.numbers.items c) same (skipped (upto - c) c (subst (Leads c) (sym same) h)).0
+
+  pub skipped_steps : (c upto : ℕ) → c ≤ upto → Leads c upto → left options levels [] a.chosen.items a.numbers.items upto ≤ left options levels [] a.chosen.items a.numbers.items c
+  skipped_steps c upto le h =
+      let same : c + (upto - c) ≡ upto = omega (arith, le) in
+      subst (λ n. left options levels [] a.chosen.items a.numbers.items n ≤ left options levels [] a.chosen.items a.numbers.items c) same (skipped (upto - c) c (subst (Leads c) (sym same) h)).1

@@ -17,6 +17,7 @@ mod prune;
 mod puzzle;
 mod puzzle_laws;
 mod rule;
+mod skip;
 mod sources;
 mod state;
 mod table;

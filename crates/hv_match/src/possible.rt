@@ -12,8 +12,8 @@ use crate::puzzle::{Puzzle, value};
 use hv_state::{AtomView, EverTrue};
 use hv_world::{Atom, Term};
 
-// Atoms with more terms are not asked for.
-const MOST_TERMS: usize = 3;
+/// Atoms with more terms are not asked for.
+pub(crate) const MOST_TERMS: usize = 3;
 
 // Writes down the objects of terms under those of the parameters.
 fn write_values(into: &mut [usize], values: &[usize], terms: &[Term])
@@ -68,8 +68,8 @@ pub(crate) fn are_possible(ever: Option<EverTrue<'_>>, values: &[usize], atoms: 
 impl Puzzle<'_> {
     ghost use Rattle.hv_match.specs.inside.PuzzleViews.{puzzle_view, search_of};
 
-    // Writes down what the task and the choices made say of terms, if they say it of all.
-    fn write_known(&self, chosen: &[usize], into: &mut [usize], terms: &[Term]) -> bool
+    /// Writes down what the task and the choices made say of terms, if they say it of all.
+    pub(crate) fn write_known(&self, chosen: &[usize], into: &mut [usize], terms: &[Term]) -> bool
         requires { length into.old ≡ length terms.now }
         ensures { result ≡ true
             → AreKnown (puzzle_view self.now) chosen.now (map term_view terms.now) into.new }

@@ -362,6 +362,16 @@ impl Rule for Puzzle<'_> {
         }
     }
 
+    fn skip(&self, chosen: &[usize], number: usize) -> usize {
+        let Some(parameter) = chosen.len().checked_sub(self.table.subtasks.len()) else {
+            return number;
+        };
+        match (self.ever, self.bound(chosen, parameter)) {
+            (Some(ever), None) => self.skip_objects(ever, chosen, parameter, number),
+            _ => number,
+        }
+    }
+
     fn is_good(&self, chosen: &[usize]) -> bool {
         let subtasks = self.table.subtasks.len();
         subtasks == self.children.len() && self.suits(&chosen[..subtasks], &chosen[subtasks..])

@@ -1,7 +1,7 @@
 //! What a search chooses from, and what it wants.
 ghost use Rattle.std.specs.Prelude.{◌≡◌, ◌≢◌, ◌+◌, ◌<◌, ◌≤◌, ◌^◌, [], ℕ, List, length, take, IfSome, IsSome, MatchBool, false, true};
 ghost use Rattle.hv_lists.specs.Lists.{Once};
-ghost use Rattle.hv_match.specs.inside.Search.{Search, IsChoice, IsPath, IsWithin, NothingWholeBegins};
+ghost use Rattle.hv_match.specs.inside.Search.{Search, ArePassed, IsChoice, IsPath, IsWithin, NothingWholeBegins};
 
 /// What a search chooses from, and what it wants.
 pub(crate) trait Rule {
@@ -33,6 +33,13 @@ pub(crate) trait Rule {
         requires path { IsPath (search self.now).options [] chosen.now }
         requires short { length chosen.now ≤ (search self.now).levels }
         ensures { result ≡ false → NothingWholeBegins (search self.now) chosen.now };
+
+    /// The number of a choice up to which, from another on, nothing that is wanted begins with what
+    /// was chosen and any of the choices. It may be told too low.
+    fn skip(&self, chosen: &[usize], number: usize) -> usize
+        requires path { IsPath (search self.now).options [] chosen.now }
+        requires short { length chosen.now < (search self.now).levels }
+        ensures { ArePassed (search self.now) chosen.now number result };
 
     fn is_good(&self, chosen: &[usize]) -> bool
         requires path { IsPath (search self.now).options [] chosen.now }

@@ -1,7 +1,7 @@
 //! A place in a search.
 ghost use Rattle.std.specs.Prelude.{◌≡◌, ◌+◌, ◌<◌, ◌^◌, ◌++◌, ◌∷◌, ◌↔◌, [], length, slice_get, OnOk, OnErr, IfOk, IsTrue, Some, true, false};
 ghost use Rattle.hv_match.specs.inside.Search.{Differs, IsChoice, IsWithin, NothingBegins};
-ghost use Rattle.hv_match.specs.inside.States.{HasFound, HasLeft, IsNearer, IsNoted, IsPlaceIn, KeepsComing, SameButTable, SameChoices, SameRest};
+ghost use Rattle.hv_match.specs.inside.States.{HasFound, HasLeft, IsNearer, IsNoFarther, IsNoted, IsPlaceIn, KeepsComing, SameButTable, SameChoices, SameRest};
 
 use crate::rule::Rule;
 use std::alloc::AllocError;
@@ -88,7 +88,20 @@ fn note<R: Rule>(rule: &R, at: &mut State, choice: usize)
     }
 }
 
-// Makes a choice, or passes it over.
+// Passes choices over that the rule says lead to nothing.
+fn skip<R: Rule>(rule: &R, at: &mut State)
+    requires place { IsPlaceIn (R.search rule.now) at.old }
+    ensures place { IsPlaceIn (R.search rule.now) at.new }
+    ensures coming { KeepsComing (R.search rule.now) at.old at.new }
+    ensures steps { IsNoFarther (R.search rule.now) at.old at.new }
+{
+    if at.is_over || rule.is_whole(at.chosen.len()) {
+        return;
+    }
+    at.next = rule.skip(&at.chosen, at.next);
+}
+
+// Makes a choice, or passes it over, and those behind it that are known to lead to nothing too.
 fn follow<R: Rule>(rule: &R, at: &mut State, choice: usize) -> Result<(), AllocError>
     requires place { IsPlaceIn (R.search rule.now) at.old }
     requires running { at.old.is_over ≡ false }
@@ -109,6 +122,7 @@ fn follow<R: Rule>(rule: &R, at: &mut State, choice: usize) -> Result<(), AllocE
     descend(at, choice)?;
     if !rule.is_hopeful(&at.chosen) {
         back(rule, at);
+        skip(rule, at);
     }
     Ok(())
 }

@@ -1,5 +1,5 @@
 -- What the search for the candidates of a node works on, and what it tests.
-use Rattle.std.specs.Prelude.{◌≡◌, ◌<◌, ◌*◌, ℕ, ◌+◌, ◌-◌, Bool, true, false, not, ◌&&◌, List, [], ◌∷◌, map, length, take, drop, nat_eq, slice_get, slice_index, slice_index_or, Option, Some, None, if◌then◌else◌, Contains}
+use Rattle.std.specs.Prelude.{◌≡◌, ◌<◌, ◌≤◌, ◌*◌, ℕ, ◌+◌, ◌-◌, Bool, true, false, not, ◌&&◌, List, [], ◌∷◌, ◌++◌, map, length, take, drop, nat_eq, slice_get, slice_index, slice_index_or, Option, Some, None, if◌then◌else◌, Contains}
 use Rattle.std.specs.List.{AllZip}
 use Rattle.hv_world.specs.Values.{Term, TaskName, Subtask, Constraint, Atom}
 use Rattle.hv_world.specs.Bindings.{object_of}
@@ -8,6 +8,7 @@ use Rattle.hv_lists.specs.Lists.{Once}
 use Rattle.hv_match.specs.Possible.{is_possible, are_possible}
 use Rattle.hv_match.specs.Counts.{product}
 use Rattle.hv_match.specs.inside.Counting.{rising}
+use Rattle.hv_match.specs.inside.Search.{Search, NothingBegins}
 
 -- what a child does
 pub record Work : Type 0 where
@@ -233,3 +234,15 @@ AreKnown p q ts os = (B : List ℕ) → GoesOn p q B → map (object_of B) ts �
 -- the atom is not possible
 abbrev pub CannotBeTrue : Puzzle → List ℕ → Atom → Type 0
 CannotBeTrue p q a = (B : List ℕ) → GoesOn p q B → is_possible p.ever B a ≡ false
+
+-- with each of these objects for the v-th parameter, from one on up to before another, the atom is not possible
+abbrev pub NeverWith : Puzzle → List ℕ → ℕ → ℕ → ℕ → Atom → Type 0
+NeverWith p q v from upto a = (o : ℕ) → from ≤ o → o < upto → (B : List ℕ) → GoesOn p q B → slice_index B v ≡ o → is_possible p.ever B a ≡ false
+
+-- the objects of these numbers, from one on, are not below that of the first of them, and below another
+abbrev pub AreBelow : List ℕ → ℕ → ℕ → ℕ → Type 0
+AreBelow os from until upto = (from ≤ upto) × ((i : ℕ) → from ≤ i → i < upto → (i < length os) × (slice_index os from ≤ slice_index os i) × (slice_index os i < until))
+
+-- nothing that is wanted begins with q and any of the objects of these numbers
+abbrev pub NothingWith : Search → List ℕ → List ℕ → ℕ → ℕ → Type 0
+NothingWith s q os from upto = (from ≤ upto) × ((i : ℕ) → from ≤ i → i < upto → (i < length os) × NothingBegins s (q ++ slice_index os i ∷ []))

@@ -46,3 +46,7 @@ Differs s p x = length p < s.distinct → Contains p x → ⊥
 -- the choice of a number, if there are so many
 abbrev pub IsChoice : List ℕ → ℕ → Option ℕ → Type 0
 IsChoice xs n choice = MatchOption choice (length xs ≤ n) (λ x. drop n xs ≡ x ∷ drop (n + 1) xs)
+
+-- nothing that is wanted begins with p and any of the choices from one number on up to before another
+abbrev pub ArePassed : Search → List ℕ → ℕ → ℕ → Type 0
+ArePassed s p from upto = (from ≤ upto) × ((i : ℕ) → from ≤ i → i < upto → (x : ℕ) × (drop i (s.options p) ≡ x ∷ drop (i + 1) (s.options p)) × NothingBegins s (p ++ x ∷ []))

@@ -54,7 +54,7 @@ HasLeft s old new =
     to_come s.options s.good s.levels old
     ≡ below s.options s.good (s.levels - length old.chosen.items) old.chosen.items old.next ++ to_come s.options s.good s.levels new
 
--- fewer steps are left
+-- fewer steps are left, or no more
 abbrev pub IsNearer : Search → State → State → Type 0
 IsNearer s old new = steps_left s.options s.levels new < steps_left s.options s.levels old
 
@@ -66,6 +66,9 @@ SameChoices old new = (new.chosen.items ≡ old.chosen.items) × (new.numbers.it
 abbrev pub SameButTable : State → State → Type 0
 SameButTable old new =
     (new.chosen.items ≡ old.chosen.items) × (new.numbers.items ≡ old.numbers.items) × (new.next ≡ old.next) × (new.is_over ≡ old.is_over)
+
+abbrev pub IsNoFarther : Search → State → State → Type 0
+IsNoFarther s old new = steps_left s.options s.levels new ≤ steps_left s.options s.levels old
 
 -- a whole list that is wanted stands chosen
 abbrev pub IsFound : Search → State → Type 0

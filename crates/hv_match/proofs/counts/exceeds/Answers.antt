@@ -1,4 +1,4 @@
-use Rattle.std.proofs.Common.{◌≡◌, ◌↔◌, ◌<◌, ◌-◌, ◌^◌, min, IsTrue}
+use Rattle.std.proofs.Common.{◌↔◌, ◌<◌, IsTrue}
 use Rattle.hv_plan.specs.BuiltTrees.{tree_view}
 use Rattle.hv_plan.specs.TreeViews.{node_view}
 use Rattle.hv_match.proofs.NodeTables.{count_at}

@@ -131,7 +131,7 @@ returns-then-not-is_hopeful-clause-coming g c =
     let none = (rw (c.if-not-is_hopeful.true, c.deref.ensures.value) at c.is_hopeful.ensures) refl (levels - length b.chosen.items) len in
     let none' : below options (g.R.Rule.search c.args.rule.now).good (levels - length b.chosen.items) b.chosen.items b.next ≡ [] = rw to.next none in
     let back = rw none' at c.back.ensures.coming in
-    sym back ∙ descended_coming options levels distinct width a b x c.requires.place (g.R.Rule.search c.args.rule.now).good c.requires.running c.requires.short c.requires.choice chosen numbers to.next over
+    c.skip.ensures.coming ∙ sym back ∙ descended_coming options levels distinct width a b x c.requires.place (g.R.Rule.search c.args.rule.now).good c.requires.running c.requires.short c.requires.choice chosen numbers to.next over
 
 pub returns-then-not-is_hopeful-clause-steps : goal.returns-then-not-is_hopeful-clause-steps
 returns-then-not-is_hopeful-clause-steps g c =
@@ -147,4 +147,4 @@ returns-then-not-is_hopeful-clause-steps g c =
     let chosen : b.chosen.items ≡ a.chosen.items ++ x ∷ [] = to.ok ∙ ap (λ (l : List ℕ). l ++ x ∷ []) same.0 in
     let numbers : b.numbers.items ≡ a.numbers.items ++ a.next ∷ [] = to.number ∙ rw (same.1, same.2) refl in
     let over : b.is_over ≡ a.is_over = to.same.0 ∙ same.3 in
-    omega (arith, c.back.ensures.steps, descended_steps options levels distinct width a b x c.requires.place c.requires.running c.requires.short c.requires.choice chosen numbers to.next over)
+    omega (arith, c.skip.ensures.steps, c.back.ensures.steps, descended_steps options levels distinct width a b x c.requires.place c.requires.running c.requires.short c.requires.choice chosen numbers to.next over)
