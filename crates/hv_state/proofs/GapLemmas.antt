@@ -11,9 +11,9 @@ use Rattle.hv_world.specs.declared.formula.Formula as code_formula
 use Rattle.hv_world.specs.declared.formula.Term as code_term
 use Rattle.hv_world.specs.declared.id.ObjectId.{ObjectId}
 use Rattle.hv_state.specs.Atoms.{Atoms, IsPassedOver}
-use Rattle.hv_state.specs.Needed.{needed, needed_alone, needed_by_parts}
+use Rattle.hv_state.specs.Needed.{needed, needed_alone, of_parts}
 use Rattle.hv_state.specs.Truth.{True, SomeTrue, ForEach, ForSome}
-use Rattle.hv_state.specs.inside.Gaps.{denied, denied_alone, denied_by_parts, IsBound, EndsIn, IsGuide, IsGap}
+use Rattle.hv_state.specs.inside.Gaps.{denied, denied_alone, IsBound, EndsIn, IsGuide, IsGap}
 use Rattle.hv_state.specs.declared.gap.Gap.{Gap}
 use Rattle.hv_state.proofs.NeededLemmas.{needed_true}
 
@@ -93,15 +93,10 @@ alone_is_denied (forall ts f) a m = m
 alone_is_denied (exists ts f) a m = m
 alone_is_denied (equal s t) a m = m
 
-pub part_needs : (xs : List code_formula.Formula) (k : ℕ) (x : code_formula.Formula) → k < length xs → x ≡ get_or xs k x → (a : Atom) → Contains (needed_alone (formula_view x)) a → Contains (needed_by_parts (formulas_of (map formula_view xs))) a
-part_needs [] k x lt e a m = absurd (omega arith)
-part_needs (y ∷ ys) zero x lt e a m = Contains-append_left (needed_alone (formula_view y)) (needed_by_parts (formulas_of (map formula_view ys))) a (subst (λ z. Contains (needed_alone (formula_view z)) a) e m)
-part_needs (y ∷ ys) (suc k) x lt e a m = Contains-append_right (needed_alone (formula_view y)) (needed_by_parts (formulas_of (map formula_view ys))) a (part_needs ys k x (omega arith) e a m)
-
-pub part_denies : (xs : List code_formula.Formula) (k : ℕ) (x : code_formula.Formula) → k < length xs → x ≡ get_or xs k x → (a : Atom) → Contains (denied_alone (formula_view x)) a → Contains (denied_by_parts (formulas_of (map formula_view xs))) a
-part_denies [] k x lt e a m = absurd (omega arith)
-part_denies (y ∷ ys) zero x lt e a m = Contains-append_left (denied_alone (formula_view y)) (denied_by_parts (formulas_of (map formula_view ys))) a (subst (λ z. Contains (denied_alone (formula_view z)) a) e m)
-part_denies (y ∷ ys) (suc k) x lt e a m = Contains-append_right (denied_alone (formula_view y)) (denied_by_parts (formulas_of (map formula_view ys))) a (part_denies ys k x (omega arith) e a m)
+pub part_has : (alone : Formula → List Atom) (xs : List code_formula.Formula) (k : ℕ) (x : code_formula.Formula) → k < length xs → x ≡ get_or xs k x → (a : Atom) → Contains (alone (formula_view x)) a → Contains (of_parts alone (formulas_of (map formula_view xs))) a
+part_has alone [] k x lt e a m = absurd (omega arith)
+part_has alone (y ∷ ys) zero x lt e a m = Contains-append_left (alone (formula_view y)) (of_parts alone (formulas_of (map formula_view ys))) a (subst (λ z. Contains (alone (formula_view z)) a) e m)
+part_has alone (y ∷ ys) (suc k) x lt e a m = Contains-append_right (alone (formula_view y)) (of_parts alone (formulas_of (map formula_view ys))) a (part_has alone ys k x (omega arith) e a m)
 
 -- what an atom decides that is false
 module _ (w : Typing) (S : Atoms) (env : List ℕ) (a : Atom) (lacks : S (atom_under env a) → ⊥) where
@@ -118,9 +113,9 @@ module _ (w : Typing) (S : Atoms) (env : List ℕ) (a : Atom) (lacks : S (atom_u
   alone_true (exists ts f) m = absurd (none_in_empty a m)
   alone_true (equal s t) m = absurd (none_in_empty a m)
 
-  some_true : (fs : Formulas) → Contains (denied_by_parts fs) a → SomeTrue w S fs env
+  some_true : (fs : Formulas) → Contains (of_parts denied_alone fs) a → SomeTrue w S fs env
   some_true no_formulas m = absurd (none_in_empty a m)
-  some_true (more_formulas f fs) m = elim (Contains-append_cases (denied_alone f) (denied_by_parts fs) a m) [ inl first ↦ inl (alone_true f first) | inr others ↦ inr (some_true fs others) ]
+  some_true (more_formulas f fs) m = elim (Contains-append_cases (denied_alone f) (of_parts denied_alone fs) a m) [ inl first ↦ inl (alone_true f first) | inr others ↦ inr (some_true fs others) ]
 
   pub is_true : (f : Formula) → Contains (denied f) a → True w S f env
   is_true (holds b) m = absurd (none_in_empty a m)

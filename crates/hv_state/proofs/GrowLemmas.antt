@@ -13,7 +13,7 @@ use Rattle.hv_state.specs.declared.history.History.{History}
 use Rattle.hv_state.specs.declared.rows.Row.{Row}
 use Rattle.hv_state.specs.inside.Rows.{rows_in, IsBelow, Ascend}
 use Rattle.hv_state.specs.Changes.{Change, told}
-use Rattle.hv_state.specs.inside.Histories.{Table, Rise, IsTable, beside, rows_of, change_view, in_order, changes_of, history_view, IsNextIn, IsLeast}
+use Rattle.hv_state.specs.inside.Histories.{Table, Rise, IsTable, beside, rows_of, index_of, truth_of, change_view, in_order, changes_of, history_view, IsNextIn, IsLeast}
 use Rattle.hv_state.specs.inside.Notes.{Before, EndsAt, IsTurned, IsTurnedAt, replaced}
 use Rattle.hv_state.proofs.RowLemmas.{below_itself}
 use Rattle.hv_state.proofs.PlanLemmas.{read_there}
@@ -41,10 +41,10 @@ module _ (cs : List code.Change) (k : ℕ) (last : code.Change) (rise : Rise (ma
   place_is : (length cs - 1 < length cs) × (get_or cs (length cs - 1) last ≡ last)
   place_is = read_there cs (length cs - 1) last (sym is)
 
-  last_at : (d : Change) → (get_or (map change_view cs) (length cs - 1) d).0 ≡ last.from
-  last_at d = ap (λ c. c.0) (get_or-map change_view cs (length cs - 1) last d place_is.0) ∙ ap (λ (c : code.Change). c.from) place_is.1
+  last_at : (d : Change) → (get_or (map change_view cs) (length cs - 1) d).0 ≡ index_of last
+  last_at d = ap (λ c. c.0) (get_or-map change_view cs (length cs - 1) last d place_is.0) ∙ ap index_of place_is.1
 
-  pub all_before : last.from < k → Before k (map change_view cs)
+  pub all_before : index_of last < k → Before k (map change_view cs)
   all_before lt i d i_in = by (cases_lt i (length cs - 1))
     where
       by : (i < length cs - 1) ⊎ (length cs - 1 ≤ i) → (get_or (map change_view cs) i d).0 < k
@@ -56,24 +56,24 @@ module _ (cs : List code.Change) (k : ℕ) (last : code.Change) (rise : Rise (ma
           let here : length cs - 1 ≡ i = omega (arith, behind, i_in, place_is.0, length-map cs change_view) in
           subst (λ j. (get_or (map change_view cs) j d).0 < k) here (let end = last_at d in omega (arith, end, lt))
 
-  pub last_before : Before k (map change_view cs) → last.from < k
+  pub last_before : Before k (map change_view cs) → index_of last < k
   last_before all =
       let below : (get_or (map change_view cs) (length cs - 1) (change_view last)).0 < k = all (length cs - 1) (change_view last) (omega (arith, place_is.0, length-map cs change_view)) in
       let end = last_at (change_view last) in
       omega (arith, below, end)
 
 -- the last change is told, where all are before an index
-pub last_told : (cs : List code.Change) (k : ℕ) (last : code.Change) → Some last ≡ slice_get cs (length cs - 1) → Before (k + 1) (map change_view cs) → told k (map change_view cs) ≡ Some last.is_true
-last_told cs k last is room = sym (last_is cs k (length cs) (omega arith) (λ j d z lt. below j d lt, λ j d from lt. absurd (omega (arith, from, lt))) last (omega (arith, there.0))) ∙ ap (λ (c : code.Change). Some c.is_true) there.1
+pub last_told : (cs : List code.Change) (k : ℕ) (last : code.Change) → Some last ≡ slice_get cs (length cs - 1) → Before (k + 1) (map change_view cs) → told k (map change_view cs) ≡ Some (truth_of last)
+last_told cs k last is room = sym (last_is cs k (length cs) (omega arith) (λ j d z lt. below j d lt, λ j d from lt. absurd (omega (arith, from, lt))) last (omega (arith, there.0))) ∙ ap (λ (c : code.Change). Some (truth_of c)) there.1
   where
     there : (length cs - 1 < length cs) × (get_or cs (length cs - 1) last ≡ last)
     there = read_there cs (length cs - 1) last (sym is)
 
-    below : (j : ℕ) (d : code.Change) → j < length cs → nat_le (get_or cs j d).from k ≡ true
+    below : (j : ℕ) (d : code.Change) → j < length cs → nat_le (index_of (get_or cs j d)) k ≡ true
     below j d lt =
-        let at : (get_or (map change_view cs) j (change_view d)).0 ≡ (get_or cs j d).from = ap (λ c. c.0) (get_or-map change_view cs j d (change_view d) lt) in
+        let at : (get_or (map change_view cs) j (change_view d)).0 ≡ index_of (get_or cs j d) = ap (λ c. c.0) (get_or-map change_view cs j d (change_view d) lt) in
         let h : (get_or (map change_view cs) j (change_view d)).0 < k + 1 = room j (change_view d) (omega (arith, lt, length-map cs change_view)) in
-        is_from (get_or cs j d).from k (omega (arith, at, h))
+        is_from (index_of (get_or cs j d)) k (omega (arith, at, h))
 
 -- the last of a list
 last_of : {X : Type 0} (xs : List X) (x d : X) → get_or (xs ++ x ∷ []) (length xs) d ≡ x
@@ -125,13 +125,13 @@ module _ (h : History) (c : code.Change) (is : h.last ≡ Some c) where
   pub earlier_rises : Rise (changes_of h) → Rise early
   earlier_rises rise = front_rises early (change_view c) (subst Rise with_last rise)
 
-  pub told_is_last : (k : ℕ) → c.from ≤ k → Some c.is_true ≡ told k (changes_of h)
-  told_is_last k up_to = sym (ap (told k) with_last ∙ told_push None k early (change_view c) ∙ if_true (nat_le c.from k) (Some c.is_true) (told k early) (is_from c.from k up_to))
+  pub told_is_last : (k : ℕ) → index_of c ≤ k → Some (truth_of c) ≡ told k (changes_of h)
+  told_is_last k up_to = sym (ap (told k) with_last ∙ told_push None k early (change_view c) ∙ if_true (nat_le (index_of c) k) (Some (truth_of c)) (told k early) (is_from (index_of c) k up_to))
 
-  pub told_is_earlier : (k : ℕ) → k < c.from → told k early ≡ told k (changes_of h)
-  told_is_earlier k past = sym (ap (told k) with_last ∙ told_push None k early (change_view c) ∙ if_false (nat_le c.from k) (Some c.is_true) (told k early) (is_late c.from k past))
+  pub told_is_earlier : (k : ℕ) → k < index_of c → told k early ≡ told k (changes_of h)
+  told_is_earlier k past = sym (ap (told k) with_last ∙ told_push None k early (change_view c) ∙ if_false (nat_le (index_of c) k) (Some (truth_of c)) (told k early) (is_late (index_of c) k past))
 
-  pub next_is_earlier : (k end j : ℕ) → c.from ≤ k → IsNextIn early k end j → IsNextIn (changes_of h) k end j
+  pub next_is_earlier : (k end j : ℕ) → index_of c ≤ k → IsNextIn early k end j → IsNextIn (changes_of h) k end j
   next_is_earlier k end j up_to next = subst (λ cs. IsNextIn cs k end j) (sym with_last)
       record {
         after = next.after;
@@ -140,7 +140,7 @@ module _ (h : History) (c : code.Change) (is : h.last ≡ Some c) where
         change = λ lt. (let (d, m, at) = next.change lt in (d, Contains-append_left early (change_view c ∷ []) d m, at));
       }
 
-  pub next_is_last : (k end until j : ℕ) → IsLeast c.from end until → IsNextIn early k until j → IsNextIn (changes_of h) k end j
+  pub next_is_last : (k end until j : ℕ) → IsLeast (index_of c) end until → IsNextIn early k until j → IsNextIn (changes_of h) k end j
   next_is_last k end until j (le, le', one) next = subst (λ cs. IsNextIn cs k end j) (sym with_last)
       record {
         after = next.after;
@@ -153,7 +153,7 @@ module _ (h : History) (c : code.Change) (is : h.last ≡ Some c) where
       by lt (inl before) = let (d, m, at) = next.change before in (d, Contains-append_left early (change_view c ∷ []) d m, at)
       by lt (inr behind) = let within = next.within in (change_view c, Contains-push early (change_view c), which lt (omega (arith, behind, within)) one)
         where
-          which : j < end → j ≡ until → (until ≡ c.from) ⊎ (until ≡ end) → c.from ≡ j
+          which : j < end → j ≡ until → (until ≡ index_of c) ⊎ (until ≡ end) → index_of c ≡ j
           which less here (inl e) = omega (arith, here, e)
           which less here (inr e) = absurd (omega (arith, less, here, e))
 
@@ -183,15 +183,15 @@ pub is_equal : (a b : ℕ) → a ≡ b → nat_eq a b ≡ true
 is_equal a b e = grind arith
 
 -- a list ends at the index of its last change
-pub ends_there : (cs : List code.Change) (k : ℕ) (last : code.Change) → Some last ≡ slice_get cs (length cs - 1) → last.from ≡ k → EndsAt k (map change_view cs)
+pub ends_there : (cs : List code.Change) (k : ℕ) (last : code.Change) → Some last ≡ slice_get cs (length cs - 1) → index_of last ≡ k → EndsAt k (map change_view cs)
 ends_there [] k last is e = absurd cc
-ends_there (c ∷ []) k last is e = let same : last ≡ c = cc in ([], c.is_true, λ i. ((ap (λ (x : code.Change). x.from) (sym same) ∙ e) i, c.is_true) ∷ [])
+ends_there (c ∷ []) k last is e = let same : last ≡ c = cc in ([], truth_of c, λ i. ((ap index_of (sym same) ∙ e) i, truth_of c) ∷ [])
 ends_there (c ∷ d ∷ cs) k last is e =
     let next : length (c ∷ d ∷ cs) - 1 ≡ suc (length (d ∷ cs) - 1) = omega arith in
     let (ds, b, rest) = ends_there (d ∷ cs) k last (is ∙ ap (slice_get (c ∷ d ∷ cs)) next) e in
     (change_view c ∷ ds, b, ap (λ xs. change_view c ∷ xs) rest)
 
-pub ends_elsewhere : (cs : List code.Change) (k : ℕ) (last : code.Change) → Some last ≡ slice_get cs (length cs - 1) → EndsAt k (map change_view cs) → last.from ≡ k
+pub ends_elsewhere : (cs : List code.Change) (k : ℕ) (last : code.Change) → Some last ≡ slice_get cs (length cs - 1) → EndsAt k (map change_view cs) → index_of last ≡ k
 ends_elsewhere cs k last is (ds, b, e) =
     let there = read_there cs (length cs - 1) last (sym is) in
     let long : length cs ≡ suc (length ds) = sym (length-map cs change_view) ∙ ap length e ∙ snoc_length ds (k, b) in
@@ -209,10 +209,10 @@ no_last (c ∷ d ∷ cs) e =
     absurd cc
 
 -- the last of the code's changes taken off
-pub turned_popped : (old new : List code.Change) (n : ℕ) (c : code.Change) (last : Option code.Change) → n ≡ length old → Rise (map change_view old) → EndsAt c.from (map change_view old) → old ≡ new ++ option_to_list last → (IsSome last ↔ (0 < n)) → IsTurned (change_view c) (map change_view old) (map change_view new)
+pub turned_popped : (old new : List code.Change) (n : ℕ) (c : code.Change) (last : Option code.Change) → n ≡ length old → Rise (map change_view old) → EndsAt (index_of c) (map change_view old) → old ≡ new ++ option_to_list last → (IsSome last ↔ (0 < n)) → IsTurned (change_view c) (map change_view old) (map change_view new)
 turned_popped old new n c (Some x) long rise ends cut some = turned_undone (map change_view old) (map change_view new) (change_view c) (change_view x) rise ends (ap (map change_view) cut ∙ map_push change_view new x)
 turned_popped old new n c None long rise (ds, b, is) cut some =
-    let size : length old ≡ suc (length ds) = sym (length-map old change_view) ∙ ap length is ∙ snoc_length ds (c.from, b) in
+    let size : length old ≡ suc (length ds) = sym (length-map old change_view) ∙ ap length is ∙ snoc_length ds (index_of c, b) in
     let h = some.1 (omega (arith, long, size)) in
     absurd (true≢false (sym h))
 

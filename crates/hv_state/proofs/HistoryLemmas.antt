@@ -14,7 +14,7 @@ use Rattle.hv_world.specs.Bindings.{GroundAtom}
 use Rattle.hv_state.specs.inside.Bits.{Has}
 use Rattle.hv_state.specs.inside.Rows.{atom_of, IsBelow, Ascend, IsPlace}
 use Rattle.hv_state.specs.Changes.{Change, told_from, told}
-use Rattle.hv_state.specs.inside.Histories.{Table, Rise, beside, rows_of, change_view, changes_of, history_view, kept, AreFlagged}
+use Rattle.hv_state.specs.inside.Histories.{Table, Rise, beside, rows_of, index_of, truth_of, change_view, changes_of, history_view, kept, AreFlagged}
 use Rattle.hv_state.proofs.RowLemmas.{below_itself, contains_cases}
 
 -- the rows of histories
@@ -35,50 +35,50 @@ pub not_found_in : (hs : List History) (row : List ℕ) → (Contains (map numbe
 not_found_in hs row = subst (λ rows. Contains rows row → ⊥) (sym (rows_are hs))
 
 -- indices rise, as the code has them
-pub from_rises : (cs : List code.Change) → Rise (map change_view cs) → IsNonDecreasingBy (λ c. c.from) cs
-from_rises cs rise i j d le lt = by (cases_lt i j)
+pub indices_rise : (cs : List code.Change) → Rise (map change_view cs) → IsNonDecreasingBy index_of cs
+indices_rise cs rise i j d le lt = by (cases_lt i j)
   where
-    at : (k : ℕ) → k < length cs → (get_or (map change_view cs) k (change_view d)).0 ≡ (get_or cs k d).from
+    at : (k : ℕ) → k < length cs → (get_or (map change_view cs) k (change_view d)).0 ≡ index_of (get_or cs k d)
     at k within = ap (λ c. c.0) (get_or-map change_view cs k d (change_view d) within)
 
-    by : (i < j) ⊎ (j ≤ i) → (get_or cs i d).from ≤ (get_or cs j d).from
+    by : (i < j) ⊎ (j ≤ i) → index_of (get_or cs i d) ≤ index_of (get_or cs j d)
     by (inl before) =
         let h : (get_or (map change_view cs) i (change_view d)).0 < (get_or (map change_view cs) j (change_view d)).0 = rise i j (change_view d) before (omega (arith, lt, length-map cs change_view)) in
         let a = at i (omega (arith, before, lt)) in
         let b = at j lt in
         omega (arith, h, a, b)
-    by (inr behind) = let same : i ≡ j = omega (arith, behind, le) in subst (λ k. (get_or cs i d).from ≤ (get_or cs k d).from) same (omega arith)
+    by (inr behind) = let same : i ≡ j = omega (arith, behind, le) in subst (λ k. index_of (get_or cs i d) ≤ index_of (get_or cs k d)) same (omega arith)
 
 -- the last change before a place
 abbrev at_place : Option Bool → List code.Change → ℕ → Option Bool
 at_place o cs zero = o
 at_place o [] (suc i) = o
-at_place o (c ∷ cs) (suc i) = at_place (Some c.is_true) cs i
+at_place o (c ∷ cs) (suc i) = at_place (Some (truth_of c)) cs i
 
-told_by : (k : ℕ) (o : Option Bool) (cs : List code.Change) (i : ℕ) → i ≤ length cs → ((j : ℕ) (d : code.Change) → j < i → nat_le (get_or cs j d).from k ≡ true) → ((j : ℕ) (d : code.Change) → i ≤ j → j < length cs → nat_le (get_or cs j d).from k ≡ false)
+told_by : (k : ℕ) (o : Option Bool) (cs : List code.Change) (i : ℕ) → i ≤ length cs → ((j : ℕ) (d : code.Change) → j < i → nat_le (index_of (get_or cs j d)) k ≡ true) → ((j : ℕ) (d : code.Change) → i ≤ j → j < length cs → nat_le (index_of (get_or cs j d)) k ≡ false)
     → told_from o k (map change_view cs) ≡ at_place o cs i
 told_by k o [] zero le low high = refl
 told_by k o [] (suc i) le low high = refl
 told_by k o (c ∷ cs) zero le low high =
-    ap (λ x. told_from x k (map change_view cs)) (if_false (nat_le c.from k) (Some c.is_true) o (high 0 c (omega arith) (omega arith)))
+    ap (λ x. told_from x k (map change_view cs)) (if_false (nat_le (index_of c) k) (Some (truth_of c)) o (high 0 c (omega arith) (omega arith)))
     ∙ told_by k o cs zero (omega arith) (λ j d lt. absurd (omega (arith, lt))) (λ j d from lt. high (suc j) d (omega arith) (omega (arith, lt)))
 told_by k o (c ∷ cs) (suc i) le low high =
-    ap (λ x. told_from x k (map change_view cs)) (if_true (nat_le c.from k) (Some c.is_true) o (low 0 c (omega arith)))
-    ∙ told_by k (Some c.is_true) cs i (omega (arith, le)) (λ j d lt. low (suc j) d (omega (arith, lt))) (λ j d from lt. high (suc j) d (omega (arith, from)) (omega (arith, lt)))
+    ap (λ x. told_from x k (map change_view cs)) (if_true (nat_le (index_of c) k) (Some (truth_of c)) o (low 0 c (omega arith)))
+    ∙ told_by k (Some (truth_of c)) cs i (omega (arith, le)) (λ j d lt. low (suc j) d (omega (arith, lt))) (λ j d from lt. high (suc j) d (omega (arith, from)) (omega (arith, lt)))
 
-there : (o : Option Bool) (cs : List code.Change) (i : ℕ) (d : code.Change) → i < length cs → at_place o cs (suc i) ≡ Some (get_or cs i d).is_true
+there : (o : Option Bool) (cs : List code.Change) (i : ℕ) (d : code.Change) → i < length cs → at_place o cs (suc i) ≡ Some (truth_of (get_or cs i d))
 there o [] i d lt = absurd (omega (arith, lt))
 there o (c ∷ cs) zero d lt = refl
-there o (c ∷ cs) (suc i) d lt = there (Some c.is_true) cs i d (omega (arith, lt))
+there o (c ∷ cs) (suc i) d lt = there (Some (truth_of c)) cs i d (omega (arith, lt))
 
-module _ (cs : List code.Change) (k past : ℕ) (within : past ≤ length cs) (point : IsPartitionPoint (λ c. nat_le c.from k ≡ true) (λ c. nat_le c.from k ≡ false) cs past) where
+module _ (cs : List code.Change) (k past : ℕ) (within : past ≤ length cs) (point : IsPartitionPoint (λ c. nat_le (index_of c) k ≡ true) (λ c. nat_le (index_of c) k ≡ false) cs past) where
   parted : told k (map change_view cs) ≡ at_place None cs past
   parted = told_by k None cs past within (λ j d lt. point.0 j d (omega arith) lt) (λ j d from lt. point.1 j d from lt)
 
   pub none_up_to : past ≡ 0 → None ≡ told k (map change_view cs)
   none_up_to e = sym (parted ∙ ap (at_place None cs) e)
 
-  pub last_is : (d : code.Change) → 0 < past → Some (get_or cs (past - 1) d).is_true ≡ told k (map change_view cs)
+  pub last_is : (d : code.Change) → 0 < past → Some (truth_of (get_or cs (past - 1) d)) ≡ told k (map change_view cs)
   last_is d some =
       let next : past ≡ suc (past - 1) = omega (arith, some) in
       sym (parted ∙ ap (at_place None cs) next ∙ there None cs (past - 1) d (omega (arith, some, within)))

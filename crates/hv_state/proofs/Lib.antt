@@ -26,3 +26,4 @@ pub mod EverLemmas
 pub mod GapLemmas
 pub mod PassedLemmas
 pub mod PastLemmas
+pub mod LackLemmas

@@ -7,7 +7,7 @@ use Rattle.hv_world.specs.Types.{Typing}
 use Rattle.hv_world.specs.Bindings.{atom_under}
 use Rattle.hv_state.specs.Atoms.{Atoms}
 use Rattle.hv_state.specs.Truth.{True, AllTrue}
-use Rattle.hv_state.specs.Needed.{needed, needed_alone, needed_by_parts}
+use Rattle.hv_state.specs.Needed.{needed, needed_alone, of_parts}
 
 module _ (w : Typing) (S : Atoms) (env : List ℕ) where
   abbrev Are : List Atom → Type 0
@@ -26,9 +26,9 @@ module _ (w : Typing) (S : Atoms) (env : List ℕ) where
   alone_true (exists ts f) h = none
   alone_true (equal s t) h = none
 
-  parts_true : (fs : Formulas) → AllTrue w S fs env → Are (needed_by_parts fs)
+  parts_true : (fs : Formulas) → AllTrue w S fs env → Are (of_parts needed_alone fs)
   parts_true no_formulas h = none
-  parts_true (more_formulas f fs) h = All-append (λ a. S (atom_under env a)) (needed_alone f) (needed_by_parts fs) (alone_true f h.0) (parts_true fs h.1)
+  parts_true (more_formulas f fs) h = All-append (λ a. S (atom_under env a)) (needed_alone f) (of_parts needed_alone fs) (alone_true f h.0) (parts_true fs h.1)
 
   pub needed_true : (f : Formula) → True w S f env → Are (needed f)
   needed_true (holds a) h = alone_true (holds a) h

@@ -15,7 +15,7 @@ use Rattle.hv_state.specs.Atoms.{Atoms}
 use Rattle.hv_state.specs.Truth.{True}
 use Rattle.hv_state.specs.Plans.{Plan, StateAt}
 use Rattle.hv_state.specs.Changes.{Change, Stays, AreChanges, none_yet, stays, turns, Mentions, SomeMention, IsNextChange, AreFalse, IsFirstTrue}
-use Rattle.hv_state.specs.inside.Histories.{Rise, change_view, Table, kept, IsNext, IsNextIn, IsLeast}
+use Rattle.hv_state.specs.inside.Histories.{Rise, index_of, change_view, Table, kept, IsNext, IsNextIn, IsLeast}
 use Rattle.hv_state.specs.inside.Notes.{IsRecorded}
 use Rattle.hv_state.proofs.RowLemmas.{some_of}
 use Rattle.hv_state.proofs.SomeLemmas.{SomeOf, some_more, some_taken, taken}
@@ -76,7 +76,7 @@ mentioned_parts w g env (x ∷ xs) =
     (λ m. elim m [ inl a ↦ inl a | inr b ↦ inr (rest.0 b) ], λ m. elim m [ inl a ↦ inl a | inr b ↦ inr (rest.1 b) ])
 
 -- the changes behind those up to an index
-module _ (cs : List code.Change) (k past : ℕ) (rise : Rise (map change_view cs)) (point : IsPartitionPoint (λ c. nat_le c.from k ≡ true) (λ c. nat_le c.from k ≡ false) cs past) where
+module _ (cs : List code.Change) (k past : ℕ) (rise : Rise (map change_view cs)) (point : IsPartitionPoint (λ c. nat_le (index_of c) k ≡ true) (λ c. nat_le (index_of c) k ≡ false) cs past) where
   -- a change that is behind the index stands behind the others
   stands_behind : (c : Change) (m : Contains (map change_view cs) c) → k < c.0 → past ≤ m.0
   stands_behind c (i, lt, e) after = by (cases_lt i past)
@@ -86,8 +86,8 @@ module _ (cs : List code.Change) (k past : ℕ) (rise : Rise (map change_view cs
       by (inl before) =
           let in_cs : i < length cs = omega (arith, lt, length-map cs change_view) in
           let d = some_of cs (omega (arith, in_cs)) in
-          let up_to : (get_or cs i d).from ≤ k = leb-true _ _ (point.0 i d (omega arith) before) in
-          let is : (get_or cs i d).from ≡ c.0 = ap (λ (x : Change). x.0) (sym (get_or-map change_view cs i d c in_cs) ∙ e) in
+          let up_to : index_of (get_or cs i d) ≤ k = leb-true _ _ (point.0 i d (omega arith) before) in
+          let is : index_of (get_or cs i d) ≡ c.0 = ap (λ (x : Change). x.0) (sym (get_or-map change_view cs i d c in_cs) ∙ e) in
           absurd (omega (arith, up_to, is, after))
 
   pub next_in_none : length cs ≤ past → (end : ℕ) → k < end → IsNextIn (map change_view cs) k end end
@@ -99,16 +99,16 @@ module _ (cs : List code.Change) (k past : ℕ) (rise : Rise (map change_view cs
         change = λ less. absurd (omega (arith, less));
       }
 
-  pub next_in_some : (x : code.Change) → past < length cs → x ≡ get_or cs past x → (end j : ℕ) → k < end → IsLeast x.from end j → IsNextIn (map change_view cs) k end j
+  pub next_in_some : (x : code.Change) → past < length cs → x ≡ get_or cs past x → (end j : ℕ) → k < end → IsLeast (index_of x) end j → IsNextIn (map change_view cs) k end j
   next_in_some x x_in is end j lt (le, le', one) = record { after = by one; within = le'; quiet = λ c m after. quiet c m after (cases_lt past m.0); change = λ less. which less one }
     where
       there : (past < length cs) × (get_or cs past x ≡ x)
       there = (x_in, sym is)
 
-      behind : k < x.from
-      behind = leb-false _ _ (subst (λ (y : code.Change). nat_le y.from k ≡ false) there.1 (point.1 past x (omega arith) there.0))
+      behind : k < index_of x
+      behind = leb-false _ _ (subst (λ (y : code.Change). nat_le (index_of y) k ≡ false) there.1 (point.1 past x (omega arith) there.0))
 
-      by : (j ≡ x.from) ⊎ (j ≡ end) → k < j
+      by : (j ≡ index_of x) ⊎ (j ≡ end) → k < j
       by (inl e) = omega (arith, e, behind)
       by (inr e) = omega (arith, e, lt)
 
@@ -118,16 +118,16 @@ module _ (cs : List code.Change) (k past : ℕ) (rise : Rise (map change_view cs
       quiet : (c : Change) (m : Contains (map change_view cs) c) → k < c.0 → (past < m.0) ⊎ (m.0 ≤ past) → j ≤ c.0
       quiet c (i, i_in, e) after (inl more) =
           let below : (get_or (map change_view cs) past c).0 < (get_or (map change_view cs) i c).0 = rise past i c more i_in in
-          let first : (get_or (map change_view cs) past c).0 ≡ x.from = ap (λ (y : Change). y.0) (entry_is c) in
+          let first : (get_or (map change_view cs) past c).0 ≡ index_of x = ap (λ (y : Change). y.0) (entry_is c) in
           let last : (get_or (map change_view cs) i c).0 ≡ c.0 = ap (λ (y : Change). y.0) e in
           omega (arith, below, first, last, le)
       quiet c (i, i_in, e) after (inr less) =
           let at_least = stands_behind c (i, i_in, e) after in
           let here : i ≡ past = omega (arith, less, at_least) in
-          let first : x.from ≡ c.0 = ap (λ (y : Change). y.0) (sym (entry_is c) ∙ ap (λ n. get_or (map change_view cs) n c) (sym here) ∙ e) in
+          let first : index_of x ≡ c.0 = ap (λ (y : Change). y.0) (sym (entry_is c) ∙ ap (λ n. get_or (map change_view cs) n c) (sym here) ∙ e) in
           omega (arith, first, le)
 
-      which : j < end → (j ≡ x.from) ⊎ (j ≡ end) → (c : Change) × Contains (map change_view cs) c × (c.0 ≡ j)
+      which : j < end → (j ≡ index_of x) ⊎ (j ≡ end) → (c : Change) × Contains (map change_view cs) c × (c.0 ≡ j)
       which less (inl e) = (change_view x, (past, omega (arith, there.0, length-map cs change_view), entry_is (change_view x)), sym e)
       which less (inr e) = absurd (omega (arith, e, less))
 

@@ -31,6 +31,15 @@ some_taken P (x ∷ xs) zero m = absurd m
 some_taken P (x ∷ xs) (suc i) (inl p) = inl p
 some_taken P (x ∷ xs) (suc i) (inr m) = inr (some_taken P xs i m)
 
+-- where one of them is so with any other, the first of them up to it decide
+pub one_for_all : {X : Type 0} (P : X → Type 0) (xs : List X) (i : ℕ) (x : X) → i < length xs → x ≡ get_or xs i x → ((y : X) → P y → P x) → SomeOf P (take (i + 1) xs) ↔ SomeOf P xs
+one_for_all {X = X} P xs i x lt is all = (some_taken P xs (i + 1), λ m. (some_more P xs i x lt is).0 (inr (any xs m)))
+  where
+    any : (ys : List X) → SomeOf P ys → P x
+    any [] m = absurd m
+    any (y ∷ ys) (inl p) = all y p
+    any (y ∷ ys) (inr m) = any ys m
+
 -- the first of a list, where they are all
 pub taken : {X : Type 0} (xs : List X) (n : ℕ) → length xs ≤ n → take n xs ≡ xs
 taken [] zero h = refl

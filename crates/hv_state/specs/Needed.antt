@@ -13,14 +13,15 @@ needed_alone (forall ts f) = []
 needed_alone (exists ts f) = []
 needed_alone (equal s t) = []
 
-abbrev pub needed_by_parts : Formulas → List Atom
-needed_by_parts no_formulas = []
-needed_by_parts (more_formulas f fs) = needed_alone f ++ needed_by_parts fs
+-- the atoms of several formulas, where this says those of each
+abbrev pub of_parts : (Formula → List Atom) → Formulas → List Atom
+of_parts alone no_formulas = []
+of_parts alone (more_formulas f fs) = alone f ++ of_parts alone fs
 
 -- and a conjunction needs those atoms that are its parts
 abbrev pub needed : Formula → List Atom
 needed (holds a) = a ∷ []
-needed (and fs) = needed_by_parts fs
+needed (and fs) = of_parts needed_alone fs
 needed (or fs) = []
 needed (not f) = []
 needed (imply f g) = []

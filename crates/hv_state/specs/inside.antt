@@ -8,3 +8,4 @@ pub mod Parts
 pub mod Takings
 pub mod Hashes
 pub mod Gaps
+pub mod Lacks

@@ -8,7 +8,8 @@ ghost use Rattle.hv_state.specs.Atoms.{atom_read, IsPassedOver};
 ghost use Rattle.hv_state.specs.Atoms.{row_of};
 ghost use Rattle.hv_state.specs.inside.Rows.{rows_in, Ascend, IsPlace, Listed};
 ghost use Rattle.hv_state.specs.inside.Histories.{Rise, kept, rows_of, IsNext, AreFlagged};
-ghost use Rattle.hv_state.specs.inside.Histories.{change_view, changes_of, history_view};
+ghost use Rattle.hv_state.specs.inside.Histories.{index_of, truth_of, change_view};
+ghost use Rattle.hv_state.specs.inside.Histories.{changes_of, history_view};
 ghost use Rattle.hv_state.specs.inside.Notes.{IsTurnedAt, IsSet};
 ghost use Rattle.hv_state.specs.Changes.{told, TrueAfter};
 
@@ -175,16 +176,15 @@ impl Changes {
     pub(crate) fn set<S: State>(
         &mut self,
         first: &S,
-        from: u32,
+        change: Change,
         atom: &AtomView<'_>,
-        is_true: bool,
     ) -> Result<(), Memory>
-        ensures { IfOk result (λ _. IsSet (S.atoms first.now)
-            (λ g. atom_read atom.now ≡ g) from is_true self.old self.new) }
+        ensures { IfOk result (λ _. IsSet (S.atoms first.now) (λ g. atom_read atom.now ≡ g)
+            (index_of change) (truth_of change) self.old self.new) }
     {
         if let Some(place) = self.place_of(atom) {
-            if self.list[place].says(first, atom) != is_true {
-                turn_at(&mut self.list, place, Change { from, is_true })?;
+            if self.list[place].says(first, atom) != change.is_true() {
+                turn_at(&mut self.list, place, change)?;
             }
         }
         Ok(())

@@ -1,11 +1,12 @@
 //! The changes of one atom's truth, in order.
 
 ghost use Rattle.std.specs.Prelude.{◌≡◌, ◌↔◌, ◌<◌, ◌+◌, ◌-◌, ℕ, ◌∷◌, [], ◌++◌, length, map};
-ghost use Rattle.std.specs.Prelude.{slice_get, option_to_list, IsSome, IsTrue, OnOk, OnErr};
+ghost use Rattle.std.specs.Prelude.{slice_get, option_to_list, IsSome, IsTrue, IfOk, OnOk, OnErr};
 ghost use Rattle.hv_state.specs.Atoms.{atom_read};
 ghost use Rattle.hv_state.specs.Changes.{told, Tells};
 ghost use Rattle.hv_state.specs.inside.Histories.{Rise, IsNextIn, IsLeast, ArePast};
-ghost use Rattle.hv_state.specs.inside.Histories.{change_view, in_order, changes_of};
+ghost use Rattle.hv_state.specs.inside.Histories.{index_of, truth_of, change_view};
+ghost use Rattle.hv_state.specs.inside.Histories.{in_order, changes_of};
 ghost use Rattle.hv_state.specs.inside.Notes.{Before, EndsAt, IsTurned};
 
 use crate::atom::AtomView;
@@ -15,11 +16,49 @@ use crate::state::State;
 use hv_text::Memory;
 use std::cell::Cell;
 
-/// From an index on an atom is true, or false.
+/// From an index on an atom is true, or false. The number is twice the index, and one more where the
+/// atom is true: the changes of a long plan are many, and wait for memory the less the shorter they are.
 #[derive(Clone, Copy)]
 pub(crate) struct Change {
-    pub(crate) from: u32,
-    pub(crate) is_true: bool,
+    number: u32,
+}
+
+impl Change {
+    /// The change at an index.
+    ///
+    /// # Errors
+    ///
+    /// `Memory` where the index does not fit into 31 bits: changes at so many indices are not kept.
+    pub(crate) fn new(index: usize, is_true: bool) -> Result<Change, Memory>
+        ensures index { IfOk result (λ change. index_of change ≡ index) }
+        ensures truth { IfOk result (λ change. truth_of change ≡ is_true) }
+    {
+        let Ok(index) = u32::try_from(index) else {
+            return Err(Memory);
+        };
+        match index.checked_mul(2) {
+            Some(even) => Ok(Change {
+                number: if is_true { even + 1 } else { even },
+            }),
+            None => Err(Memory),
+        }
+    }
+
+    /// The index from which on.
+    #[inline(always)]
+    pub(crate) fn index(self) -> usize
+        ensures { result ≡ index_of self }
+    {
+        (self.number / 2) as usize
+    }
+
+    /// Whether the atom is true then.
+    #[inline(always)]
+    pub(crate) fn is_true(self) -> bool
+        ensures { result ≡ truth_of self }
+    {
+        self.number % 2 == 1
+    }
 }
 
 /// An atom, and the changes of its truth in order. The last of them stands beside the list of those
@@ -48,7 +87,7 @@ fn are_past(list: &[Change], count: usize, k: usize) -> bool
     if count == 0 || list.len() <= count {
         return false;
     }
-    list[count - 1].from as usize <= k && k < list[count].from as usize
+    list[count - 1].index() <= k && k < list[count].index()
 }
 
 // How many changes are up to an index: as many as in the list that was asked before, where that is
@@ -61,7 +100,7 @@ fn past(list: &[Change], k: usize, recent: &Cell<usize>) -> usize
     if are_past(list, likely, k) {
         return likely;
     }
-    let found = list.partition_point(|change| change.from as usize <= k);
+    let found = list.partition_point(|change| change.index() <= k);
     recent.set(found);
     found
 }
@@ -75,7 +114,7 @@ fn last_up_to(list: &[Change], k: usize, recent: &Cell<usize>) -> Option<bool>
     if past == 0 {
         None
     } else {
-        Some(list[past - 1].is_true)
+        Some(list[past - 1].is_true())
     }
 }
 
@@ -93,7 +132,7 @@ fn next_in(list: &[Change], k: usize, end: usize, recent: &Cell<usize>) -> usize
     ensures { IsNextIn (map change_view list.now) k end result }
 {
     match list.get(past(list, k, recent)) {
-        Some(next) => least(next.from as usize, end),
+        Some(next) => least(next.index(), end),
         None => end,
     }
 }
@@ -117,7 +156,7 @@ impl History {
         ensures { IsTrue result ↔ Before index (changes_of self.now) }
     {
         match self.last() {
-            Some(last) => (last.from as usize) < index,
+            Some(last) => last.index() < index,
             None => true,
         }
     }
@@ -128,7 +167,7 @@ impl History {
         ensures { IsTrue result ↔ EndsAt index (changes_of self.now) }
     {
         match self.last() {
-            Some(last) => last.from as usize == index,
+            Some(last) => last.index() == index,
             None => false,
         }
     }
@@ -169,7 +208,7 @@ impl History {
             ↔ Tells (S.atoms first.now (atom_read atom.now)) k (changes_of self.now) }
     {
         match self.last() {
-            Some(last) => last.is_true,
+            Some(last) => last.is_true(),
             None => first.holds(atom),
         }
     }
@@ -188,9 +227,9 @@ impl History {
         ensures err { OnErr result (changes_of self.new ≡ changes_of self.old) }
         ensures row { self.new.row ≡ self.old.row }
     {
-        if self.is_before(change.from as usize) {
+        if self.is_before(change.index()) {
             self.push(change)?;
-        } else if self.ends_at(change.from as usize) {
+        } else if self.ends_at(change.index()) {
             let _undone = self.pop();
         }
         Ok(())
@@ -206,8 +245,8 @@ impl History {
         match self.last {
             None => last_up_to(&self.earlier, k, recent),
             Some(last) => {
-                if last.from as usize <= k {
-                    Some(last.is_true)
+                if last.index() <= k {
+                    Some(last.is_true())
                 } else {
                     last_up_to(&self.earlier, k, recent)
                 }
@@ -224,10 +263,10 @@ impl History {
         match self.last {
             None => next_in(&self.earlier, k, end, recent),
             Some(last) => {
-                if last.from as usize <= k {
+                if last.index() <= k {
                     next_in(&self.earlier, k, end, recent)
                 } else {
-                    next_in(&self.earlier, k, least(last.from as usize, end), recent)
+                    next_in(&self.earlier, k, least(last.index(), end), recent)
                 }
             }
         }

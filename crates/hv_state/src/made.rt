@@ -9,6 +9,8 @@ ghost use Rattle.hv_state.specs.inside.Parts.{MadeBy, MadeBySome, MadeForSome};
 ghost use Rattle.hv_state.specs.inside.Takings.{HaveBeenTaken};
 
 use crate::atom::AtomView;
+use crate::lacks::effects_lack_next;
+use crate::makes::one_makes;
 use crate::rows::{Row, row_of};
 use hv_text::Memory;
 use hv_world::{Binding, Effect, TypeId, World};
@@ -62,13 +64,17 @@ fn take_made_by<T: Take>(
             }
         }
         Effect::Forall(of, effects) => {
-            take_made_for_each(world, way, into, effects, of, is_true, binding)
+            if one_makes(effects, is_true) {
+                take_made_for_each(world, way, into, effects, of, is_true, binding)
+            } else {
+                Ok(())
+            }
         }
     }
 }
 
 /// Takes the atoms that effects make true, or false: those that an effect makes so for each object of
-/// its variables, too. An atom is taken as often as an effect makes it so. It takes no memory of its
+/// its variables, too. Where nothing can be made so, no object is looked at. It takes no memory of its
 /// own but a frame of the stack for each effect and each variable.
 #[cycle(made)]
 pub(crate) fn take_made<T: Take>(
@@ -88,7 +94,8 @@ pub(crate) fn take_made<T: Take>(
     Ok(())
 }
 
-// The same of effects for all objects of these types that the next variables may have.
+// The same of effects for all objects of these types that the next variables may have; of a variable
+// that they do not speak of, one object serves for all.
 #[cycle(made)]
 fn take_made_for_each<T: Take>(
     world: &World<'_>,
@@ -105,9 +112,13 @@ fn take_made_for_each<T: Take>(
     match of {
         [] => take_made(world, way, into, effects, is_true, binding),
         [first, others @ ..] => {
+            let is_left_out = effects_lack_next(effects, binding);
             for object in world.objects_of(*first) {
                 let inner = Binding::With(&*binding, *object);
                 take_made_for_each(world, way, into, effects, others, is_true, &inner)?;
+                if is_left_out {
+                    return Ok(());
+                }
             }
             Ok(())
         }

@@ -3,7 +3,7 @@
 ghost use Rattle.std.specs.Prelude.{◌≡◌, ◌++◌, map, IfOk, OnOk};
 ghost use Rattle.hv_world.specs.Values.{formulas_of};
 ghost use Rattle.hv_world.specs.Views.{atom_view, formula_view};
-ghost use Rattle.hv_state.specs.Needed.{needed, needed_alone, needed_by_parts};
+ghost use Rattle.hv_state.specs.Needed.{needed, needed_alone, of_parts};
 
 use hv_text::Memory;
 use hv_world::{Atom, Formula};
@@ -23,7 +23,7 @@ fn push_atom<'a>(atoms: &mut Vec<&'a Atom>, formula: &'a Formula) -> Result<(), 
 // The atoms among the parts of a conjunction.
 fn among_parts<'a>(alloc: Global, parts: &'a [Formula]) -> Result<Vec<&'a Atom>, Memory>
     ensures { IfOk result (λ v. map (λ a. atom_view a.now) v.items
-        ≡ needed_by_parts (formulas_of (map formula_view parts.now))) }
+        ≡ of_parts needed_alone (formulas_of (map formula_view parts.now))) }
 {
     let mut atoms = Vec::new(alloc);
     for part in parts {

@@ -9,6 +9,7 @@ ghost use Rattle.hv_state.specs.inside.Histories.{IsNext};
 use crate::atom::AtomView;
 use crate::changes::Changes;
 use crate::history::least;
+use crate::lacks::lacks_next;
 use hv_world::{Binding, Formula, TypeId, World};
 
 // Whether an action may touch an atom that a formula speaks of: one of a predicate in it. No object
@@ -123,7 +124,8 @@ fn next_of_choices(
     }
 }
 
-// The same, by all choices of such objects.
+// The same, by all choices of such objects; of a variable that the formula does not speak of, one
+// object serves for all.
 #[cycle(next_change)]
 fn next_of_some(
     world: &World<'_>,
@@ -141,6 +143,7 @@ fn next_of_some(
     match of {
         [] => next_change(world, changes, k, end, formula, binding),
         [first, others @ ..] => {
+            let is_left_out = lacks_next(formula, binding);
             let mut until = end;
             for object in world.objects_of(*first) {
                 if until == k + 1 {
@@ -151,6 +154,9 @@ fn next_of_some(
                     until,
                     next_of_some(world, changes, k, end, formula, others, &inner),
                 );
+                if is_left_out {
+                    return until;
+                }
             }
             until
         }

@@ -5,34 +5,34 @@ ghost use Rattle.hv_world.specs.Bindings.{ground_action_view};
 ghost use Rattle.hv_world.specs.WorldViews.{world_view};
 ghost use Rattle.hv_state.specs.Changes.{TrueAfter};
 ghost use Rattle.hv_state.specs.Plans.{IsApplicableIn};
-ghost use Rattle.hv_state.specs.inside.Histories.{kept};
+ghost use Rattle.hv_state.specs.inside.Histories.{index_of, truth_of, kept};
 ghost use Rattle.hv_state.specs.inside.Notes.{IsReady, IsSet, IsPassed};
 
 use crate::atom::AtomView;
 use crate::changes::{Changes, Moment};
 use crate::evaluate::evaluate;
+use crate::history::Change;
 use crate::made::{Take, take_made};
 use crate::state::State;
 use hv_text::Memory;
 use hv_world::{Binding, GroundAction, World};
 
-// From an index on atoms are true, or false.
+// Atoms change so.
 #[derive(Clone, Copy)]
 struct Note<'a, S: State> {
     first: &'a S,
-    from: u32,
-    is_true: bool,
+    change: Change,
 }
 
 impl<S: State> Take for Note<'_, S> {
     type Into = Changes;
 
-    ghost takes = { λ n g old new.
-        IsSet (S.atoms n.first.now) (λ h. g ≡ h) n.from n.is_true old new };
+    ghost takes = { λ n g old new. IsSet (S.atoms n.first.now) (λ h. g ≡ h)
+        (index_of n.change) (truth_of n.change) old new };
 
     #[inline(always)]
     fn take(&self, changes: &mut Changes, atom: &AtomView<'_>) -> Result<(), Memory> {
-        changes.set(self.first, self.from, atom, self.is_true)
+        changes.set(self.first, self.change, atom)
     }
 }
 
@@ -41,7 +41,7 @@ impl<S: State> Take for Note<'_, S> {
 ///
 /// # Errors
 ///
-/// `Memory` where a growth was refused, or the index does not fit into 32 bits: changes at so many
+/// `Memory` where a growth was refused, or the index does not fit into 31 bits: changes at so many
 /// indices are not kept.
 pub(crate) fn pass<S: State>(
     world: &World<'_>,
@@ -71,18 +71,13 @@ pub(crate) fn pass<S: State>(
     if !evaluate(world, &before, action.precondition(), &objects) {
         return Ok(false);
     }
-    let Ok(from) = u32::try_from(from) else {
-        return Err(Memory);
-    };
     let gone = Note {
         first,
-        from,
-        is_true: false,
+        change: Change::new(from, false)?,
     };
     let come = Note {
         first,
-        from,
-        is_true: true,
+        change: Change::new(from, true)?,
     };
     take_made(world, &gone, changes, action.effect(), false, &objects)?;
     take_made(world, &come, changes, action.effect(), true, &objects)?;

@@ -83,8 +83,8 @@ impl<'a, 's, S: State> Trace<'a, 's, S> {
     /// # Errors
     ///
     /// `Inapplicable` at the first action that is not applicable, which is also one that the world
-    /// does not have; and `Memory` where a growth was refused, or at an action behind 2^32 - 1
-    /// others, since changes are kept with the index of 32 bits that they are at.
+    /// does not have; and `Memory` where a growth was refused, or at an action behind 2^31 - 1
+    /// others, since changes are kept with the index of 31 bits that they are at.
     pub fn run(
         alloc: Global,
         world: &'a World<'s>,

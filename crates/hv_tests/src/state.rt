@@ -5,7 +5,7 @@ mod random;
 
 use crate::texts::{
     DOMAINS, EMPTY, FLIP, FLIP_ONCE, NO_RELIC_EXISTS, ONE, PROBLEMS, RELIC_EXISTS, TRANSPORT,
-    negated,
+    nested,
 };
 use crate::worlds::world_of;
 use hv_state::{AtomView, BitState, GroundAtoms, SortedState, State, Stop, Trace, next_row, truth};
@@ -257,23 +257,42 @@ fn sixteen_variables_of_two_objects(rt: HostRuntime) {
     assert!(rt; begins_with_its_goal::<BitState>(rt.alloc(), YARD, SIXTEEN) == Some(true));
 }
 
-// Whether an atom that is true is so within so many negations.
-fn is_true_within<S: State>(alloc: Global, count: usize) -> Option<bool> {
-    let text = negated(alloc, count).ok()?;
+// Whether a formula is true within so many forms that open like this.
+fn is_true_within<S: State>(
+    alloc: Global,
+    opening: &[u8],
+    formula: &[u8],
+    count: usize,
+) -> Option<bool> {
+    let text = nested(alloc, opening, formula, count).ok()?;
     begins_with_its_goal::<S>(alloc, FLIP, &text)
 }
 
 fn nest<S: State>(alloc: Global) -> bool {
-    is_true_within::<S>(alloc, 0) == Some(true)
-        && is_true_within::<S>(alloc, 1) == Some(false)
-        && is_true_within::<S>(alloc, 252) == Some(true)
-        && is_true_within::<S>(alloc, 253) == Some(false)
+    is_true_within::<S>(alloc, b"(not ", b"(p)", 0) == Some(true)
+        && is_true_within::<S>(alloc, b"(not ", b"(p)", 1) == Some(false)
+        && is_true_within::<S>(alloc, b"(not ", b"(p)", 252) == Some(true)
+        && is_true_within::<S>(alloc, b"(not ", b"(p)", 253) == Some(false)
 }
 
 #[test]
 fn negations_nest(rt: HostRuntime) {
     assert!(rt; nest::<SortedState>(rt.alloc()));
     assert!(rt; nest::<BitState>(rt.alloc()));
+}
+
+// Were all objects gone through for each variable, two of these would have no end.
+fn leave_variables_out<S: State>(alloc: Global) -> bool {
+    is_true_within::<S>(alloc, b"(exists (?x) ", b"(p)", 200) == Some(true)
+        && is_true_within::<S>(alloc, b"(forall (?x) ", b"(p)", 200) == Some(true)
+        && is_true_within::<S>(alloc, b"(exists (?x) ", b"(not (p))", 200) == Some(false)
+        && is_true_within::<S>(alloc, b"(forall (?x) ", b"(not (p))", 200) == Some(false)
+}
+
+#[test]
+fn variables_that_a_formula_leaves_out(rt: HostRuntime) {
+    assert!(rt; leave_variables_out::<SortedState>(rt.alloc()));
+    assert!(rt; leave_variables_out::<BitState>(rt.alloc()));
 }
 
 // Puts the ground action of a line behind others: the action's name, and those of its objects.

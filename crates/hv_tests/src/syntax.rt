@@ -1,6 +1,6 @@
 //! What is read of domains and problems, and the first faults of their texts.
 
-use crate::texts::{DOMAINS, PROBLEMS, negated, place_in};
+use crate::texts::{DOMAINS, PROBLEMS, nested, place_in};
 use hv_syntax::{
     DomainText, FormulaText, MethodText, NetworkText, ProblemText, SyntaxKind, read_domain,
     read_problem,
@@ -148,11 +148,11 @@ fn reads_the_worked_problems(rt: HostRuntime) {
 // One list more is nested too deep.
 #[test]
 fn reads_253_negations_of_a_goal(rt: HostRuntime) -> Result<(), Fail> {
-    let most = negated(rt.alloc(), 253)?;
+    let most = nested(rt.alloc(), b"(not ", b"(p)", 253)?;
     assert_eq!(rt; problem_fault(&rt, &most), None);
-    let more = negated(rt.alloc(), 254)?;
+    let more = nested(rt.alloc(), b"(not ", b"(p)", 254)?;
     let deep = SyntaxKind::Text(TextKind::TooDeep);
-    assert_eq!(rt; problem_fault(&rt, &more), Some((deep, (1, 1332))));
+    assert_eq!(rt; problem_fault(&rt, &more), Some((deep, (1, 1349))));
     Ok(())
 }
 

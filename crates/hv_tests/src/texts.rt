@@ -10,14 +10,22 @@ pub(crate) use hv_fixtures::{
 use hv_text::{MOST_BYTES, Memory, Span, place};
 use std::alloc::Global;
 
-/// A problem of the flip whose goal is a true atom within so many negations.
-pub(crate) fn negated(alloc: Global, count: usize) -> Result<Vec<u8>, Memory> {
+/// A problem of the flip, where `(p)` is true and there are three objects, whose goal is a formula
+/// within so many forms that open like this.
+pub(crate) fn nested(
+    alloc: Global,
+    opening: &[u8],
+    formula: &[u8],
+    count: usize,
+) -> Result<Vec<u8>, Memory> {
     let mut text = Vec::new(alloc);
-    text.extend_from_slice(b"(define (problem n) (:domain flip) (:htn) (:init (p)) (:goal ")?;
+    text.extend_from_slice(b"(define (problem n) (:domain flip) (:objects a b c) (:htn) ")?;
+    text.extend_from_slice(b"(:init (p)) (:goal ")?;
     for _ in 0..count {
-        text.extend_from_slice(b"(not ")?;
+        text.extend_from_slice(opening)?;
     }
-    text.extend_from_slice(b"(p)))")?;
+    text.extend_from_slice(formula)?;
+    text.extend_from_slice(b"))")?;
     for _ in 0..count {
         text.extend_from_slice(b")")?;
     }

@@ -1,10 +1,10 @@
 -- Which objects need not be tried, since an atom that a formula needs is false with them.
 use Rattle.std.specs.Prelude.{◌≡◌, ℕ, ◌<◌, ◌≤◌, List, [], ◌∷◌, ◌++◌, map, Option, IsSomeAnd}
 use Rattle.std.specs.List.{Contains}
-use Rattle.hv_world.specs.Values.{Term, Atom, Formula, Formulas, holds, and, or, not, imply, forall, exists, equal, no_formulas, more_formulas}
+use Rattle.hv_world.specs.Values.{Term, Atom, Formula, holds, and, or, not, imply, forall, exists, equal}
 use Rattle.hv_world.specs.Bindings.{object_of, atom_under}
 use Rattle.hv_state.specs.Atoms.{Atoms}
-use Rattle.hv_state.specs.Needed.{needed}
+use Rattle.hv_state.specs.Needed.{needed, of_parts}
 use Rattle.hv_state.specs.declared.gap.Gap.{Gap}
 
 -- an atom without which a negation is true
@@ -18,15 +18,11 @@ denied_alone (forall ts f) = []
 denied_alone (exists ts f) = []
 denied_alone (equal s t) = []
 
-abbrev pub denied_by_parts : Formulas → List Atom
-denied_by_parts no_formulas = []
-denied_by_parts (more_formulas f fs) = denied_alone f ++ denied_by_parts fs
-
 -- the atoms without which a formula is true, as far as its form shows: those that its premise needs, or what it says is not so
 abbrev pub denied : Formula → List Atom
 denied (holds a) = []
 denied (and fs) = []
-denied (or fs) = denied_by_parts fs
+denied (or fs) = of_parts denied_alone fs
 denied (not f) = needed f
 denied (imply f g) = needed f
 denied (forall ts f) = []

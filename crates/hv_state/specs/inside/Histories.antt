@@ -1,5 +1,5 @@
 -- The changes of atoms as the code keeps them, and the next of them.
-use Rattle.std.specs.Prelude.{◌≡◌, ℕ, ◌<◌, ◌≤◌, ◌⊎◌, true, false, nat_le, length, List, [], ◌∷◌, ◌++◌, map, bytes_eq, option_to_list, AllPairs, All, if◌then◌else◌}
+use Rattle.std.specs.Prelude.{◌≡◌, ℕ, ◌<◌, ◌≤◌, ◌/◌, ◌%◌, ◌⊎◌, Bool, true, false, nat_eq, nat_le, length, List, [], ◌∷◌, ◌++◌, map, bytes_eq, option_to_list, AllPairs, All, if◌then◌else◌}
 use Rattle.std.specs.List.{Contains}
 use Rattle.std.specs.List.Sorted.{IsPartitionPoint}
 use Rattle.hv_world.specs.Bindings.{GroundAtom}
@@ -33,8 +33,15 @@ pub record IsTable (t : Table) : Type 0 where
   pub rows : Ascend (rows_of t)
   pub lists : All (λ e. Rise e.1) t
 
+-- a change's number is twice the index from which on, and one more where the atom is true then
+abbrev pub index_of : code_change.Change → ℕ
+index_of c = c.number / 2
+
+abbrev pub truth_of : code_change.Change → Bool
+truth_of c = nat_eq (c.number % 2) 1
+
 abbrev pub change_view : code_change.Change → Change
-change_view c = (c.from, c.is_true)
+change_view c = (index_of c, truth_of c)
 
 -- the changes of a history: the last one stands behind those before it
 abbrev pub in_order : code_history.History → List code_change.Change
@@ -52,7 +59,7 @@ AreFlagged flags rows = (r : List ℕ) → Contains rows r → Has flags (atom_o
 
 -- so many changes are up to an index, and those behind them are after it
 abbrev pub ArePast : List code_change.Change → ℕ → ℕ → Type 0
-ArePast cs k past = (past ≤ length cs) × IsPartitionPoint (λ c. nat_le c.from k ≡ true) (λ c. nat_le c.from k ≡ false) cs past
+ArePast cs k past = (past ≤ length cs) × IsPartitionPoint (λ c. nat_le (index_of c) k ≡ true) (λ c. nat_le (index_of c) k ≡ false) cs past
 
 -- j is the first index after k at which one of these changes is, or else the end
 pub record IsNextIn (cs : List Change) (k end j : ℕ) : Type 0 where

@@ -56,3 +56,10 @@ MadeBySome w is_true es b g = IsMadeBySome (world_view w).typing is_true g (effe
 
 abbrev pub MadeForSome : World → Bool → List Effect → List TypeId → Binding → Atoms
 MadeForSome w is_true es ts b g = ForSome (world_view w).typing (IsMadeBySome (world_view w).typing is_true g (effects_of (map effect_view es))) (map type_number ts) (objects_in b)
+
+-- no atom is made true, or false, by an effect, or by some of several effects, whatever objects there are and the variables have
+abbrev pub MakesNothing : Bool → Effect → Type 0
+MakesNothing is_true e = (types : Typing) (env : List ℕ) (g : GroundAtom) → IsMadeBy types is_true g (effect_view e) env → ⊥
+
+abbrev pub MakeNothing : Bool → List Effect → Type 0
+MakeNothing is_true es = (types : Typing) (env : List ℕ) (g : GroundAtom) → IsMadeBySome types is_true g (effects_of (map effect_view es)) env → ⊥

@@ -1,5 +1,6 @@
-use Rattle.std.proofs.Common.{◌<◌, ◌+◌, ◌++◌, ◌∷◌, [], map, get_or, sym, subst, ap, arith, rules, ◌∙◌}
+use Rattle.std.proofs.Common.{◌<◌, ◌+◌, ◌-◌, ◌++◌, ◌∷◌, [], length, take, drop, map, get_or, sym, subst, ap, arith, rules, ◌∙◌}
 use Rattle.hv_world.specs.Bindings.{GroundAtom, objects_in}
+use Rattle.hv_world.specs.declared.id.ObjectId.{ObjectId}
 use Rattle.hv_world.specs.WorldViews.{world_view}
 use Rattle.hv_world.specs.Values.{formulas_of}
 use Rattle.hv_world.specs.Views.{formula_view, type_number}
@@ -9,7 +10,8 @@ use Rattle.hv_state.specs.inside.Histories.{IsNext}
 use Rattle.hv_state.proofs.Levels.{levels, most_levels}
 use Rattle.hv_state.proofs.FormulaLemmas.{view-Forall, view-Exists, part_below}
 use Rattle.hv_state.proofs.Chosen.{front}
-use Rattle.hv_state.proofs.SomeLemmas.{SomeOf, some_objects, for_these}
+use Rattle.hv_state.proofs.LackLemmas.{for_some_mention_still}
+use Rattle.hv_state.proofs.SomeLemmas.{SomeOf, some_objects, for_these, one_for_all}
 use Rattle.hv_state.proofs.NextLemmas.{next_like, next_still, next_push, next_all, next_soon, mentioned_parts}
 use Rattle.hv_state.proofs.next.+next_change.Goals as goal
 
@@ -82,6 +84,21 @@ next_of_some-returns-then-until-k t c =
     let soon = next_soon c.args.changes.now c.args.k c.args.end (λ o g. ForSome w (Mentions w g f) _ (env ++ o.0 ∷ [])) objects c.loop-object.object-index c.loop-object.until c.if-until-k.true c.loop-object.invariant in
     subst (λ ts. IsNext c.args.changes.now c.args.k c.args.end (λ g. ForSome w (Mentions w g f) ts env) c.loop-object.until) (sym (front c.args.of.now (record { 0 = 0 }) (omega arith)))
     (next_like c.args.changes.now c.args.k c.args.end _ _ c.loop-object.until (λ g. some_objects w first.0 objects c.objects_of-object-items.ensures.exact (Mentions w g f) _ env) soon)
+
+pub next_of_some-returns-then-is_left_out : goal.next_of_some-returns-then-is_left_out
+next_of_some-returns-then-is_left_out t c =
+    let w = (world_view c.args.world.now).typing in
+    let env = objects_in c.args.binding.now in
+    let f = formula_view c.args.formula.now in
+    let objects = c.objects_of-object-items.result.now in
+    let first = get_or c.args.of.now 0 (record { 0 = 0 }) in
+    let at = c.loop-object.object-index in
+    let z : ObjectId = record { 0 = 0 } in
+    let Q = λ (o : ObjectId) (g : GroundAtom). ForSome w (Mentions w g f) (map type_number (take (length c.args.of.now - 1) (drop 1 c.args.of.now))) (env ++ o.0 ∷ []) in
+    let so_far = next_push c.args.changes.now c.args.k c.args.end Q objects at (get_or objects at z) c.loop-object.until c.next_of_some.result c.least-until.result c.loop-object-test.true (search rules) c.loop-object.invariant c.next_of_some.ensures c.least-until.ensures in
+    let same = λ (g : GroundAtom). one_for_all (λ o. Q o g) objects at (get_or objects at z) c.loop-object-test.true (search rules) (λ o h. for_some_mention_still w g env f (c.lacks_next-is_left_out.ensures c.if-is_left_out.true) _ _ _ h) in
+    subst (λ ts. IsNext c.args.changes.now c.args.k c.args.end (λ g. ForSome w (Mentions w g f) ts env) c.least-until.result) (sym (front c.args.of.now (record { 0 = 0 }) (omega arith)))
+    (next_like c.args.changes.now c.args.k c.args.end _ _ c.least-until.result (λ g. some_objects w first.0 objects c.objects_of-object-items.ensures.exact (Mentions w g f) _ env) (next_like c.args.changes.now c.args.k c.args.end _ _ c.least-until.result same so_far))
 
 pub next_of_some-returns-after-loop-object : goal.next_of_some-returns-after-loop-object
 next_of_some-returns-after-loop-object t c =

@@ -7,6 +7,7 @@ use Rattle.hv_world.specs.Values.{Effects}
 use Rattle.hv_world.specs.WorldViews.{world_view}
 use Rattle.hv_state.specs.Atoms.{Same}
 use Rattle.hv_state.specs.inside.Makings.{IsMadeBySome}
+use Rattle.hv_state.specs.inside.Histories.{index_of, truth_of}
 use Rattle.hv_state.specs.inside.Notes.{IsSet}
 use Rattle.hv_state.proofs.MadeLemmas.{made_is}
 use Rattle.hv_state.proofs.NoteLemmas.{passed}
@@ -20,7 +21,8 @@ returns-clause-done g c = λ ran ready.
     let step = ground_action_view c.args.step.now in
     let start = g.S.State.atoms c.args.first.now in
     let from = c.args.from in
-    let noted : c.in-Ok.from ≡ from = search rules in
+    let deleted = c.in_ok-new in
+    let added = c.in_ok-new-2 in
     let a = action_view c.in-Some.action.now in
     let there : slice_get w.actions step.action ≡ Some a = sym (c.action-2.ensures ∙ ap (slice_get w.actions) c.action.ensures) ∙ ap (option_map (λ x. action_view x.now)) c.in-Some.is in
     let env = map object_number c.objects.result.now in
@@ -34,6 +36,6 @@ returns-clause-done g c = λ ran ready.
     let before = c.args.changes.now in
     let mid = c.take_made.new.into in
     let after = c.take_made-2.new.into in
-    let first = subst (λ n. IsSet start (Contains deletes) n false before mid) noted (set_in_turn start c.in-Ok.from false deletes before mid sets) in
-    let next = subst (λ n. IsSet start (Contains adds) n true mid after) noted (set_in_turn start c.in-Ok.from true adds mid after sets_then) in
+    let first = subst (λ n. IsSet start (Contains deletes) n false before mid) deleted.ensures.index (subst (λ b. IsSet start (Contains deletes) (index_of deleted.field-0) b before mid) deleted.ensures.truth (set_in_turn start (index_of deleted.field-0) (truth_of deleted.field-0) deletes before mid sets)) in
+    let next = subst (λ n. IsSet start (Contains adds) n true mid after) added.ensures.index (subst (λ b. IsSet start (Contains adds) (index_of added.field-0) b mid after) added.ensures.truth (set_in_turn start (index_of added.field-0) (truth_of added.field-0) adds mid after sets_then)) in
     passed w step a there start from before mid after deletes adds gone come ready _ env objects c.precondition.ensures (c.evaluate.ensures.0 is) first next

@@ -10,7 +10,8 @@ pub returns-in-Some : goal.returns-in-Some
 returns-in-Some g c = λ k room.
     let last = c.in-Some.last in
     let start = g.S.State.atoms c.args.first.now (atom_read c.args.atom.now) in
-    subst (λ o. IsTrue last.is_true ↔ Said start o) (sym (last_told (in_order c.args.self.now) k last c.in-Some.ensures room)) (λ m. m, λ m. m)
+    subst (λ o. IsTrue c.is_true.result ↔ Said start o) (sym (last_told (in_order c.args.self.now) k last c.in-Some.ensures room))
+    (subst (λ b. IsTrue c.is_true.result ↔ IsTrue b) c.is_true.ensures (λ m. m, λ m. m))
 
 pub returns-in-None : goal.returns-in-None
 returns-in-None g c = λ k room.
