@@ -1,5 +1,5 @@
 -- The places of the children that may do a subtask.
-use Rattle.std.proofs.Common.{◌≡◌, ℕ, zero, suc, ◌+◌, ◌<◌, ◌≤◌, Bool, true, false, List, [], ◌∷◌, ◌++◌, length, map, nat_eq, eq-eqb, refl, sym, ap, ◌∙◌, append_assoc, arith, if◌then◌else◌, drop, Option, Some, None, MatchOption, IfSome, Contains}
+use Rattle.std.proofs.Common.{rules, ◌≡◌, ℕ, zero, suc, ◌+◌, ◌<◌, ◌≤◌, Bool, true, false, List, [], ◌∷◌, ◌++◌, length, map, nat_eq, eq-eqb, refl, sym, ap, ◌∙◌, append_assoc, arith, if◌then◌else◌, drop, slice_get, Option, Some, None, MatchOption, IfSome, Contains}
 use Rattle.std.proofs.lemmas.List.{append-nil}
 use Rattle.hv_lists.proofs.Contained.{at_head, in_tail, none_in_empty}
 use Rattle.hv_lists.proofs.EachOnce.{once_more}
@@ -7,8 +7,11 @@ use Rattle.hv_lists.proofs.Bools.{and_both}
 use Rattle.hv_world.specs.Bindings.{object_of}
 use Rattle.hv_world.specs.Alike.{same_name}
 use Rattle.hv_world.specs.Values.{Term, object, variable, Subtask}
+use Rattle.hv_world.specs.Views.{term_view}
+use Rattle.hv_world.specs.declared.formula.Term.TheVariants as code
+use Rattle.hv_world.specs.declared.id.ObjectId.{ObjectId}
 use Rattle.hv_lists.specs.Lists.{Once}
-use Rattle.hv_match.specs.inside.Puzzles.{Work, work, child_at, is_ground, same_values, may_do, places_where}
+use Rattle.hv_match.specs.inside.Puzzles.{Work, work, child_at, is_ground, first_fixed, stands_there, same_values, may_do, places_where}
 use Rattle.hv_match.proofs.Members.{once_none}
 use Rattle.hv_match.proofs.Factors.{name_itself}
 use Rattle.hv_match.proofs.Turns.{mem_drop}
@@ -81,13 +84,39 @@ ground_values B [] e = refl
 ground_values B (object o ∷ ts) e = and_both (nat_eq o o) (same_values [] ts (map (object_of B) ts)) (eq-eqb o o refl) (ground_values B ts e)
 ground_values B (variable v ∷ ts) e = cc
 
+get_behind : (xs : List ℕ) (y : ℕ) (ys : List ℕ) → slice_get (xs ++ y ∷ ys) (length xs) ≡ Some y
+get_behind [] y ys = refl
+get_behind (x ∷ xs) y ys = get_behind xs y ys
+
+length_more : (xs : List ℕ) (y : ℕ) → length (xs ++ y ∷ []) ≡ length xs + 1
+length_more [] y = refl
+length_more (x ∷ xs) y = let r = length_more xs y in omega (arith, r)
+
+-- the first object among terms stands at its position, behind others
+fixed_there : (B : List ℕ) (before : List ℕ) (ts : List Term) → stands_there (first_fixed (length before) ts) (before ++ map (object_of B) ts) ≡ true
+fixed_there B before [] = refl
+fixed_there B before (object o ∷ ts) = ap (λ (x : Option ℕ). elim x [ None ↦ false | Some p ↦ nat_eq p o ]) (get_behind before o (map (object_of B) ts)) ∙ eq-eqb o o refl
+fixed_there B before (variable v ∷ ts) =
+    let x = object_of B (variable v) in
+    let size : length (before ++ x ∷ []) ≡ length before + 1 = length_more before x in
+    let next = fixed_there B (before ++ x ∷ []) ts in
+    let next' = rw (size, append_assoc before (x ∷ []) (map (object_of B) ts)) at next in
+    next'
+
+-- terms of the code
+pub view-Object : (o : ObjectId) → term_view (code.Object o) ≡ object o.0
+view-Object o = search rules
+
+pub view-Variable : (v : ℕ) → term_view (code.Variable v) ≡ variable v
+view-Variable v = search rules
+
 -- what does a subtask may do it
 pub done_may : (s : Subtask) (B : List ℕ) → may_do s (Some (work s.name (map (object_of B) s.terms))) ≡ true
 done_may s B = and_both (same_name s.name s.name) _ (name_itself s.name) (go (is_ground s.terms) refl)
   where
-    go : (b : Bool) → is_ground s.terms ≡ b → (if b then same_values [] s.terms (map (object_of B) s.terms) else true) ≡ true
+    go : (b : Bool) → is_ground s.terms ≡ b → (if b then same_values [] s.terms (map (object_of B) s.terms) else stands_there (first_fixed 0 s.terms) (map (object_of B) s.terms)) ≡ true
     go true e = ground_values B s.terms e
-    go false e = refl
+    go false e = fixed_there B [] s.terms
 
 pub chosen_within : (o : Option ℕ) (n m : ℕ) (l : List ℕ) → MatchOption o (length l ≤ n) (λ x. drop n l ≡ x ∷ drop (n + 1) l) → ((x : ℕ) → Contains l x → x < m) → IfSome o (λ x. x < m)
 chosen_within None n m l e h = tt

@@ -1,7 +1,7 @@
 -- The rows of places.
-use Rattle.std.proofs.Common.{◌≡◌, ◌≢◌, ℕ, zero, suc, ◌+◌, ◌<◌, ◌≤◌, Bool, true, false, not, List, [], ◌∷◌, ◌++◌, length, map, take, drop, set, get_or, slice_get, refl, sym, ap, ◌∙◌, arith, if◌then◌else◌, cond, ◌&&◌, ◌||◌, nat_lt, Option, Some, None, option_map, get_or-set_same, get_or-set_other, inl, inr, vec_len, Contains}
+use Rattle.std.proofs.Common.{◌≡◌, ◌≢◌, ℕ, zero, suc, ◌+◌, ◌<◌, ◌≤◌, Bool, true, false, not, List, [], ◌∷◌, ◌++◌, length, map, take, drop, min, set, get_or, slice_get, refl, sym, subst, ap, ◌∙◌, arith, if◌then◌else◌, cond, ◌&&◌, ◌||◌, nat_eq, eq-eqb, nat_lt, true≢false, ◌⊎◌, Option, Some, None, option_map, get_or-set_same, get_or-set_other, inl, inr, vec_len, Contains}
 use Rattle.std.proofs.lemmas.Bool.Decides.{nat_tests}
-use Rattle.std.proofs.lemmas.Bool.{ltb-true}
+use Rattle.std.proofs.lemmas.Bool.{ltb-true, eqb-true}
 use Rattle.std.proofs.lemmas.List.{append-nil, length-map, map-set, take_all, drop_all}
 use Rattle.std.proofs.lemmas.Slice.Eq.{bytes_eq-Decides}
 use Rattle.std.specs.Borrow.{Bor}
@@ -11,16 +11,30 @@ use Rattle.std.specs.List.{AllClonesOf, AllZip, position, position_or_len, list_
 use Rattle.indexmap.specs.IndexSet.{insert_key}
 use Rattle.hv_lists.proofs.Contained.{none_in_empty}
 use Rattle.hv_lists.proofs.Bools.{same_bools, both_true, and_both}
-use Rattle.hv_world.specs.Bindings.{object_of}
+use Rattle.hv_world.specs.Bindings.{object_of, object_number}
+use Rattle.hv_world.specs.declared.id.ObjectId.{ObjectId}
 use Rattle.hv_world.specs.Alike.{same_name}
 use Rattle.hv_world.specs.Values.{Term, TaskName, compound, primitive, Subtask}
-use Rattle.hv_match.specs.inside.Puzzles.{Work, is_ground, same_values, may_do, places_where}
-use Rattle.hv_match.specs.inside.Tables.{key_head, work_key, subtask_key, has_key, number_of, row_at, AreKeys, AreNamed, AreRows, HasPut, HasPutExact, row_for, AreChildRows}
+use Rattle.hv_match.specs.inside.Puzzles.{Work, is_ground, first_fixed, stands_there, same_values, may_do, places_where}
+use Rattle.hv_match.specs.inside.Tables.{key_head, mark_of, one_key, work_key, key_at, subtask_key, has_one, has_key, number_of, row_at, AreKeys, AreNamed, IsFixedBelow, AreFixedBelow, AreRows, HasPut, HasPutExact, HavePutOnes, HasPutOnes, row_for, AreChildRows}
 use Rattle.hv_match.specs.declared.child_rows.ChildRows.{ChildRows}
 use Rattle.hv_match.specs.declared.child_rows.RowKeys.{RowKeys}
 use Rattle.hv_match.proofs.Factors.{name_is, name_itself}
 use Rattle.hv_match.proofs.Fitting.{values_from, values_to}
 use Rattle.hv_match.proofs.MayDo.{places_end, places_within, places_same}
+
+-- truth values
+or_false : (b : Bool) → (b || false) ≡ b
+or_false true = refl
+or_false false = refl
+
+and_false : (b : Bool) → (b && false) ≡ false
+and_false true = refl
+and_false false = refl
+
+or_or : (a b c : Bool) → (a || (b || c)) ≡ ((a || b) || c)
+or_or true b c = refl
+or_or false b c = refl
 
 -- keys
 
@@ -30,63 +44,164 @@ key_is k j e = (bytes_eq-Decides k j).0 e
 key_itself : (k : List ℕ) → bytes_eq k k ≡ true
 key_itself k = (bytes_eq-Decides k k).1 refl
 
--- no key of a name is one with objects
-pub apart : (k : List ℕ) (m n : TaskName) (os : List ℕ) → bytes_eq (key_head false m) k ≡ true → bytes_eq (key_head true n ++ os) k ≡ false
-apart k m n os e = go (bytes_eq (key_head true n ++ os) k) refl
+-- the mark of a key
+mark_is : (m : ℕ) (n : TaskName) (os : List ℕ) → mark_of (key_head m n ++ os) ≡ m
+mark_is m (compound t) os = refl
+mark_is m (primitive t) os = refl
+
+mark_from : (m : ℕ) (n : TaskName) (os k : List ℕ) → bytes_eq (key_head m n ++ os) k ≡ true → mark_of k ≡ m
+mark_from m n os k e = ap mark_of (sym (key_is (key_head m n ++ os) k e)) ∙ mark_is m n os
+
+name_mark : (n : TaskName) (k : List ℕ) → bytes_eq (key_head 0 n) k ≡ true → mark_of k ≡ 0
+name_mark (compound t) k e = mark_from 0 (compound t) [] k e
+name_mark (primitive t) k e = mark_from 0 (primitive t) [] k e
+
+-- a key of another mark is another
+apart : (k : List ℕ) (m : ℕ) (n : TaskName) (os : List ℕ) → (mark_of k ≡ m → ⊥) → bytes_eq (key_head m n ++ os) k ≡ false
+apart k m n os other = go (bytes_eq (key_head m n ++ os) k) refl
   where
-    clash : (a b : TaskName) → key_head false a ≡ key_head true b ++ os → ⊥
-    clash (compound t) (compound u) f = cc
-    clash (compound t) (primitive u) f = cc
-    clash (primitive t) (compound u) f = cc
-    clash (primitive t) (primitive u) f = cc
+    go : (b : Bool) → bytes_eq (key_head m n ++ os) k ≡ b → b ≡ false
+    go true e = absurd (other (mark_from m n os k e))
+    go false e = refl
 
-    go : (b : Bool) → bytes_eq (key_head true n ++ os) k ≡ b → b ≡ false
-    go true f = absurd (clash m n (key_is (key_head false m) k e ∙ sym (key_is (key_head true n ++ os) k f)))
-    go false f = refl
+no_name : (k : List ℕ) (n : TaskName) → (mark_of k ≡ 0 → ⊥) → bytes_eq (key_head 0 n) k ≡ false
+no_name k (compound t) other = apart k 0 (compound t) [] other
+no_name k (primitive t) other = apart k 0 (primitive t) [] other
 
-heads : (b : Bool) (m n : TaskName) (os ps : List ℕ) → key_head b m ++ os ≡ key_head b n ++ ps → (m ≡ n) × (os ≡ ps)
-heads b (compound t) (compound u) os ps e = let f : t ≡ u = cc in let g : os ≡ ps = cc in (ap compound f, g)
-heads b (compound t) (primitive u) os ps e = cc
-heads b (primitive t) (compound u) os ps e = cc
-heads b (primitive t) (primitive u) os ps e = let f : t ≡ u = cc in let g : os ≡ ps = cc in (ap primitive f, g)
+heads : (m : ℕ) (a b : TaskName) (os ps : List ℕ) → key_head m a ++ os ≡ key_head m b ++ ps → (a ≡ b) × (os ≡ ps)
+heads m (compound t) (compound u) os ps e = let f : t ≡ u = cc in let g : os ≡ ps = cc in (ap compound f, g)
+heads m (compound t) (primitive u) os ps e = cc
+heads m (primitive t) (compound u) os ps e = cc
+heads m (primitive t) (primitive u) os ps e = let f : t ≡ u = cc in let g : os ≡ ps = cc in (ap primitive f, g)
+
+-- keys with one object
+
+-- none of them has a mark as low as this
+none_low : (n : TaskName) (q : ℕ) (os k : List ℕ) → mark_of k < 2 + q → has_one n q os k ≡ false
+none_low n q [] k lt = refl
+none_low n q (x ∷ xs) k lt =
+    let here : bytes_eq (one_key n q x) k ≡ false = apart k (2 + q) n (x ∷ []) (λ e. absurd (omega (arith, e, lt))) in
+    ap (λ b. b || has_one n (q + 1) xs k) here ∙ none_low n (q + 1) xs k (omega (arith, lt))
+
+-- nor one as high
+one_mark : (n : TaskName) (q : ℕ) (os k : List ℕ) → has_one n q os k ≡ true → mark_of k < 2 + (q + length os)
+one_mark n q [] k e = absurd (true≢false (sym e))
+one_mark n q (x ∷ xs) k e = go (bytes_eq (one_key n q x) k) refl e (one_mark n (q + 1) xs k)
+  where
+    go : (b : Bool) → bytes_eq (one_key n q x) k ≡ b → (b || has_one n (q + 1) xs k) ≡ true → (has_one n (q + 1) xs k ≡ true → mark_of k < 2 + (q + 1 + length xs)) → mark_of k < 2 + (q + suc (length xs))
+    go true f h r = let m = mark_from (2 + q) n (x ∷ []) k f in omega (arith, m)
+    go false f h r = omega (arith, r h)
+
+-- one more of them
+one_more : (n : TaskName) (q : ℕ) (os : List ℕ) (x : ℕ) (k : List ℕ) → has_one n q (os ++ x ∷ []) k ≡ (has_one n q os k || bytes_eq (one_key n (q + length os) x) k)
+one_more n q [] x k = let z : q + 0 ≡ q = omega arith in or_false (bytes_eq (one_key n q x) k) ∙ ap (λ p. bytes_eq (one_key n p x) k) (sym z)
+one_more n q (y ∷ os) x k =
+    let z : q + 1 + length os ≡ q + suc (length os) = omega arith in
+    ap (λ b. bytes_eq (one_key n q y) k || b) (one_more n (q + 1) os x k ∙ ap (λ p. has_one n (q + 1) os k || bytes_eq (one_key n p x) k) z)
+    ∙ or_or (bytes_eq (one_key n q y) k) (has_one n (q + 1) os k) (bytes_eq (one_key n (q + suc (length os)) x) k)
+
+-- the first of them decide for a key whose mark is not behind
+first_of_them : (n : TaskName) (q w : ℕ) (os k : List ℕ) → mark_of k < 2 + (q + w) → has_one n q (take w os) k ≡ has_one n q os k
+first_of_them n q zero [] k lt = refl
+first_of_them n q (suc w) [] k lt = refl
+first_of_them n q zero (x ∷ xs) k lt = sym (none_low n q (x ∷ xs) k (omega (arith, lt)))
+first_of_them n q (suc w) (x ∷ xs) k lt = ap (λ b. bytes_eq (one_key n q x) k || b) (first_of_them n (q + 1) w xs k (omega (arith, lt)))
+
+-- a child has the key of a name and an object where it has both
+ones : (m n : TaskName) (q j o : ℕ) (os : List ℕ) → has_one m q os (one_key n (q + j) o) ≡ (same_name m n && stands_there (Some (j, o)) os)
+ones m n q j o [] = sym (and_false (same_name m n))
+ones m n q zero o (x ∷ xs) =
+    let z : q + 0 ≡ q = omega arith in
+    ap (λ p. has_one m q (x ∷ xs) (one_key n p o)) z ∙ ap (λ b. bytes_eq (one_key m q x) k || b) (none_low m (q + 1) xs k (omega (arith, mark_is (2 + q) n (o ∷ []))))
+    ∙ or_false (bytes_eq (one_key m q x) k) ∙ same_bools (bytes_eq (one_key m q x) k) (same_name m n && nat_eq x o) to from
+  where
+    k : List ℕ
+    k = one_key n q o
+
+    to : bytes_eq (one_key m q x) k ≡ true → (same_name m n && nat_eq x o) ≡ true
+    to e =
+        let h = heads (2 + q) m n (x ∷ []) (o ∷ []) (key_is (one_key m q x) k e) in
+        let same : x ≡ o = let f = h.1 in cc in
+        and_both (same_name m n) (nat_eq x o) (ap (λ a. same_name a n) h.0 ∙ name_itself n) (eq-eqb x o same)
+
+    from : (same_name m n && nat_eq x o) ≡ true → bytes_eq (one_key m q x) k ≡ true
+    from e =
+        let b = both_true (same_name m n) (nat_eq x o) e in
+        let same : one_key m q x ≡ k = ap (λ a. one_key a q x) (name_is m n b.0) ∙ ap (one_key n q) (eqb-true x o b.1) in
+        ap (λ j. bytes_eq j k) same ∙ key_itself k
+ones m n q (suc j) o (x ∷ xs) =
+    let z : q + suc j ≡ q + 1 + j = omega arith in
+    let k = one_key n (q + suc j) o in
+    let mark = mark_is (2 + (q + suc j)) n (o ∷ []) in
+    ap (λ b. b || has_one m (q + 1) xs k) (apart k (2 + q) m (x ∷ []) (λ e. absurd (omega (arith, e, mark))))
+    ∙ ap (λ p. has_one m (q + 1) xs (one_key n p o)) z ∙ ones m n (q + 1) j o xs
 
 -- a child has the key of a subtask that it may do, and of no other
-with_objects : (n : TaskName) (ts : List Term) (c : Work) → (bytes_eq (key_head false c.name) (key_head true n ++ map (object_of []) ts) || bytes_eq (work_key c) (key_head true n ++ map (object_of []) ts)) ≡ (same_name c.name n && same_values [] ts c.objects)
+with_objects : (n : TaskName) (ts : List Term) (c : Work) → has_key (key_head 1 n ++ map (object_of []) ts) (Some c) ≡ (same_name c.name n && same_values [] ts c.objects)
 with_objects n ts c =
-    let k = key_head true n ++ map (object_of []) ts in
-    rw (no_name (bytes_eq (key_head false c.name) k) refl)
-    (same_bools (bytes_eq (work_key c) k) (same_name c.name n && same_values [] ts c.objects)
-    (λ e. let h = heads true c.name n c.objects (map (object_of []) ts) (key_is (work_key c) k e) in
-    and_both (same_name c.name n) (same_values [] ts c.objects) (ap (λ m. same_name m n) h.0 ∙ name_itself n) (values_to [] ts c.objects (sym h.1)))
-    (λ e. let b = both_true (same_name c.name n) (same_values [] ts c.objects) e in
-    let same : work_key c ≡ k = ap (λ m. key_head true m ++ c.objects) (name_is c.name n b.0) ∙ ap (λ os. key_head true n ++ os) (sym (values_from [] ts c.objects b.1)) in
-    ap (λ j. bytes_eq j k) same ∙ key_itself k))
+    ap (λ b. b || (bytes_eq (work_key c) k || has_one c.name 0 c.objects k)) (no_name k c.name (λ e. absurd (omega (arith, e, mark))))
+    ∙ ap (λ b. bytes_eq (work_key c) k || b) (none_low c.name 0 c.objects k (omega (arith, mark))) ∙ or_false (bytes_eq (work_key c) k)
+    ∙ same_bools (bytes_eq (work_key c) k) (same_name c.name n && same_values [] ts c.objects) to from
   where
-    no_name : (b : Bool) → bytes_eq (key_head false c.name) (key_head true n ++ map (object_of []) ts) ≡ b → b ≡ false
-    no_name true e = let f = apart (key_head true n ++ map (object_of []) ts) c.name n (map (object_of []) ts) e in let g = key_itself (key_head true n ++ map (object_of []) ts) in cc
-    no_name false e = refl
+    k : List ℕ
+    k = key_head 1 n ++ map (object_of []) ts
 
-with_name : (n : TaskName) (c : Work) → (bytes_eq (key_head false c.name) (key_head false n) || bytes_eq (work_key c) (key_head false n)) ≡ (same_name c.name n && true)
+    mark : mark_of k ≡ 1
+    mark = mark_is 1 n (map (object_of []) ts)
+
+    to : bytes_eq (work_key c) k ≡ true → (same_name c.name n && same_values [] ts c.objects) ≡ true
+    to e =
+        let h = heads 1 c.name n c.objects (map (object_of []) ts) (key_is (work_key c) k e) in
+        and_both (same_name c.name n) (same_values [] ts c.objects) (ap (λ m. same_name m n) h.0 ∙ name_itself n) (values_to [] ts c.objects (sym h.1))
+
+    from : (same_name c.name n && same_values [] ts c.objects) ≡ true → bytes_eq (work_key c) k ≡ true
+    from e =
+        let b = both_true (same_name c.name n) (same_values [] ts c.objects) e in
+        let same : work_key c ≡ k = ap (λ m. key_head 1 m ++ c.objects) (name_is c.name n b.0) ∙ ap (λ os. key_head 1 n ++ os) (sym (values_from [] ts c.objects b.1)) in
+        ap (λ j. bytes_eq j k) same ∙ key_itself k
+
+with_name : (n : TaskName) (c : Work) → has_key (key_head 0 n) (Some c) ≡ (same_name c.name n && true)
 with_name n c =
-    let other = apart (key_head false n) n c.name c.objects (key_itself (key_head false n)) in
-    rw other (same_bools (bytes_eq (key_head false c.name) (key_head false n) || false) (same_name c.name n && true)
-    (λ e. let h = heads false c.name n [] [] (ap (λ l. l ++ []) (key_is (key_head false c.name) (key_head false n) (left (bytes_eq (key_head false c.name) (key_head false n)) e))) in
-    and_both (same_name c.name n) true (ap (λ m. same_name m n) h.0 ∙ name_itself n) refl)
-    (λ e. let b = both_true (same_name c.name n) true e in
-    let same : bytes_eq (key_head false c.name) (key_head false n) ≡ true = ap (λ m. bytes_eq (key_head false m) (key_head false n)) (name_is c.name n b.0) ∙ key_itself (key_head false n) in
-    ap (λ x. x || false) same))
+    ap (λ b. bytes_eq (key_head 0 c.name) k || (b || has_one c.name 0 c.objects k)) (apart k 1 c.name c.objects (λ e. absurd (omega (arith, e, mark))))
+    ∙ ap (λ b. bytes_eq (key_head 0 c.name) k || b) (none_low c.name 0 c.objects k (omega (arith, mark))) ∙ or_false (bytes_eq (key_head 0 c.name) k)
+    ∙ same_bools (bytes_eq (key_head 0 c.name) k) (same_name c.name n && true) to from
   where
-    left : (b : Bool) → (b || false) ≡ true → b ≡ true
-    left true e = refl
-    left false e = e
+    k : List ℕ
+    k = key_head 0 n
+
+    mark : mark_of k ≡ 0
+    mark = name_mark n k (key_itself k)
+
+    to : bytes_eq (key_head 0 c.name) k ≡ true → (same_name c.name n && true) ≡ true
+    to e =
+        let h = heads 0 c.name n [] [] (ap (λ l. l ++ []) (key_is (key_head 0 c.name) k e)) in
+        and_both (same_name c.name n) true (ap (λ m. same_name m n) h.0 ∙ name_itself n) refl
+
+    from : (same_name c.name n && true) ≡ true → bytes_eq (key_head 0 c.name) k ≡ true
+    from e =
+        let b = both_true (same_name c.name n) true e in
+        ap (λ m. bytes_eq (key_head 0 m) k) (name_is c.name n b.0) ∙ key_itself k
+
+with_one : (n : TaskName) (p o : ℕ) (c : Work) → has_key (one_key n p o) (Some c) ≡ (same_name c.name n && stands_there (Some (p, o)) c.objects)
+with_one n p o c =
+    let k = one_key n p o in
+    let mark = mark_is (2 + p) n (o ∷ []) in
+    let z : 0 + p ≡ p = omega arith in
+    let so : has_one c.name 0 c.objects k ≡ (same_name c.name n && stands_there (Some (p, o)) c.objects) = sym (ap (λ r. has_one c.name 0 c.objects (one_key n r o)) z) ∙ ones c.name n 0 p o c.objects in
+    ap (λ b. b || (bytes_eq (work_key c) k || has_one c.name 0 c.objects k)) (no_name k c.name (λ e. absurd (omega (arith, e, mark))))
+    ∙ ap (λ b. b || has_one c.name 0 c.objects k) (apart k 1 c.name c.objects (λ e. absurd (omega (arith, e, mark)))) ∙ so
 
 pub key_says : (s : Subtask) (c : Option Work) → has_key (subtask_key s) c ≡ may_do s c
 key_says s None = refl
 key_says s (Some c) = go (is_ground s.terms)
   where
-    go : (b : Bool) → has_key (if b then key_head true s.name ++ map (object_of []) s.terms else key_head false s.name) (Some c) ≡ (same_name c.name s.name && (if b then same_values [] s.terms c.objects else true))
+    fixed : (o : Option (ℕ × ℕ)) → has_key (key_at s.name o) (Some c) ≡ (same_name c.name s.name && stands_there o c.objects)
+    fixed None = with_name s.name c
+    fixed (Some f) = with_one s.name f.0 f.1 c
+
+    go : (b : Bool) → has_key (if b then key_head 1 s.name ++ map (object_of []) s.terms else key_at s.name (first_fixed 0 s.terms)) (Some c) ≡ (same_name c.name s.name && (if b then same_values [] s.terms c.objects else stands_there (first_fixed 0 s.terms) c.objects))
     go true = with_objects s.name s.terms c
-    go false = with_name s.name c
+    go false = fixed (first_fixed 0 s.terms)
 
 -- the numbers of keys
 
@@ -202,13 +317,21 @@ row_within ss cs j x m = go (slice_get ss j) m
     go None m = absurd (none_in_empty x m)
     go (Some s) m = omega (arith, (places_within (may_do s) 0 cs x m).1)
 
--- a key without objects begins with 0
-named_head : (s : Subtask) → is_ground s.terms ≡ false → get_or (subtask_key s) 0 1 ≡ 0
-named_head s e = rw e (go s.name)
+-- the key of a subtask is looked for
+key_sought : (s : Subtask) (exact : Bool) (width : ℕ) → (exact ≡ false → is_ground s.terms ≡ false) → IsFixedBelow width s → (exact ≡ false → mark_of (subtask_key s) ≢ 1) × (mark_of (subtask_key s) < 2 + width)
+key_sought s exact width named below = go (is_ground s.terms) refl
   where
-    go : (n : TaskName) → get_or (key_head false n) 0 1 ≡ 0
-    go (compound t) = refl
-    go (primitive a) = refl
+    fixed : (o : Option (ℕ × ℕ)) → ((p x : ℕ) → o ≡ Some (p, x) → p < width) → (exact ≡ false → mark_of (key_at s.name o) ≢ 1) × (mark_of (key_at s.name o) < 2 + width)
+    fixed None h = let mark = name_mark s.name (key_head 0 s.name) (key_itself (key_head 0 s.name)) in ((λ x e. absurd (omega (arith, e, mark))), omega (arith, mark))
+    fixed (Some f) h = let mark = mark_is (2 + f.0) s.name (f.1 ∷ []) in ((λ x e. absurd (omega (arith, e, mark))), omega (arith, mark, h f.0 f.1 refl))
+
+    go : (b : Bool) → is_ground s.terms ≡ b →
+        (exact ≡ false → mark_of (if b then key_head 1 s.name ++ map (object_of []) s.terms else key_at s.name (first_fixed 0 s.terms)) ≢ 1)
+        × (mark_of (if b then key_head 1 s.name ++ map (object_of []) s.terms else key_at s.name (first_fixed 0 s.terms)) < 2 + width)
+    go true e =
+        let mark = mark_is 1 s.name (map (object_of []) s.terms) in
+        ((λ x f. true≢false (sym e ∙ named x)), omega (arith, mark))
+    go false e = fixed (first_fixed 0 s.terms) (below e)
 
 pub placed : (ks : Bor RowKeys) (ss : List Subtask) (cs : List (Option Work)) (rows : List (Vec ℕ)) (ls : List (List ℕ)) → AreKeys ss ks.now → AreRows ks.now cs rows → ls ≡ map (λ v. v.items) rows →
     AreChildRows ss cs (record { keys = ks; rows = ls; is_by_subtask = false })
@@ -216,7 +339,7 @@ placed ks ss cs rows ls keys are same j s h =
     let r = number_at ks.now.keys.keys ss ks.now.row_of.items keys.numbers j s h in
     ap (λ (o : Option ℕ). elim o [ None ↦ [] | Some i ↦ get_or ls i [] ]) r.1
     ∙ ap (λ (l : List (List ℕ)). get_or l r.0 []) same
-    ∙ are (subtask_key s) r.0 (λ e. named_head s (keys.named e j s h)) r.2
+    ∙ are (subtask_key s) r.0 (key_sought s ks.now.is_exact ks.now.width (λ e. keys.named e j s h) (keys.fixed j s h)) r.2
     ∙ places_same (has_key (subtask_key s)) (may_do s) (key_says s) 0 cs
 
 -- a row for each subtask
@@ -274,22 +397,44 @@ put_there keys rows was now key at place k i found other lt more = ap (λ (ls : 
 pub written_back : {X : Type 0} (n : ℕ) (new old : List X) → length new ≡ length old → length old ≡ n → take n (new ++ drop (length new) old) ≡ new
 written_back n new old e f = rw (drop_all (length new) old (omega (arith, e)), append-nil new) (take_all n new (omega (arith, e, f)))
 
--- one child more
+-- what stands behind, for one of two reasons
 two_puts : (a b : Bool) (place : ℕ) (l : List ℕ) → (a ≡ true → b ≡ false) → (l ++ (if a then place ∷ [] else [])) ++ (if b then place ∷ [] else []) ≡ l ++ (if a || b then place ∷ [] else [])
 two_puts true b place l h = rw (h refl) (append-nil (l ++ place ∷ []))
 two_puts false b place l h = rw (append-nil l) refl
 
-pub child_put : (ks : RowKeys) (old mid new : List (Vec ℕ)) (c : Work) (name : List ℕ) (place : ℕ) (cs : List (Option Work)) → name ≡ key_head false c.name → length cs ≡ place →
-    HasPut ks.keys.keys name place old mid → HasPutExact ks c place mid new → AreRows ks cs old → AreRows ks (cs ++ Some c ∷ []) new
-child_put ks old mid new c name place cs en size f g are k i sought e =
+pub child_put : (ks : RowKeys) (old mid more new : List (Vec ℕ)) (c : Work) (name : List ℕ) (place : ℕ) (cs : List (Option Work)) → name ≡ key_head 0 c.name → length cs ≡ place →
+    HasPut ks.keys.keys name place old mid → HasPutExact ks c place mid more → HasPutOnes ks c place more new → AreRows ks cs old → AreRows ks (cs ++ Some c ∷ []) new
+child_put ks old mid more new c name place cs en size f g h are k i sought e =
     let z : 0 + length cs ≡ place = omega (arith, size) in
     let first = f k i e in
     let first' = rw (en, are k i sought e) at first in
     let second = g k i sought e in
     let second' = rw first' at second in
+    let third = h k i sought e in
+    let third' = rw second' at third in
     let end = places_end (has_key k) 0 cs (Some c) in
     let end' = rw z at end in
-    second' ∙ two_puts (bytes_eq (key_head false c.name) k) (bytes_eq (work_key c) k) place (places_where (has_key k) 0 cs) (apart k c.name c.name c.objects) ∙ sym end'
+    third' ∙ two_puts b d place (l ++ (if a then place ∷ [] else [])) none_of_all ∙ two_puts a (b || d) place l none_of_name ∙ sym end'
+  where
+    l : List ℕ
+    l = places_where (has_key k) 0 cs
+
+    a : Bool
+    a = bytes_eq (key_head 0 c.name) k
+
+    b : Bool
+    b = bytes_eq (work_key c) k
+
+    d : Bool
+    d = has_one c.name 0 c.objects k
+
+    none_of_all : b ≡ true → d ≡ false
+    none_of_all t = let mark = mark_from 1 c.name c.objects k t in none_low c.name 0 c.objects k (omega (arith, mark))
+
+    none_of_name : a ≡ true → (b || d) ≡ false
+    none_of_name t =
+        let mark = name_mark c.name k t in
+        ap (λ x. x || d) (apart k 1 c.name c.objects (λ m. absurd (omega (arith, m, mark)))) ∙ none_low c.name 0 c.objects k (omega (arith, mark))
 
 pub none_put : (ks : RowKeys) (rows : List (Vec ℕ)) (cs : List (Option Work)) → AreRows ks cs rows → AreRows ks (cs ++ None ∷ []) rows
 none_put ks rows cs are k i sought e = are k i sought e ∙ sym (places_end (has_key k) 0 cs None ∙ append-nil (places_where (has_key k) 0 cs))
@@ -300,15 +445,45 @@ exact_put ks old new c key place same f k i sought e = f k i e ∙ ap (λ (j : L
 
 -- or there is none to be looked for
 pub none_exact : (ks : RowKeys) (rows : List (Vec ℕ)) (c : Work) (place : ℕ) → ks.is_exact ≡ false → HasPutExact ks c place rows rows
-none_exact ks rows c place none k i sought e = rw (go (bytes_eq (work_key c) k) refl) (sym (append-nil (row_at rows i)))
-  where
-    clash : (n : TaskName) → key_head true n ++ c.objects ≡ k → ⊥
-    clash (compound t) f = let g : get_or (1 ∷ 0 ∷ t ∷ c.objects) 0 1 ≡ 0 = ap (λ (l : List ℕ). get_or l 0 1) f ∙ sought none in cc
-    clash (primitive a) f = let g : get_or (1 ∷ 1 ∷ a ∷ c.objects) 0 1 ≡ 0 = ap (λ (l : List ℕ). get_or l 0 1) f ∙ sought none in cc
+none_exact ks rows c place none k i sought e =
+    rw (apart k 1 c.name c.objects (λ m. sought.0 none m)) (sym (append-nil (row_at rows i)))
 
-    go : (b : Bool) → bytes_eq (work_key c) k ≡ b → bytes_eq (work_key c) k ≡ false
-    go true f = absurd (clash c.name (key_is (work_key c) k f))
-    go false f = f
+-- keys with one object, one after another
+pub no_ones : (keys rows : List (Vec ℕ)) (n : TaskName) (place : ℕ) → HavePutOnes keys n [] place rows rows
+no_ones keys rows n place k i e = sym (append-nil (row_at rows i))
+
+pub ones_put : (keys old mid new : List (Vec ℕ)) (n : TaskName) (os : List ℕ) (x place : ℕ) (key : List ℕ) → key ≡ one_key n (length os) x → HavePutOnes keys n os place old mid → HasPut keys key place mid new → HavePutOnes keys n (os ++ x ∷ []) place old new
+ones_put keys old mid new n os x place key is so_far put k i e =
+    let now = put k i e in
+    let now' = rw (is, so_far k i e) at now in
+    now' ∙ two_puts (has_one n 0 os k) (bytes_eq (one_key n (length os) x) k) place (row_at old i) another
+    ∙ ap (λ b. row_at old i ++ (if b then place ∷ [] else [])) (sym (one_more n 0 os x k ∙ ap (λ p. has_one n 0 os k || bytes_eq (one_key n p x) k) z))
+  where
+    z : 0 + length os ≡ length os
+    z = omega arith
+
+    another : has_one n 0 os k ≡ true → bytes_eq (one_key n (length os) x) k ≡ false
+    another t = let low = one_mark n 0 os k t in apart k (2 + length os) n (x ∷ []) (λ m. absurd (omega (arith, m, low)))
+
+-- as far as they are looked for
+pub ones_sought : (ks : RowKeys) (c : Work) (place count : ℕ) (old new : List (Vec ℕ)) → (length c.objects ≤ count) ⊎ (ks.width ≤ count) → HavePutOnes ks.keys.keys c.name (take count c.objects) place old new → HasPutOnes ks c place old new
+ones_sought ks c place count old new enough put k i sought e =
+    put k i e ∙ ap (λ b. row_at old i ++ (if b then place ∷ [] else [])) (elim enough [
+      | inl all ↦ ap (λ os. has_one c.name 0 os k) (take_all count c.objects all)
+      | inr wide ↦ first_of_them c.name 0 count c.objects k (omega (arith, wide, sought.1))
+    ])
+
+pub enough : (os : List ObjectId) (width count : ℕ) → count ≡ min (length os) width → (length (map object_number os) ≤ count) ⊎ (width ≤ count)
+enough os width count e = go (least_one (length os) width)
+  where
+    least_one : (a b : ℕ) → (a ≤ min a b) ⊎ (b ≤ min a b)
+    least_one zero b = inl (omega arith)
+    least_one (suc a) zero = inr (omega arith)
+    least_one (suc a) (suc b) = elim (least_one a b) [ inl h ↦ inl (omega (arith, h)) | inr h ↦ inr (omega (arith, h)) ]
+
+    go : (length os ≤ min (length os) width) ⊎ (width ≤ min (length os) width) → (length (map object_number os) ≤ count) ⊎ (width ≤ count)
+    go (inl h) = inl (omega (arith, h, e, length-map os object_number))
+    go (inr h) = inr (omega (arith, h, e))
 
 -- clones of an empty row are empty
 none_paired : (R : ℕ → ℕ → Type 0) (xs ys : List ℕ) → xs ≡ [] → AllZip R xs ys → ys ≡ []
@@ -324,3 +499,14 @@ all_empty v [] a e i = refl
 all_empty v (r ∷ rows) (inl f, a) e zero = ap (λ (u : Vec ℕ). u.items) f ∙ e
 all_empty v (r ∷ rows) (inr k, a) e zero = none_paired (λ x y. y ≡ x) v.items r.items e k.0
 all_empty v (r ∷ rows) (k, a) e (suc i) = all_empty v rows a e i
+
+-- the first objects of subtasks stand below a position, and so below a greater one
+pub fixed_wider : (v u : ℕ) (s : Subtask) → v ≤ u → IsFixedBelow v s → IsFixedBelow u s
+fixed_wider v u s le h e p o f = omega (arith, h e p o f, le)
+
+-- one subtask more
+pub fixed_more : (w v u : ℕ) (ss : List Subtask) (s : Subtask) → w ≤ u → v ≤ u → AreFixedBelow w ss → IsFixedBelow v s → AreFixedBelow u (ss ++ s ∷ [])
+fixed_more w v u [] s le me h f zero t g = let same : s ≡ t = cc in subst (IsFixedBelow u) same (fixed_wider v u s me f)
+fixed_more w v u [] s le me h f (suc j) t g = cc
+fixed_more w v u (x ∷ ss) s le me h f zero t g = fixed_wider w u t le (h zero t g)
+fixed_more w v u (x ∷ ss) s le me h f (suc j) t g = fixed_more w v u ss s le me (λ j t g. h (suc j) t g) f j t g

@@ -1,12 +1,12 @@
 //! The places of the children that may do the subtasks.
 
-ghost use Rattle.std.specs.Prelude.{◌≡◌, ◌++◌, [], length, map, false, option_map, IfOk, OnOk};
+ghost use Rattle.std.specs.Prelude.{◌≡◌, ◌<◌, ◌≤◌, ◌⊎◌, ◌+◌, ◌^◌, ◌++◌, [], length, map, false, option_map, IfOk, IfSome, OnOk};
 ghost use Rattle.hv_world.specs.Alike as alike;
 ghost use Rattle.hv_world.specs.Bindings.{object_number, object_of};
 ghost use Rattle.hv_world.specs.Views.{name_view, term_view, subtask_view};
 ghost use Rattle.hv_match.specs.inside.Puzzles as puzzles;
 ghost use Rattle.hv_match.specs.inside.Tables as tables;
-ghost use Rattle.hv_match.specs.inside.Tables.{work_view, AreChildRowsBy, AreKeyNumbers, AreKeys, AreNamed, AreOwnRows, ArePlaces, AreRows, AreSizes, CountsOnce, HasPut, HasPutChild, HasPutExact, IsKeyNumber, KeepNumbers};
+ghost use Rattle.hv_match.specs.inside.Tables.{work_view, AreChildRowsBy, AreFixedBelow, AreKeyNumbers, AreKeys, AreNamed, AreOwnRows, ArePlaces, AreRows, AreSizes, CountsOnce, HasPut, HasPutChild, HasPutExact, HasPutOnes, IsFixedBelow, IsKeyNumber, KeepNumbers};
 
 use crate::puzzle::{Work, are_values, same_name, value};
 use hv_text::{Lists, Memory, Seeded};
@@ -25,8 +25,10 @@ pub(crate) struct RowKeys {
     row_of: Vec<usize>,
     // For each key how many subtasks have it.
     sizes: Vec<usize>,
-    // Whether some key has objects.
+    // Whether some key has all objects.
     is_exact: bool,
+    // The position of the object of a key that has just one is below this.
+    width: usize,
 }
 
 impl RowKeys {
@@ -85,6 +87,67 @@ fn is_object(term: Term) -> bool
     matches!(term, Term::Object(_))
 }
 
+// The first term that is an object, and its position.
+fn first_fixed(terms: &[Term]) -> Option<(usize, ObjectId)>
+    ensures first { option_map (λ f. (f.0, f.1.0)) result
+        ≡ puzzles.first_fixed 0 (map term_view terms.now) }
+    ensures small { IfSome result (λ f. f.0 + 2 < 2 ^ 64) }
+{
+    for (position, term) in terms.iter().enumerate() {
+        if let Term::Object(object) = term {
+            return Some((position, *object));
+        }
+    }
+    None
+}
+
+// Whether the object of a term is the one at its position, if a term is given.
+fn stands_there(fixed: Option<(usize, ObjectId)>, objects: &[ObjectId]) -> bool
+    ensures { result ≡ puzzles.stands_there (option_map (λ f. (f.0, f.1.0)) fixed)
+        (map object_number objects.now) }
+{
+    match fixed {
+        None => true,
+        Some((position, object)) => match objects.get(position) {
+            None => false,
+            Some(other) => other.0 == object.0,
+        },
+    }
+}
+
+// The greater of two numbers.
+fn greater(a: usize, b: usize) -> usize
+    ensures left { a ≤ result }
+    ensures right { b ≤ result }
+    ensures one { (result ≡ a) ⊎ (result ≡ b) }
+{
+    if a < b { b } else { a }
+}
+
+// Below which position each subtask that has not objects alone has the first of them.
+fn width_of(subtasks: &[Subtask]) -> usize
+    ensures { AreFixedBelow result (map subtask_view subtasks.now) }
+{
+    let mut width = 0;
+    for subtask in subtasks {
+        width = greater(width, width_for(subtask));
+    }
+    width
+}
+
+// The same of one subtask.
+fn width_for(subtask: &Subtask) -> usize
+    ensures { IsFixedBelow result (subtask_view subtask.now) }
+{
+    if is_ground(&subtask.terms) {
+        return 0;
+    }
+    match first_fixed(&subtask.terms) {
+        Some((position, _)) => position.saturating_add(1),
+        None => 0,
+    }
+}
+
 // Whether there is a subtask whose terms are all objects.
 fn has_ground(subtasks: &[Subtask]) -> bool
     ensures { result ≡ false → AreNamed (map subtask_view subtasks.now) }
@@ -97,11 +160,17 @@ fn has_ground(subtasks: &[Subtask]) -> bool
     false
 }
 
-// Writes down what a key with this name begins with, where `is_exact` says whether objects follow.
-fn write_head(key: &mut Vec<usize>, name: TaskName, is_exact: bool) -> Result<(), Memory>
-    ensures { OnOk result (key.new.items ≡ tables.key_head is_exact (name_view name)) }
+// What a key with a name alone, with all objects, and with the one at the first position begins with.
+const NAME: usize = 0;
+
+const ALL: usize = 1;
+
+const FIRST: usize = 2;
+
+// Writes down what a key with this name begins with; the mark says what follows.
+fn write_head(key: &mut Vec<usize>, name: TaskName, mark: usize) -> Result<(), Memory>
+    ensures { OnOk result (key.new.items ≡ tables.key_head mark (name_view name)) }
 {
-    let mark = if is_exact { 1 } else { 0 };
     let (kind, number) = match name {
         TaskName::Compound(task) => (0, task.0),
         TaskName::Primitive(action) => (1, action.0),
@@ -138,20 +207,52 @@ fn push_terms(key: &mut Vec<usize>, terms: &[Term]) -> Result<(), Memory>
 fn write_key(key: &mut Vec<usize>, work: Work<'_>) -> Result<(), Memory>
     ensures { OnOk result (key.new.items ≡ tables.work_key (work_view work.entry)) }
 {
-    write_head(key, work.name, true)?;
+    write_head(key, work.name, ALL)?;
     push_objects(key, work.objects)?;
     Ok(())
 }
 
-// The key of a subtask, with its objects where all its terms are objects.
+// Writes down the key of a name with an object at a position.
+fn write_one(
+    key: &mut Vec<usize>,
+    name: TaskName,
+    position: usize,
+    object: ObjectId,
+) -> Result<(), Memory>
+    requires { position + 2 < 2 ^ 64 }
+    ensures { OnOk result (key.new.items ≡ tables.one_key (name_view name) position object.0) }
+{
+    write_head(key, name, FIRST + position)?;
+    key.push(object.0)?;
+    Ok(())
+}
+
+// Writes down the key of a name with the object of a term, if one is given.
+fn write_fixed(
+    key: &mut Vec<usize>,
+    name: TaskName,
+    fixed: Option<(usize, ObjectId)>,
+) -> Result<(), Memory>
+    requires { IfSome fixed (λ f. f.0 + 2 < 2 ^ 64) }
+    ensures { OnOk result (key.new.items
+        ≡ tables.key_at (name_view name) (option_map (λ f. (f.0, f.1.0)) fixed)) }
+{
+    match fixed {
+        None => write_head(key, name, NAME),
+        Some((position, object)) => write_one(key, name, position, object),
+    }
+}
+
+// The key of a subtask, with its objects where all its terms are objects, or else with the first.
 fn subtask_key(alloc: Global, subtask: &Subtask) -> Result<Vec<usize>, Memory>
     ensures { IfOk result (λ v. v.items ≡ tables.subtask_key (subtask_view subtask.now)) }
 {
-    let is_exact = is_ground(&subtask.terms);
     let mut key = Vec::new(alloc);
-    write_head(&mut key, subtask.name, is_exact)?;
-    if is_exact {
+    if is_ground(&subtask.terms) {
+        write_head(&mut key, subtask.name, ALL)?;
         push_terms(&mut key, &subtask.terms)?;
+    } else {
+        write_fixed(&mut key, subtask.name, first_fixed(&subtask.terms))?;
     }
     Ok(key)
 }
@@ -204,7 +305,7 @@ fn put(
     Ok(())
 }
 
-// The same for the key of what a child does, where some key has objects.
+// The same for the key of what a child does, where some key has all objects.
 fn put_exact(
     keys: &RowKeys,
     rows: &mut [Vec<usize>],
@@ -225,6 +326,27 @@ fn put_exact(
     Ok(())
 }
 
+// The same for the keys of its name with one of its objects, as far as there may be such keys.
+fn put_ones(
+    keys: &RowKeys,
+    rows: &mut [Vec<usize>],
+    key: &mut Vec<usize>,
+    work: Work<'_>,
+    place: usize,
+) -> Result<(), Memory>
+    requires { length rows.old ≡ length keys.now.keys.keys }
+    ensures size { OnOk result (length rows.new ≡ length rows.old) }
+    ensures rows { OnOk result (HasPutOnes keys.now (work_view work.entry) place rows.old
+        rows.new) }
+{
+    let count = work.objects.len().min(keys.width);
+    for (position, object) in work.objects[..count].iter().enumerate() {
+        write_one(key, work.name, position, *object)?;
+        put(&keys.keys, rows, key.as_slice(), place)?;
+    }
+    Ok(())
+}
+
 // Takes account of one child more. The keys looked for are written down in `key`.
 fn put_child(
     keys: &RowKeys,
@@ -239,9 +361,10 @@ fn put_child(
         (HasPutChild keys.now (option_map work_view child.entry) place rows.old rows.new) }
 {
     if let Some(work) = child {
-        write_head(key, work.name, false)?;
+        write_head(key, work.name, NAME)?;
         put(&keys.keys, rows, key.as_slice(), place)?;
         put_exact(keys, rows, key, work, place)?;
+        put_ones(keys, rows, key, work, place)?;
     }
     Ok(())
 }
@@ -275,7 +398,7 @@ fn in_one(alloc: Global, rows: &[Vec<usize>]) -> Result<Lists<usize>, Memory>
 }
 
 // Whether a child may do a subtask, by its name, and, where all terms of the subtask are objects,
-// by its objects.
+// by its objects, or else by that of its objects that the first such term tells.
 fn may_do(subtask: &Subtask, child: Option<Work<'_>>) -> bool
     ensures { result ≡ puzzles.may_do (subtask_view subtask.now)
         (option_map work_view child.entry) }
@@ -284,7 +407,11 @@ fn may_do(subtask: &Subtask, child: Option<Work<'_>>) -> bool
         None => false,
         Some(work) => {
             same_name(work.name, subtask.name)
-                && (!is_ground(&subtask.terms) || are_values(&[], &subtask.terms, work.objects))
+                && if is_ground(&subtask.terms) {
+                    are_values(&[], &subtask.terms, work.objects)
+                } else {
+                    stands_there(first_fixed(&subtask.terms), work.objects)
+                }
         }
     }
 }
@@ -354,11 +481,13 @@ pub(crate) fn row_keys(alloc: Global, subtasks: &[Subtask]) -> Result<RowKeys, M
     let row_of = key_numbers(alloc, &mut keys, subtasks)?;
     let sizes = sizes(alloc, keys.len(), &row_of)?;
     let is_exact = has_ground(subtasks);
+    let width = width_of(subtasks);
     Ok(RowKeys {
         keys,
         row_of,
         sizes,
         is_exact,
+        width,
     })
 }
 

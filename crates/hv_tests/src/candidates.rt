@@ -140,12 +140,43 @@ const TWENTY_ONE_ACTS: &[u8] =
     12 act\n13 act\n14 act\n15 act\n16 act\n17 act\n18 act\n19 act\n20 act\n21 act\n\
     root 1 2 3 4 5 6 7 8 9 10 11 12 13 14 15 16 17 18 19 20 21\n<==";
 
+// Subtasks of one name that each say one of two objects, and not the same one.
+const GIVING: &[u8] = b"(define (domain giving) (:action give :parameters (?a ?b)))";
+
+const GIVE_NINE: &[u8] = b"(define (problem nine)\n\
+    (:domain giving)\n\
+    (:objects o1 o2 o3 o4 o5)\n\
+    (:htn :parameters (?x ?y) :subtasks (and\n\
+    (give o1 ?x) (give o2 ?x) (give ?y o1) (give ?y o2) (give o5 o5)\n\
+    (give o3 ?x) (give ?y o3) (give ?y o4) (give o4 ?x)))\n\
+    (:init))";
+
+const NINE_GIVEN: &[u8] = b"==>\n\
+    1 give o5 o3\n2 give o2 o5\n3 give o5 o5\n4 give o5 o1\n5 give o4 o5\n\
+    6 give o5 o4\n7 give o1 o5\n8 give o3 o5\n9 give o5 o2\n\
+    root 1 2 3 4 5 6 7 8 9\n<==";
+
+// The first object of a child is that of no subtask which is left for it.
+const ONE_GIVEN_TWICE: &[u8] = b"==>\n\
+    1 give o5 o3\n2 give o2 o5\n3 give o5 o5\n4 give o5 o1\n5 give o2 o5\n\
+    6 give o5 o4\n7 give o1 o5\n8 give o3 o5\n9 give o5 o2\n\
+    root 1 2 3 4 5 6 7 8 9\n<==";
+
+// The second object of two children is not the same.
+const ONE_GIVEN_TO_ANOTHER: &[u8] = b"==>\n\
+    1 give o5 o3\n2 give o2 o5\n3 give o5 o5\n4 give o5 o1\n5 give o4 o1\n\
+    6 give o5 o4\n7 give o1 o5\n8 give o3 o5\n9 give o5 o2\n\
+    root 1 2 3 4 5 6 7 8 9\n<==";
+
 #[test]
 fn candidates_are_as_many_as_the_examples_say(rt: HostRuntime) {
-    let questions: [(Question, u64, usize); 8] = [
+    let questions: [(Question, u64, usize); 11] = [
         ((TRANSPORT, ONE, PLAN1, Some(10)), 2, 1),
         ((TRANSPORT, ONE, PLAN1, None), 1, 1),
         ((TRANSPORT, THREE_TASKS, THREE_DONE, None), 1, 1),
+        ((GIVING, GIVE_NINE, NINE_GIVEN, None), 362_880, 1),
+        ((GIVING, GIVE_NINE, ONE_GIVEN_TWICE, None), 362_880, 0),
+        ((GIVING, GIVE_NINE, ONE_GIVEN_TO_ANOTHER, None), 362_880, 0),
         ((WIDE, THREE, LINE_5, Some(5)), 9, 9),
         ((WIDE, THREE, LINE_5, None), 1, 1),
         // of two parameters that stand in a constraint alone

@@ -1,7 +1,7 @@
 -- What the search for the candidates of a node works on, and what it tests.
 use Rattle.std.specs.Prelude.{◌≡◌, ◌<◌, ◌≤◌, ◌*◌, ℕ, ◌+◌, ◌-◌, Bool, true, false, not, ◌&&◌, List, [], ◌∷◌, ◌++◌, map, length, take, drop, nat_eq, slice_get, slice_index, slice_index_or, Option, Some, None, if◌then◌else◌, Contains}
 use Rattle.std.specs.List.{AllZip}
-use Rattle.hv_world.specs.Values.{Term, TaskName, Subtask, Constraint, Atom}
+use Rattle.hv_world.specs.Values.{Term, object, variable, TaskName, Subtask, Constraint, Atom}
 use Rattle.hv_world.specs.Bindings.{object_of}
 use Rattle.hv_world.specs.Alike.{same_name, is_variable, is_free, keys, is_object}
 use Rattle.hv_lists.specs.Lists.{Once}
@@ -84,10 +84,23 @@ same_values B [] [] = true
 same_values B (t ∷ ts) (o ∷ os) = nat_eq (object_of B t) o && same_values B ts os
 same_values B _ _ = false
 
--- whether a child may do a subtask, by its name, and, where all terms of the subtask are objects, by its objects
+-- the first of these terms that is an object, by its position, where that of the first of them is k, and its number
+abbrev pub first_fixed : ℕ → List Term → Option (ℕ × ℕ)
+first_fixed k [] = None
+first_fixed k (object o ∷ ts) = Some (k, o)
+first_fixed k (variable v ∷ ts) = first_fixed (k + 1) ts
+
+-- the object stands at the position, if one is asked for
+abbrev pub stands_there : Option (ℕ × ℕ) → List ℕ → Bool
+stands_there None os = true
+stands_there (Some f) os = elim (slice_get os f.0) [ None ↦ false | Some o ↦ nat_eq o f.1 ]
+
+-- whether a child may do a subtask, by its name, and, where all terms of the subtask are objects, by its objects, or
+-- else by that of its objects that the first such term tells
 abbrev pub may_do : Subtask → Option Work → Bool
 may_do s None = false
-may_do s (Some c) = same_name c.name s.name && (if is_ground s.terms then same_values [] s.terms c.objects else true)
+may_do s (Some c) =
+    same_name c.name s.name && (if is_ground s.terms then same_values [] s.terms c.objects else stands_there (first_fixed 0 s.terms) c.objects)
 
 -- the places of the children that pass a test, the first of the children at place k
 abbrev pub places_where : (Option Work → Bool) → ℕ → List (Option Work) → List ℕ

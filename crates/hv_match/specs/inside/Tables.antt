@@ -1,5 +1,5 @@
 -- What the tables of the search say.
-use Rattle.std.specs.Prelude.{◌≡◌, ◌<◌, ◌≤◌, ◌+◌, ◌++◌, ◌||◌, ℕ, suc, nat_eq, slice_index, Bool, true, false, List, [], ◌∷◌, map, length, Option, None, Some, option_map, slice_get, slice_index_or, if◌then◌else◌}
+use Rattle.std.specs.Prelude.{◌≡◌, ◌≢◌, ◌<◌, ◌≤◌, ◌+◌, ◌++◌, ◌||◌, ℕ, suc, nat_eq, slice_index, Bool, false, List, [], ◌∷◌, map, length, Option, None, Some, option_map, slice_get, slice_index_or, if◌then◌else◌}
 use Rattle.std.specs.Global.{Vec}
 use Rattle.std.specs.Str.{bytes_eq}
 use Rattle.hv_world.specs.Bindings.{object_number, object_of}
@@ -8,7 +8,7 @@ use Rattle.hv_world.specs.Alike.{is_variable}
 use Rattle.hv_world.specs.Views.{name_view, term_view, subtask_view}
 use Rattle.hv_world.specs.declared.formula.Subtask as code_subtask
 use Rattle.hv_world.specs.declared.formula.Term as code_term
-use Rattle.hv_match.specs.inside.Puzzles.{Work, work, is_ground, may_do, places_where, first_in, first_of, source_of}
+use Rattle.hv_match.specs.inside.Puzzles.{Work, work, is_ground, first_fixed, may_do, places_where, first_in, first_of, source_of}
 use Rattle.hv_match.specs.declared.puzzle.Work as code_work
 use Rattle.hv_match.specs.declared.child_rows.ChildRows.{ChildRows}
 use Rattle.hv_match.specs.declared.child_rows.RowKeys.{RowKeys}
@@ -17,23 +17,42 @@ use Rattle.hv_match.specs.declared.sources.Source.{Source}
 abbrev pub work_view : code_work.Work → Work
 work_view j = work (name_view j.name) (map object_number j.objects.now)
 
--- what a key with this name begins with, where b says whether objects follow
-abbrev pub key_head : Bool → TaskName → List ℕ
-key_head b (compound t) = (if b then 1 else 0) ∷ 0 ∷ t ∷ []
-key_head b (primitive a) = (if b then 1 else 0) ∷ 1 ∷ a ∷ []
+-- what a key with this name begins with; the mark says what follows: nothing for 0, all objects for 1, and else the one at
+-- the position that is 2 below the mark
+abbrev pub key_head : ℕ → TaskName → List ℕ
+key_head mark (compound t) = mark ∷ 0 ∷ t ∷ []
+key_head mark (primitive a) = mark ∷ 1 ∷ a ∷ []
+
+abbrev pub mark_of : List ℕ → ℕ
+mark_of k = slice_index_or k 0 0
+
+-- the key of a name with an object at a position
+abbrev pub one_key : TaskName → ℕ → ℕ → List ℕ
+one_key n p o = key_head (2 + p) n ++ o ∷ []
 
 -- the key of what a child does
 abbrev pub work_key : Work → List ℕ
-work_key c = key_head true c.name ++ c.objects
+work_key c = key_head 1 c.name ++ c.objects
 
--- the key of a subtask: that of what it says where all its terms are objects, and else that of its name
+-- the key of a name with the object of a term, if there is one
+abbrev pub key_at : TaskName → Option (ℕ × ℕ) → List ℕ
+key_at n None = key_head 0 n
+key_at n (Some f) = one_key n f.0 f.1
+
+-- the key of a subtask: that of what it says where all its terms are objects, and else that of its name with the first
+-- of its terms that is an object
 abbrev pub subtask_key : Subtask → List ℕ
-subtask_key s = if is_ground s.terms then key_head true s.name ++ map (object_of []) s.terms else key_head false s.name
+subtask_key s = if is_ground s.terms then key_head 1 s.name ++ map (object_of []) s.terms else key_at s.name (first_fixed 0 s.terms)
 
--- whether a child has this key, or its name has
+-- whether the name with one of these objects, the first of them at position p, has this key
+abbrev pub has_one : TaskName → ℕ → List ℕ → List ℕ → Bool
+has_one n p [] k = false
+has_one n p (o ∷ os) k = bytes_eq (one_key n p o) k || has_one n (p + 1) os k
+
+-- whether a child has this key, or its name has, alone or with one of its objects
 abbrev pub has_key : List ℕ → Option Work → Bool
 has_key k None = false
-has_key k (Some c) = bytes_eq (key_head false c.name) k || bytes_eq (work_key c) k
+has_key k (Some c) = bytes_eq (key_head 0 c.name) k || (bytes_eq (work_key c) k || has_one c.name 0 c.objects k)
 
 -- the number of a key among others
 abbrev pub number_of : List ℕ → List (Vec ℕ) → Option ℕ
@@ -43,9 +62,9 @@ number_of k (v ∷ vs) = if bytes_eq k v.items then Some 0 else option_map suc (
 abbrev pub row_at : List (Vec ℕ) → ℕ → List ℕ
 row_at rows i = slice_index_or (map (λ v. v.items) rows) i []
 
--- the key is looked for: it has no objects, or keys with objects are looked for too
+-- the key is looked for: it has not all objects, or such keys are looked for, and not one at too great a position
 abbrev pub IsSought : RowKeys → List ℕ → Type 0
-IsSought ks k = ks.is_exact ≡ false → slice_index_or k 0 1 ≡ 0
+IsSought ks k = (ks.is_exact ≡ false → mark_of k ≢ 1) × (mark_of k < 2 + ks.width)
 
 -- the row of each key that is looked for has the places of the children that have the key
 abbrev pub AreRows : RowKeys → List (Option Work) → List (Vec ℕ) → Type 0
@@ -68,6 +87,13 @@ KeepNumbers old new = (k : List ℕ) (i : ℕ) → number_of k old ≡ Some i �
 abbrev pub AreNamed : List Subtask → Type 0
 AreNamed ss = (j : ℕ) (s : Subtask) → slice_get ss j ≡ Some s → is_ground s.terms ≡ false
 
+-- a subtask has not objects alone for its terms, and then the first that it has stands below a position
+abbrev pub IsFixedBelow : ℕ → Subtask → Type 0
+IsFixedBelow width s = is_ground s.terms ≡ false → (p o : ℕ) → first_fixed 0 s.terms ≡ Some (p, o) → p < width
+
+abbrev pub AreFixedBelow : ℕ → List Subtask → Type 0
+AreFixedBelow width ss = (j : ℕ) (s : Subtask) → slice_get ss j ≡ Some s → IsFixedBelow width s
+
 -- how often a number stands among others
 abbrev pub how_often : ℕ → List ℕ → ℕ
 how_often i [] = 0
@@ -86,6 +112,7 @@ pub record AreKeys (ss : List Subtask) (k : RowKeys) : Type 0 where
   pub numbers : AreKeyNumbers k.keys.keys ss k.row_of.items
   pub sizes : AreSizes k.row_of.items k.sizes.items
   pub named : k.is_exact ≡ false → AreNamed ss
+  pub fixed : AreFixedBelow k.width ss
 
 -- the size of the key of the subtask of a number
 abbrev pub size_for : RowKeys → ℕ → ℕ
@@ -101,6 +128,17 @@ abbrev pub HasPutExact : RowKeys → Work → ℕ → List (Vec ℕ) → List (V
 HasPutExact ks c place old new =
     (k : List ℕ) (i : ℕ) → IsSought ks k → number_of k ks.keys.keys ≡ Some i
     → row_at new i ≡ row_at old i ++ (if bytes_eq (work_key c) k then place ∷ [] else [])
+
+-- the place of a child stands behind those of its name with one of these objects, where the rows are those of keys
+abbrev pub HavePutOnes : List (Vec ℕ) → TaskName → List ℕ → ℕ → List (Vec ℕ) → List (Vec ℕ) → Type 0
+HavePutOnes keys n os place old new =
+    (k : List ℕ) (i : ℕ) → number_of k keys ≡ Some i → row_at new i ≡ row_at old i ++ (if has_one n 0 os k then place ∷ [] else [])
+
+-- the same of all its objects, as far as such keys are looked for
+abbrev pub HasPutOnes : RowKeys → Work → ℕ → List (Vec ℕ) → List (Vec ℕ) → Type 0
+HasPutOnes ks c place old new =
+    (k : List ℕ) (i : ℕ) → IsSought ks k → number_of k ks.keys.keys ≡ Some i
+    → row_at new i ≡ row_at old i ++ (if has_one c.name 0 c.objects k then place ∷ [] else [])
 
 -- the rows take account of one child more
 abbrev pub HasPutChild : RowKeys → Option Work → ℕ → List (Vec ℕ) → List (Vec ℕ) → Type 0
