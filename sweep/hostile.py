@@ -219,6 +219,8 @@ def kind_of(end, other, seconds, others, longest):
     """What is said of a case: what it is kept for, or how it ended."""
     if "no end" in (end[0], other[0]) and min(seconds, others) > longest / 10:
         return "no end of both, or nearly so"
+    if other[0] == "no end" and isinstance(end[0], int) and end[0] >= 0:
+        return "no end of the other"
     if isinstance(end[0], int) and end[0] < 0:
         return "SIGNAL"
     if end != other:
