@@ -22,7 +22,7 @@ NAMES = ("domain", "problem", "plan", "certificate")
 # the texts that a command reads
 READS = {"judge": NAMES[:3], "recheck": NAMES, "print-domain": NAMES[:1], "print-problem": NAMES[1:2], "print-plan": NAMES[2:3]}
 
-Job = collections.namedtuple("Job", "name words library is_sampled")
+Job = collections.namedtuple("Job", "program name words library is_sampled")
 
 
 def write(path, text):
@@ -81,9 +81,16 @@ def contest(folder):
         yield "plan of contest size", words
 
 
+def library_in(folder):
+    """What is loaded before a program, so that one of its requests is refused."""
+    library = f"{folder}/refuse.so"
+    subprocess.run(["gcc", "-O2", "-shared", "-fPIC", "-o", library, f"{TOP}/sweep/refuse.c"], check=True)
+    return library
+
+
 def end_of(job, number, count=os.devnull):
     environment = {"PATH": os.environ["PATH"], "LD_PRELOAD": job.library, "COUNT": count, "REFUSE": str(number)}
-    run = subprocess.run([PROGRAM, *job.words], env=environment, capture_output=True, check=False)
+    run = subprocess.run([job.program, *job.words], env=environment, capture_output=True, check=False)
     return run.returncode, run.stdout, run.stderr
 
 
@@ -104,27 +111,33 @@ def sweep(job):
     return job, ends, wrong
 
 
-def main():
-    with tempfile.TemporaryDirectory() as folder, multiprocessing.Pool() as pool:
-        library = f"{folder}/refuse.so"
-        subprocess.run(["gcc", "-O2", "-shared", "-fPIC", "-o", library, f"{TOP}/sweep/refuse.c"], check=True)
-        rooms = [f"{folder}/{name}" for name in ("contest", "examples", "rows")]
-        for room in rooms:
-            os.mkdir(room)
-        jobs = [Job(name, words, library, True) for name, words in contest(rooms[0])]
-        jobs += [Job(name, words, library, False) for name, words in examples(rooms[1])]
-        for file in sorted(os.listdir(ROWS)):
-            room = f"{rooms[2]}/{file}"
-            os.mkdir(room)
-            jobs += [Job(name, words, library, False) for name, words in rows_of(f"{ROWS}/{file}", room)]
-        all_ends = collections.Counter()
+def sweep_all(jobs):
+    """Sweeps the commands, and says how their runs ended. Whether one ended otherwise than it may."""
+    all_ends = collections.Counter()
+    with multiprocessing.Pool() as pool:
         for job, ends, wrong in pool.imap_unordered(sweep, jobs):
             all_ends += ends
             if job.is_sampled or wrong:
                 print(job.name, job.words[0], *(f"{n} {end}" for end, n in sorted(ends.items())), sep=", ", flush=True)
             print(*wrong, sep="\n", end="\n" * bool(wrong))
-        print(f"{len(jobs)} commands", *(f"{n} {end}" for end, n in sorted(all_ends.items())), sep=", ")
-    sys.exit(all_ends["WRONG"] > 0)
+    print(f"{len(jobs)} commands", *(f"{n} {end}" for end, n in sorted(all_ends.items())), sep=", ")
+    return all_ends["WRONG"] > 0
+
+
+def main():
+    with tempfile.TemporaryDirectory() as folder:
+        library = library_in(folder)
+        rooms = [f"{folder}/{name}" for name in ("contest", "examples", "rows")]
+        for room in rooms:
+            os.mkdir(room)
+        jobs = [Job(PROGRAM, name, words, library, True) for name, words in contest(rooms[0])]
+        jobs += [Job(PROGRAM, name, words, library, False) for name, words in examples(rooms[1])]
+        for file in sorted(os.listdir(ROWS)):
+            room = f"{rooms[2]}/{file}"
+            os.mkdir(room)
+            jobs += [Job(PROGRAM, name, words, library, False) for name, words in rows_of(f"{ROWS}/{file}", room)]
+        failed = sweep_all(jobs)
+    sys.exit(failed)
 
 
 if __name__ == "__main__":

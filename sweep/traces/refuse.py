@@ -6,19 +6,17 @@ import os
 import sys
 import tempfile
 
-from run import TOP, build_library, sweep_all
+from run import TOP, Job, library_in, sweep_all
 
 HERE = os.path.dirname(os.path.abspath(__file__))
 
 
 def main():
-    failed = False
+    texts = [("yard", f"{HERE}/yard.hddl", f"{HERE}/yard-problem.hddl")]
+    texts += [(name, *(f"{TOP}/examples/{name}/{file}.hddl" for file in ("domain", "problem"))) for name in ("flip", "two")]
     with tempfile.TemporaryDirectory() as folder:
-        library, count = build_library(folder), f"{folder}/count"
-        texts = [("yard", f"{HERE}/yard.hddl", f"{HERE}/yard-problem.hddl")]
-        texts += [(name, *(f"{TOP}/examples/{name}/{file}.hddl" for file in ("domain", "problem"))) for name in ("flip", "two")]
-        for name, domain, problem in texts:
-            failed = sweep_all(sys.argv[1], name, [[domain, problem]], library, count) or failed
+        library = library_in(folder)
+        failed = sweep_all([Job(sys.argv[1], name, words, library, False) for name, *words in texts])
     sys.exit(failed)
 
 

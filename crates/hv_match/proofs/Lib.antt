@@ -24,3 +24,4 @@ pub mod Found
 pub mod Cited
 pub mod PossibleLemmas
 pub mod SkipLemmas
+pub mod Leaving

@@ -1,5 +1,5 @@
 -- How the children of a node of a plan's tree can stand for the subtasks of its method.
-use Rattle.std.specs.Prelude.{◌≡◌, ◌↔◌, ◌<◌, ℕ, true, List, [], ◌∷◌, map, length, slice_get, slice_index, Option, Some, None, option_map, option_and_then, IsSome, MatchOption, All, Contains, Bool, IsTrue, MatchBool}
+use Rattle.std.specs.Prelude.{◌≡◌, ◌↔◌, ◌<◌, ℕ, true, List, [], ◌∷◌, ◌++◌, map, length, take, slice_get, slice_index, Option, Some, None, option_map, option_and_then, IsSome, MatchOption, All, Contains, Bool, IsTrue, MatchBool}
 use Rattle.std.specs.List.{AllZip}
 use Rattle.hv_world.specs.Values.{object, Subtask, subtask, Constraint, compound, primitive}
 use Rattle.hv_world.specs.Alike.{instance, subtask_instance}
@@ -90,6 +90,15 @@ HasAllAt w t v ever l = (M B : List ℕ) → Contains l.coming (M, B) ↔ (IsCan
 abbrev pub IsAdvance : Listing → Listing → Bool → Type 0
 IsAdvance old new b =
     MatchBool b (old.coming ≡ (new.children, new.objects) ∷ new.coming) ((old.coming ≡ []) × (new.coming ≡ []))
+
+-- the first of the candidates that were to come are left out, and for each of these the same children as for the one
+-- that is lent stand for the first n subtasks
+pub record IsPassing (n : ℕ) (old new : Listing) : Type 0 where
+  pub children : new.children ≡ old.children
+  pub objects : new.objects ≡ old.objects
+  pub gone : List (List ℕ × List ℕ)
+  pub coming : old.coming ≡ gone ++ new.coming
+  pub alike : (M B : List ℕ) → Contains gone (M, B) → take n M ≡ take n old.children
 
 -- b says whether P holds
 abbrev pub Tells : Type 0 → Bool → Type 0

@@ -1,22 +1,22 @@
 //! The candidates of a node, one at a time.
 
-ghost use Rattle.std.specs.Prelude.{◌≡◌, ◌≢◌, ◌<◌, ◌^◌, [], All, length, map, option_map, IfOk, OnErr, MatchBool};
+ghost use Rattle.std.specs.Prelude.{◌≡◌, ◌≢◌, ◌+◌, ◌<◌, ◌^◌, [], true, All, length, map, option_map, IfOk, OnErr, MatchBool};
 ghost use Rattle.hv_lists.specs.Lists.{Once};
 ghost use Rattle.hv_state.specs.Ever.{ever_rows};
 ghost use Rattle.hv_plan.specs.BuiltTrees.{tree_view};
 ghost use Rattle.hv_plan.specs.PlanTrees.{IsTreeIn};
 ghost use Rattle.hv_plan.specs.TreeViews.{node_view};
-ghost use Rattle.hv_match.specs.Candidates.{HasAllAt, IsAdvance};
+ghost use Rattle.hv_match.specs.Candidates.{HasAllAt, IsAdvance, IsPassing};
 ghost use Rattle.hv_world.specs.Bindings.{object_number};
 ghost use Rattle.hv_match.specs.Counts.{IsInCountAt};
 ghost use Rattle.hv_match.specs.inside.PuzzleViews.{puzzle_view};
-ghost use Rattle.hv_match.specs.inside.Parts.{listed, IsWholeBy};
+ghost use Rattle.hv_match.specs.inside.Parts.{listed, BeginsWith, IsWholeBy};
 
 use crate::make::puzzle;
 use crate::matcher::Matcher;
 use crate::puzzle::Puzzle;
 use crate::puzzle_laws::{ways_are_counts, ways_are_enough};
-use crate::state::{State, back, find};
+use crate::state::{State, back, find, leave};
 use crate::table::MethodTable;
 use hv_plan::{Node, Tree};
 use hv_state::EverTrue;
@@ -66,6 +66,21 @@ fn write_objects(into: &mut [ObjectId], numbers: &[usize])
     for number in 0..into.len() {
         into[number] = ObjectId(numbers[number]);
     }
+}
+
+// Whether what was chosen begins with these places.
+fn begins_with(chosen: &[usize], places: &[u32]) -> bool
+    ensures { result ≡ true → BeginsWith places.now chosen.now }
+{
+    if chosen.len() < places.len() {
+        return false;
+    }
+    for number in 0..places.len() {
+        if chosen[number] != places[number] as usize {
+            return false;
+        }
+    }
+    true
 }
 
 impl<'a> Candidates<'a> {
@@ -151,6 +166,16 @@ impl<'a> Candidates<'a> {
             back(&self.puzzle, &mut self.at);
         }
         Ok(is_found)
+    }
+
+    /// Leaves out candidates that are still to come and have, for the subtasks up to one in written
+    /// order, the same children as the one that is lent: all of them, where it was lent just now.
+    pub fn pass_over(&mut self, last: usize)
+        ensures { IsPassing (last + 1) self.old self.new }
+    {
+        if last < self.children.len() && begins_with(&self.at.chosen, &self.children[..=last]) {
+            leave(&self.puzzle, &mut self.at, last + 1);
+        }
     }
 
     /// Whether a candidate is still to come. What is looked for here is not looked for again.

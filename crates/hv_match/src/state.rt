@@ -1,7 +1,7 @@
 //! A place in a search.
 ghost use Rattle.std.specs.Prelude.{◌≡◌, ◌+◌, ◌<◌, ◌^◌, ◌++◌, ◌∷◌, ◌↔◌, [], length, slice_get, OnOk, OnErr, IfOk, IsTrue, Some, true, false};
 ghost use Rattle.hv_match.specs.inside.Search.{Differs, IsChoice, IsWithin, NothingBegins};
-ghost use Rattle.hv_match.specs.inside.States.{HasFound, HasLeft, IsNearer, IsNoFarther, IsNoted, IsPlaceIn, KeepsComing, SameButTable, SameChoices, SameRest};
+ghost use Rattle.hv_match.specs.inside.States.{HasFound, HasLeft, IsFrontOf, IsNearer, IsNoFarther, IsNoted, IsPlaceIn, KeepsComing, LeavesOut, SameButTable, SameChoices, SameRest};
 
 use crate::rule::Rule;
 use std::alloc::AllocError;
@@ -25,6 +25,7 @@ pub(crate) fn back<R: Rule>(rule: &R, at: &mut State)
     ensures place { IsPlaceIn (R.search rule.now) at.new }
     ensures coming { HasLeft (R.search rule.now) at.old at.new }
     ensures steps { IsNearer (R.search rule.now) at.old at.new }
+    ensures front { IsFrontOf at.old.chosen.items at.new.chosen.items }
 {
     match at.numbers.pop() {
         Some(number) => {
@@ -32,6 +33,17 @@ pub(crate) fn back<R: Rule>(rule: &R, at: &mut State)
             at.next = number + 1;
         }
         None => at.is_over = true,
+    }
+}
+
+/// Leaves all branches that begin with the first so many of the choices that stand.
+pub(crate) fn leave<R: Rule>(rule: &R, at: &mut State, count: usize)
+    requires { IsPlaceIn (R.search rule.now) at.old }
+    ensures place { IsPlaceIn (R.search rule.now) at.new }
+    ensures coming { LeavesOut (R.search rule.now) count at.old at.new }
+{
+    while !at.is_over && count <= at.chosen.len() {
+        back(rule, at);
     }
 }
 

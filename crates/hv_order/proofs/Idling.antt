@@ -8,7 +8,7 @@ use Rattle.hv_order.specs.Tables.{IsLeast}
 use Rattle.hv_order.specs.inside.Arrangements.{Arrangement}
 use Rattle.hv_order.specs.inside.Children.{child_at, ChildFits}
 use Rattle.hv_order.specs.inside.Facts.{Facts, FitsWith, IsRunOf, IsFirstStretch}
-use Rattle.hv_order.specs.inside.Idle.{IsIdle, IsIdleBy, IsIdleChild, AreIdle, HoldsThroughout}
+use Rattle.hv_order.specs.inside.Idle.{IsIdle, IsIdleBy, IsIdleChild, HoldsThroughout}
 use Rattle.hv_order.specs.inside.Nodes.{AreNodes}
 use Rattle.hv_order.specs.inside.Runs.{IsRow, AreApart, IsRowOf, AreRows, AreFew, idle_runs, runs_of}
 use Rattle.hv_order.specs.declared.trial.Run.{Run}

@@ -17,15 +17,17 @@ use Rattle.hv_order.specs.inside.Arrangements.{Arrangement, lists_of, listed_bef
 use Rattle.hv_order.specs.inside.Children.{child_at}
 use Rattle.hv_order.specs.inside.Choosing.{Gives}
 use Rattle.hv_order.specs.inside.Facts.{FitsWith}
-use Rattle.hv_order.specs.inside.Listers.{ListsAll, IsEver, arranged_by, still_listed}
+use Rattle.hv_order.specs.inside.Listers.{ListsAll, IsEver, arranged_by, all_coming, still_listed}
 use Rattle.hv_order.specs.inside.Nodes.{FitsWithOne, AreAllOf}
 use Rattle.hv_order.specs.inside.PlanFacts.{IsSetting, child_in, Arranges, plan_facts}
+use Rattle.hv_order.specs.inside.Spans.{is_in_order}
 use Rattle.hv_order.specs.declared.lister.Lister.{Lister}
 use Rattle.hv_order.proofs.Members.{MappedFrom, mem_map, mem_map_from}
-use Rattle.hv_order.proofs.Orders.{row_allowed, direct_allowed}
+use Rattle.hv_order.proofs.Orders.{row_allowed, direct_allowed, in_filter, from_filter}
 use Rattle.hv_order.proofs.Possibles.{possible_where_true}
+use Rattle.hv_order.proofs.SpanLemmas.{fits_in_order}
 use Rattle.hv_order.proofs.NodeParts.{of_method, from_method, IsCandidateHere, candidate_here, is_candidate_at, sound_network, order_count}
-use Rattle.hv_order.proofs.NodeFits.{fits_matching, fits_arranged}
+use Rattle.hv_order.proofs.NodeFits.{fits_matching, fits_arranged, plan_nodes}
 
 map_twice : {X Y Z : Type 0} (f : X → Y) (g : Y → Z) (h : X → Z) → ((x : X) → g (f x) ≡ h x) → (xs : List X) → map g (map f xs) ≡ map h xs
 map_twice f g h each [] = refl
@@ -93,14 +95,19 @@ module _ (q : Setting) (is : IsSetting q) (v : ℕ) (ever : Option (List (List �
       let g = fits_matching q is v lists.node lists.has_node lists.method lists.has_method M c r.of_node candidate items s f w.fits in
       let holds = from_method q is v r.node r.has_node r.method r.has_method (λ m. HoldsAt q m c.objects w.fits.at) (rw r.of_node at w.fits.holds) in
       let possible = of_method q is v r.node r.has_node r.method r.has_method (λ m. are_possible ever c.objects (needed m.precondition) ≡ true) (possible_where_true q ever is_ever r.method c.objects w.fits.at holds) in
+      let gives = fits_arranged q is v lists.node lists.has_node lists.method lists.has_method M (arranged (M, c.objects)) lists.of_node candidate (places_are M) s f g in
+      let arranges_so = arranges M c.objects candidate in
+      let in_order = fits_in_order q l.spans.value lists.spans (arranged (M, c.objects)) s f arranges_so.as_many ((plan_nodes q is).arranged v (arranged (M, c.objects)) arranges_so).0 gives in
       record {
         candidate = arranged (M, c.objects);
-        listed = mem_map arranged (M, c.objects) l.coming.coming ((lists.all M c.objects).1 (is_candidate_at q v M c.objects here, possible));
-        gives = fits_arranged q is v lists.node lists.has_node lists.method lists.has_method M (arranged (M, c.objects)) lists.of_node candidate (places_are M) s f g;
+        listed =
+            in_filter (is_in_order l.spans.value) (all_coming l) (arranged (M, c.objects))
+            (mem_map arranged (M, c.objects) l.coming.coming ((lists.all M c.objects).1 (is_candidate_at q v M c.objects here, possible))) in_order;
+        gives = gives;
       }
 
   pub all_listed : AreAllOf (plan_facts q) v (still_listed l)
   all_listed = record {
-    each = λ c m. each c (mem_map_from arranged c l.coming.coming m);
+    each = λ c m. each c (mem_map_from arranged c l.coming.coming (from_filter (is_in_order l.spans.value) (all_coming l) c m));
     with_one = with_one;
   }

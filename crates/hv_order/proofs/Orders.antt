@@ -60,7 +60,7 @@ countdown_below (suc k) i m = by (contains_cases k (countdown k) i m) (countdown
     by (inl e) rest = omega arith
     by (inr later) rest = let lt = rest later in omega arith
 
-in_filter : (p : ℕ → Bool) (xs : List ℕ) (x : ℕ) → Contains xs x → p x ≡ true → Contains (filter p xs) x
+pub in_filter : {X : Type 0} (p : X → Bool) (xs : List X) (x : X) → Contains xs x → p x ≡ true → Contains (filter p xs) x
 in_filter p [] x m passes = absurd (none_in_empty x m)
 in_filter p (y ∷ ys) x m passes = by (p y) refl (contains_cases y ys x m) (λ k. in_filter p ys x k passes)
   where
@@ -70,7 +70,7 @@ in_filter p (y ∷ ys) x m passes = by (p y) refl (contains_cases y ys x m) (λ 
     by false e (inl same) rest = not_true (sym e ∙ ap p (sym same) ∙ passes)
     by false e (inr later) rest = rest later
 
-from_filter : (p : ℕ → Bool) (xs : List ℕ) (x : ℕ) → Contains (filter p xs) x → Contains xs x
+pub from_filter : {X : Type 0} (p : X → Bool) (xs : List X) (x : X) → Contains (filter p xs) x → Contains xs x
 from_filter p [] x m = m
 from_filter p (y ∷ ys) x m = by (p y) m (from_filter p ys x)
   where

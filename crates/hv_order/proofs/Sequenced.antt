@@ -9,6 +9,7 @@ use Rattle.hv_plan.specs.TreeViews.{child_view}
 use Rattle.hv_match.specs.Candidates.{HasAllAt, node_method, method_at}
 use Rattle.hv_order.specs.inside.Sequencings.{IsSequencing, IsSequencingOf, AreSequencingsOf, IsSequencingAt}
 use Rattle.hv_order.specs.inside.Listers.{ListsAll}
+use Rattle.hv_order.specs.inside.Spans.{AreSpans}
 use Rattle.hv_order.specs.declared.lister.Lister.{Lister}
 use Rattle.hv_order.specs.declared.sequencing.Sequencing.{Sequencing}
 use Rattle.hv_order.specs.declared.sequencing.Sequencings.{Sequencings}
@@ -47,9 +48,9 @@ module _ (w : World) (t : PlanTree) (v : ℕ) (n : Node) (has_node : slice_get t
       cc
 
 -- what lists all matchings and bindings of a node, in the order of its method
-pub lists_all : (w : World) (t : PlanTree) (v : ℕ) (n : Node) (ever : Option (List (List ℕ))) (l : Lister) → slice_get t.nodes v ≡ Some n → IsSequencingAt w t v l.sequencing.value → l.node ≡ v
+pub lists_all : (w : World) (t : PlanTree) (v : ℕ) (n : Node) (ever : Option (List (List ℕ))) (l : Lister) → slice_get t.nodes v ≡ Some n → IsSequencingAt w t v l.sequencing.value → AreSpans t l.spans.value → l.node ≡ v
     → map child_view l.children.now ≡ n.children → HasAllAt w t v ever l.coming → ListsAll w t v ever l
-lists_all w t v n ever l has_node is of_node children all =
+lists_all w t v n ever l has_node is spans of_node children all =
     let P : Option Node → Type 0 = λ o. MatchOption (option_and_then (node_method w) o) ⊥ (λ m. IsSequencing m.network.order l.sequencing.value) in
     by (node_method w n) refl (subst P has_node is)
   where
@@ -63,5 +64,6 @@ lists_all w t v n ever l has_node is of_node children all =
       has_method = e;
       children = children;
       sequencing = h;
+      spans = spans;
       all = all;
     }

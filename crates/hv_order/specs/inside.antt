@@ -19,7 +19,9 @@ pub mod WalkedTrees
 pub mod Writings
 pub mod Chosen
 pub mod PlanFacts
-pub mod Listers
 pub mod Ends
+pub mod Firsts
+pub mod Spans
+pub mod Listers
 pub mod PlanNodes
 pub mod Checks

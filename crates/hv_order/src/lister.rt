@@ -6,18 +6,19 @@ ghost use Rattle.hv_plan.specs.BuiltTrees.{tree_view};
 ghost use Rattle.hv_plan.specs.PlanTrees.{IsTreeIn};
 ghost use Rattle.hv_order.specs.inside.Arrangements.{arrangement_of};
 ghost use Rattle.hv_order.specs.inside.Children as inside;
-ghost use Rattle.hv_order.specs.inside.Listers.{ListsAll, arranged_by};
+ghost use Rattle.hv_order.specs.inside.Listers.{ListsAll, arranged_with};
 ghost use Rattle.hv_order.specs.inside.Sequencings.{IsSequencingAt};
+ghost use Rattle.hv_order.specs.inside.Spans.{AreSpans};
 
 use crate::frame::Candidates;
 use crate::memory::Memory;
 use crate::node_methods::node_of;
 use crate::sequencing::Sequencing;
+use crate::spans::{Spans, child_at};
 use crate::trial::Arranged;
 use hv_match::{Candidates as Matchings, Matcher};
 use hv_plan::{Child, Tree};
 use hv_state::EverTrue;
-use hv_world::ObjectId;
 use std::alloc::Global;
 use std::rc::Rc;
 
@@ -27,25 +28,17 @@ impl From<hv_text::Memory> for Memory {
     }
 }
 
-/// The candidates of a node that are still to come. They share what hangs on the method alone.
+/// The candidates of a node that are still to come and have their children in the order of their
+/// subtasks. They share what hangs on the method alone, and where in the plan the nodes' actions stand.
 #[derive(Drop)]
 pub struct Lister<'a> {
     alloc: Global,
     pub(crate) node: u32,
     pub(crate) children: &'a [Child],
     pub(crate) sequencing: Rc<Sequencing>,
+    pub(crate) spans: Rc<Spans>,
     pub(crate) coming: Matchings<'a>,
     given: u32,
-}
-
-// The child at a place.
-fn child_at(children: &[Child], place: u32) -> Child
-    ensures { result ≡ inside.child_at children.now place }
-{
-    match children.get(place as usize) {
-        Some(child) => *child,
-        None => Child::Action(0),
-    }
 }
 
 // The children at these places.
@@ -54,45 +47,28 @@ fn children_at(alloc: Global, children: &[Child], places: &[u32]) -> Result<Vec<
 {
     let mut found = Vec::with_capacity(alloc, places.len())?;
     for place in places {
-        found.push(child_at(children, *place))?;
+        found.push(child_at(children, *place as usize))?;
     }
     Ok(found)
 }
 
-// A matching and a binding of a node, arranged.
-fn arranged(
-    alloc: Global,
-    node: u32,
-    children: &[Child],
-    sequencing: &Rc<Sequencing>,
-    places: &[u32],
-    objects: &[ObjectId],
-) -> Result<Arranged, Memory>
-    ensures { IfOk result (λ c. arrangement_of c ≡ arranged_by node children.now
-        sequencing.now.value (places.now, map object_number objects.now)) }
-{
-    Ok(Arranged {
-        node,
-        objects: Vec::from_slice(alloc, objects)?,
-        children: children_at(alloc, children, places)?,
-        sequencing: sequencing.clone()?,
-    })
-}
-
-/// All candidates of a node of a tree of the matcher's world, whose method has this sequencing; where
-/// it is told which atoms are ever true, those whose precondition needs another are left out.
+/// All candidates of a node of a tree of the matcher's world, whose method has this sequencing, with
+/// their children in order by these spans; where it is told which atoms are ever true, those whose
+/// precondition needs another are left out.
 pub(crate) fn candidates_of<'a>(
     alloc: Global,
     matcher: &'a Matcher<'_, '_>,
     tree: &'a Tree<'_, '_>,
     number: u32,
     sequencing: Rc<Sequencing>,
+    spans: Rc<Spans>,
     ever: Option<EverTrue<'a>>,
 ) -> Result<Lister<'a>, Memory>
     requires tree { IsTreeIn matcher.now (tree_view tree.now) }
     requires number { number < length (tree_view tree.now).nodes }
     requires sequencing { IsSequencingAt matcher.now (tree_view tree.now) number
         sequencing.value }
+    requires spans { AreSpans (tree_view tree.now) spans.value }
     ensures { IfOk result (ListsAll matcher.now (tree_view tree.now) number
         (option_map ever_rows ever.entry)) }
 {
@@ -102,9 +78,24 @@ pub(crate) fn candidates_of<'a>(
         node: number,
         children: node.children(),
         sequencing,
+        spans,
         coming: Matchings::new(alloc, matcher, tree, number, ever)?,
         given: 0,
     })
+}
+
+impl Lister<'_> {
+    // The candidate that is lent, with these children for its subtasks.
+    fn arranged(&self, children: Vec<Child>) -> Result<Arranged, Memory>
+        ensures { IfOk result (λ c. arrangement_of c ≡ arranged_with self.now children.items) }
+    {
+        Ok(Arranged {
+            node: self.node,
+            objects: Vec::from_slice(self.alloc, self.coming.objects())?,
+            children,
+            sequencing: self.sequencing.clone()?,
+        })
+    }
 }
 
 impl Candidates for Lister<'_> {
@@ -113,19 +104,17 @@ impl Candidates for Lister<'_> {
     ghost left = { still_listed };
 
     fn next(&mut self) -> Result<Option<Arranged>, Memory> {
-        if !self.coming.advance()? {
-            return Ok(None);
+        while self.coming.advance()? {
+            let children = children_at(self.alloc, self.children, self.coming.children())?;
+            match self.spans.misplaced(&children, &self.sequencing.direct) {
+                Some(last) => self.coming.pass_over(last),
+                None => {
+                    self.given = self.given.saturating_add(1);
+                    return Ok(Some(self.arranged(children)?));
+                }
+            }
         }
-        self.given = self.given.saturating_add(1);
-        let candidate = arranged(
-            self.alloc,
-            self.node,
-            self.children,
-            &self.sequencing,
-            self.coming.children(),
-            self.coming.objects(),
-        )?;
-        Ok(Some(candidate))
+        Ok(None)
     }
 
     fn is_at_first(&self) -> bool {

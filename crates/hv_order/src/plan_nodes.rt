@@ -11,12 +11,13 @@ ghost use Rattle.hv_order.specs.inside.Nodes.{AreNodes};
 ghost use Rattle.hv_order.specs.inside.PlanFacts.{FitsNode, plan_facts};
 ghost use Rattle.hv_order.specs.inside.PlanNodes.{IsRange};
 
-use crate::ends::{end_at, ends_of};
+use crate::ends::end_at;
 use crate::lister::{Lister, candidates_of};
 use crate::memory::Memory;
 use crate::node_methods::method_if;
 use crate::nodes::Nodes;
 use crate::sequencing::{Sequencings, make_sequencings, sequencing_of};
+use crate::spans::Spans;
 use crate::trial::{Arranged, Stretch};
 use hv_match::Matcher;
 use hv_plan::Tree;
@@ -24,6 +25,7 @@ use hv_state::{BitState, Trace};
 use hv_world::{Binding, World};
 use std::alloc::Global;
 use std::marker::Model;
+use std::rc::Rc;
 
 /// A plan's tree, with the states that the plan's actions pass. Where `is_with` is false, each
 /// method's precondition is taken as true.
@@ -35,7 +37,7 @@ pub struct PlanNodes<'a, 's, 'm, 'p, 't, 'c, 'd> {
     trace: &'a Trace<'c, 'd, BitState>,
     is_with: bool,
     sequencings: Sequencings,
-    ends: Vec<u32>,
+    spans: Rc<Spans>,
 }
 
 impl<'a, 's, 'm, 'p, 't, 'c, 'd> Model for PlanNodes<'a, 's, 'm, 'p, 't, 'c, 'd> {
@@ -52,7 +54,7 @@ impl<'a, 's, 'm, 'p, 't, 'c, 'd> Model for PlanNodes<'a, 's, 'm, 'p, 't, 'c, 'd>
     ghost view = { λ s. setting (tree_view s.tree.now) s.trace.now s.is_with };
 
     ghost invariant = { λ s. ArePlanNodes s.world.now s.matcher.now s.sequencings
-        s.ends.items (setting (tree_view s.tree.now) s.trace.now s.is_with) };
+        s.spans.value (setting (tree_view s.tree.now) s.trace.now s.is_with) };
 }
 
 // All indices of a range.
@@ -88,7 +90,7 @@ impl<'a, 's, 'm, 'p, 't, 'c, 'd> PlanNodes<'a, 's, 'm, 'p, 't, 'c, 'd> {
     {
         world.is_sound();
         let sequencings = make_sequencings(alloc, world)?;
-        let ends = ends_of(alloc, tree)?;
+        let spans = Rc::new(alloc, Spans::new(alloc, tree)?)?;
         Ok(PlanNodes {
             world,
             matcher,
@@ -96,7 +98,7 @@ impl<'a, 's, 'm, 'p, 't, 'c, 'd> PlanNodes<'a, 's, 'm, 'p, 't, 'c, 'd> {
             trace,
             is_with,
             sequencings,
-            ends,
+            spans,
         })
     }
 
@@ -163,11 +165,12 @@ impl<'a, 's, 'm, 'p, 't, 'c, 'd> Nodes for PlanNodes<'a, 's, 'm, 'p, 't, 'c, 'd>
         } else {
             None
         };
-        candidates_of(alloc, self.matcher, self.tree, number, shared, ever)
+        let spans = self.spans.clone()?;
+        candidates_of(alloc, self.matcher, self.tree, number, shared, spans, ever)
     }
 
     fn earliest(&self, node: u32) -> u32 {
-        end_at(&self.ends, node)
+        end_at(&self.spans.ends, node)
     }
 
     fn first_true(&self, candidate: &Arranged, from: u32, upto: u32) -> Option<Stretch> {

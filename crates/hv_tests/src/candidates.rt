@@ -379,3 +379,53 @@ fn candidates_are_those_of_a_slow_list(rt: HostRuntime) {
         );
     }
 }
+
+const FOUR: &[u8] = b"(define (problem four)\n\
+    (:domain orders)\n\
+    (:htn :subtasks (and (act-a) (act-a) (act-c) (act-a)))\n\
+    (:init))";
+
+const FOUR_DONE: &[u8] = b"==>\n1 act-a\n2 act-c\n3 act-a\n4 act-a\nroot 4 3 2 1\n<==";
+
+// Whether two candidates have the same children for the subtasks up to one.
+fn begin_alike(one: &Candidate, other: &Candidate, last: usize) -> bool {
+    for (subtask, child) in one.children.iter().enumerate() {
+        if subtask <= last && other.children.get(subtask) != Some(child) {
+            return false;
+        }
+    }
+    true
+}
+
+// How many candidates of the root line's node come behind the first, where those that have its
+// children up to a subtask are passed over; none where one of them has.
+fn left_behind(alloc: Global, last: usize) -> Option<usize> {
+    let world = world_of(alloc, ORDERS, FOUR)?;
+    let plan = plan_of(alloc, FOUR_DONE)?;
+    let tree = tree_of(alloc, &world, &plan)?;
+    let node = node_of(&tree, None)?;
+    let matcher = matcher_of(alloc, &world)?;
+    let mut candidates = Candidates::new(alloc, &matcher, &tree, node, None).ok()?;
+    if !candidates.advance().ok()? {
+        return None;
+    }
+    let first = lent(alloc, &candidates)?;
+    candidates.pass_over(last);
+    for left in 0..100 {
+        if !candidates.advance().ok()? {
+            return Some(left);
+        }
+        if last < 4 && begin_alike(&first, &lent(alloc, &candidates)?, last) {
+            return None;
+        }
+    }
+    None
+}
+
+// Three of the four subtasks are alike; behind the last there is none that says more.
+#[test]
+fn candidates_that_begin_alike_are_passed_over(rt: HostRuntime) {
+    for (last, wanted) in [(0, 4), (1, 5), (2, 5), (3, 5), (4, 5), (usize::MAX, 5)] {
+        assert_eq!(rt; left_behind(rt.alloc(), last), Some(wanted));
+    }
+}

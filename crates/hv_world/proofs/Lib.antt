@@ -12,6 +12,8 @@ pub mod OrderMeanings
 pub mod OrderWalk
 pub mod RepeatLemmas
 pub mod TypeLemmas
+pub mod BaseLemmas
+pub mod BaseSteps
 pub mod WithinLemmas
 pub mod NoFaults
 pub mod AmongLemmas

@@ -1,5 +1,5 @@
 -- Facts on the lists that the types of a world keep.
-use Rattle.std.proofs.Common.{◌≡◌, ◌≢◌, ◌<◌, ◌≤◌, ◌+◌, ◌-◌, ◌++◌, ◌↔◌, ◌⊎◌, inl, inr, ℕ, zero, suc, Bool, true, false, List, [], ◌∷◌, length, map, set, take, get_or, if◌then◌else◌, ◌==◌, Result, Ok, Err, is_ok, refl, sym, ap, ◌∙◌, subst, arith}
+use Rattle.std.proofs.Common.{◌≡◌, ◌≢◌, ◌<◌, ◌≤◌, ◌+◌, ◌-◌, ◌++◌, ◌↔◌, ◌⊎◌, inl, inr, ℕ, zero, suc, Bool, true, false, List, [], ◌∷◌, length, map, set, take, get_or, slice_index, if◌then◌else◌, ◌==◌, Result, Ok, Err, is_ok, refl, sym, ap, ◌∙◌, subst, arith}
 use Rattle.std.specs.Prelude.{◌||◌}
 use Rattle.std.specs.Global.{Vec}
 use Rattle.std.specs.List.{All, AllPairs, Contains}
@@ -17,6 +17,7 @@ use Rattle.hv_world.specs.declared.id.TypeId.{TypeId}
 use Rattle.hv_world.specs.declared.id.ObjectId.{ObjectId}
 use Rattle.hv_world.specs.Types.{Typing, Reaches, same, up, Of, object_numbers}
 use Rattle.hv_lists.specs.Lists.{Once}
+use Rattle.hv_world.specs.inside.Bases.{AreShared}
 use Rattle.hv_world.specs.inside.TypeLists.{list_of, type_numbers, type_lists, object_lists, AreSeconds, Climbs, stays, steps, ClimbsFrom, AscendsBelow, IsPut, IsPutAbove, AreMembersBelow}
 
 -- a number whose list has a member has a list
@@ -555,12 +556,22 @@ module _ (objects : List ObjectId) (ascend : IsStrictlyIncreasing (object_number
               let more : n < (get_or objects k (record { 0 = 0 })).0 = ranked _ n _ (sym ((parted comparisons_rise).1 k (record { 0 = 0 }) behind lt)) in
               omega (arith, more, number_at k (record { 0 = 0 }) lt)
 
--- the objects of a type, as they stand in their vector
-pub listed : (w now : Typing) (lists read : List (Vec ObjectId)) (t : ℕ) (v : Vec ObjectId) (objects : List ObjectId)
-    → AreMembersBelow w.objects w (object_lists lists) → w ≡ now → read ≡ lists → t < length read → v ≡ get_or read t v → objects ≡ v.items
+-- the list of a type's base is there
+pub base_in : (w : Typing) (bases : List TypeId) (lists : List (Vec ObjectId)) (t : ℕ) (b : TypeId) → AreShared w (type_numbers bases) (object_lists lists) → t < length bases → b ≡ get_or bases t b
+    → (slice_index (type_numbers bases) t ≡ b.0) × (t < w.types) × (b.0 < length lists)
+base_in w bases lists t b h lt b_is =
+    let long = length-map bases (λ (t : TypeId). t.0) in
+    let t_in : t < w.types = omega (arith, lt, long, h.size) in
+    let base : slice_index (type_numbers bases) t ≡ b.0 = get_or-map (λ (t : TypeId). t.0) bases t b 0 lt ∙ ap (λ (t : TypeId). t.0) (sym b_is) in
+    let wide = length-map lists (λ (v : Vec ObjectId). object_numbers v.items) in
+    (base, t_in, omega (arith, h.within t t_in, base, wide))
+
+-- the objects of a type, as they stand in the vector of its base
+pub listed : (w now : Typing) (bases : List TypeId) (lists read : List (Vec ObjectId)) (t : ℕ) (b : TypeId) (v : Vec ObjectId) (objects : List ObjectId)
+    → AreShared w (type_numbers bases) (object_lists lists) → w ≡ now → t < length bases → b ≡ get_or bases t b → read ≡ lists → v ≡ get_or read b.0 v → objects ≡ v.items
     → ((o : ℕ) → Contains (object_numbers objects) o ↔ Of now o t) × AllPairs (λ x y. x < y) (object_numbers objects)
-listed w now lists read t v objects h w_is read_is lt v_is objects_are =
-    let within : t < length lists = omega (arith, lt, ap length read_is) in
-    let items : object_numbers objects ≡ list_of (object_lists lists) t =
-    ap object_numbers (objects_are ∙ ap (λ u. u.items) v_is ∙ ap (λ l. (get_or l t v).items) read_is) ∙ sym (at_map (λ o. o.0) lists t v within) in
-    rw (items, ← w_is) (λ o. all_members w (object_lists lists) h t o, (h.ascend t).0)
+listed w now bases lists read t b v objects h w_is lt b_is read_is v_is objects_are =
+    let (base, t_in, within) = base_in w bases lists t b h lt b_is in
+    let items : object_numbers objects ≡ list_of (object_lists lists) b.0 =
+    ap object_numbers (objects_are ∙ ap (λ u. u.items) v_is ∙ ap (λ l. (get_or l b.0 v).items) read_is) ∙ sym (at_map (λ o. o.0) lists b.0 v within) in
+    rw (items, ← w_is) (λ o. subst (λ k. Contains (list_of (object_lists lists) k) o ↔ Of w o t) base (h.members t o t_in), (h.ascend b.0).0)

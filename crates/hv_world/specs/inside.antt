@@ -1,6 +1,7 @@
 -- How the code goes, step by step, for its proofs. No public clause means any of this.
 pub mod Tables
 pub mod TypeLists
+pub mod Bases
 pub mod LabelViews
 pub mod OrderWalks
 pub mod OrderViews

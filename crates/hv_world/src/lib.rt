@@ -4,6 +4,7 @@
 
 mod action;
 mod alike;
+mod bases;
 mod binding;
 mod build;
 mod check;

@@ -5,8 +5,10 @@ ghost use Rattle.std.specs.List.{All, Contains};
 ghost use Rattle.std.specs.List.Sorted.{IsStrictlyIncreasing};
 ghost use Rattle.hv_world.specs.Types.{Typing, typing, Of, object_numbers};
 ghost use Rattle.hv_lists.specs.Lists.{Once};
+ghost use Rattle.hv_world.specs.inside.Bases.{AreShared};
 ghost use Rattle.hv_world.specs.inside.TypeLists.{list_of, type_numbers, type_lists, object_lists, AreSeconds, AscendsBelow, IsPut, IsPutAbove, AreMembersBelow};
 
+use crate::bases::{bases, contracted};
 use crate::id::{ObjectId, TypeId};
 use hv_text::Memory;
 use std::alloc::Global;
@@ -19,6 +21,8 @@ pub(crate) struct Types {
     objects: usize,
     parents: Vec<(TypeId, TypeId)>,
     declared: Vec<(ObjectId, TypeId)>,
+    // For each type the one whose list has its objects.
+    bases: Vec<TypeId>,
     members: Vec<Vec<ObjectId>>,
 }
 
@@ -27,15 +31,15 @@ impl Model for Types {
 
     ghost view = { λ w. typing w.types w.objects w.parents.items w.declared.items };
 
-    ghost invariant = { λ w. AreMembersBelow w.objects
+    ghost invariant = { λ w. AreShared
         (typing w.types w.objects w.parents.items w.declared.items)
-        (object_lists w.members.items) };
+        (type_numbers w.bases.items) (object_lists w.members.items) };
 }
 
 impl Types {
     /// From what is declared of so many types and objects: types with their parents, and objects
-    /// with their types. For each object and each type that it is of, it takes a step, and one
-    /// for each declared parent of that type.
+    /// with their types. Types that have just the objects of one type below them share its list. For
+    /// each object and each list that it is in, it takes a step, and one for each list above that.
     pub(crate) fn new(
         alloc: Global,
         types: usize,
@@ -48,12 +52,15 @@ impl Types {
         requires declared { All (λ p. (p.0.0 < objects) × (p.1.0 < types)) declared.items }
         ensures { IfOk result (λ w. w ≡ typing types objects parents.items declared.items) }
     {
-        let members = members(alloc, types, objects, &parents, &declared)?;
+        let bases = bases(alloc, types, objects, &parents, &declared)?;
+        let pairs = contracted(alloc, &parents, &bases)?;
+        let members = members(alloc, types, objects, &pairs, &declared)?;
         Ok(Types {
             types,
             objects,
             parents,
             declared,
+            bases,
             members,
         })
     }
@@ -72,8 +79,8 @@ impl Types {
         ensures ascending { IsStrictlyIncreasing (object_numbers result.now) }
         ensures once { Once (object_numbers result.now) }
     {
-        match self.members.get(of.0) {
-            Some(objects) => objects,
+        match self.bases.get(of.0) {
+            Some(base) => &self.members[base.0],
             None => &[],
         }
     }
@@ -87,8 +94,8 @@ fn is_among(objects: &[ObjectId], object: ObjectId) -> bool
     objects.binary_search_by_key(&object.0, |o| o.0).is_ok()
 }
 
-// An empty list for each number below `count`.
-fn no_lists<T: Drop>(alloc: Global, count: usize) -> Result<Vec<Vec<T>>, Memory>
+/// An empty list for each number below `count`.
+pub(crate) fn no_lists<T: Drop>(alloc: Global, count: usize) -> Result<Vec<Vec<T>>, Memory>
     ensures size { IfOk result (λ lists. length lists.items ≡ count) }
     ensures empty { IfOk result (λ lists. All (λ v. v.items ≡ []) lists.items) }
 {
@@ -99,8 +106,8 @@ fn no_lists<T: Drop>(alloc: Global, count: usize) -> Result<Vec<Vec<T>>, Memory>
     Ok(lists)
 }
 
-// The parents of each type.
-fn parents_by_type(
+/// The parents of each type.
+pub(crate) fn parents_by_type(
     alloc: Global,
     types: usize,
     pairs: &[(TypeId, TypeId)],

@@ -53,3 +53,7 @@ pub record IsWhole (w : World) (m : Method) (t : PlanTree) (n : Node) (ever : Op
 -- so for each method whose table this is
 abbrev pub IsWholeBy : MethodTable → PlanTree → Node → Option (List (List ℕ)) → Listing → Type 0
 IsWholeBy table t n ever l = (w : World) (m : Method) → IsTableOf w m table → IsWhole w m t n ever l
+
+-- the choices begin with these places
+abbrev pub BeginsWith : List ℕ → List ℕ → Type 0
+BeginsWith places q = (length places ≤ length q) × (take (length places) q ≡ places)

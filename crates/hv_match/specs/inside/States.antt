@@ -1,5 +1,5 @@
 -- What a search has still to give from a place, and how many steps it may still take.
-use Rattle.std.specs.Prelude.{ℕ, zero, suc, ◌+◌, ◌-◌, ◌<◌, ◌≤◌, ◌^◌, ◌≡◌, Bool, true, false, List, [], ◌∷◌, ◌++◌, length, take, drop, slice_index, if◌then◌else◌, MatchBool}
+use Rattle.std.specs.Prelude.{ℕ, zero, suc, ◌+◌, ◌-◌, ◌<◌, ◌≤◌, ◌^◌, ◌≡◌, Bool, true, false, List, [], ◌∷◌, ◌++◌, length, take, drop, slice_index, if◌then◌else◌, MatchBool, Contains}
 use Rattle.std.specs.List.{sum_by, All}
 use Rattle.hv_match.specs.inside.Search.{IsPath, below, Search}
 use Rattle.hv_match.specs.declared.state.State.{State}
@@ -53,6 +53,16 @@ abbrev pub HasLeft : Search → State → State → Type 0
 HasLeft s old new =
     to_come s.options s.good s.levels old
     ≡ below s.options s.good (s.levels - length old.chosen.items) old.chosen.items old.next ++ to_come s.options s.good s.levels new
+
+-- the choices stand as they stood, but for some of the last
+abbrev pub IsFrontOf : List ℕ → List ℕ → Type 0
+IsFrontOf old new = (n : ℕ) → n ≤ length new → take n new ≡ take n old
+
+-- of what was to come the first are left out, and each of these begins with the first so many of the choices that stood
+pub record LeavesOut (s : Search) (n : ℕ) (old new : State) : Type 0 where
+  pub gone : List (List ℕ)
+  pub coming : to_come s.options s.good s.levels old ≡ gone ++ to_come s.options s.good s.levels new
+  pub alike : (q : List ℕ) → Contains gone q → take n q ≡ take n old.chosen.items
 
 -- fewer steps are left, or no more
 abbrev pub IsNearer : Search → State → State → Type 0

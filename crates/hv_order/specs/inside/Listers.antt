@@ -1,5 +1,6 @@
 -- What lists the candidates of a node of a plan's tree.
 use Rattle.std.specs.Prelude.{◌≡◌, ℕ, true, List, map, slice_get, Option, Some, None}
+use Rattle.std.specs.List.{filter}
 use Rattle.hv_world.specs.Worlds.{World, Method}
 use Rattle.hv_plan.specs.PlanTrees.{Node, PlanTree}
 use Rattle.hv_plan.specs.TreeViews.{child_view}
@@ -10,6 +11,7 @@ use Rattle.hv_order.specs.Settings.{Setting}
 use Rattle.hv_order.specs.inside.Arrangements.{Arrangement, lists_of}
 use Rattle.hv_order.specs.inside.Sequencings.{IsSequencing}
 use Rattle.hv_order.specs.inside.Children.{child_at}
+use Rattle.hv_order.specs.inside.Spans.{is_in_order, AreSpans}
 use Rattle.hv_order.specs.declared.lister.Lister.{Lister}
 use Rattle.hv_order.specs.declared.sequencing.Sequencing.{Sequencing}
 
@@ -24,12 +26,27 @@ arranged_by v children s c =
       direct = lists_of s.direct.items;
     }
 
--- the candidates that are still to come
+-- those that are still to come, in whatever order their children stand
+abbrev pub all_coming : Lister → List Arrangement
+all_coming l = map (arranged_by l.node l.children.now l.sequencing.value) l.coming.coming
+
+-- the candidates that are still to come: the children of each stand in the order of their subtasks
 abbrev pub still_listed : Lister → List Arrangement
-still_listed l = map (arranged_by l.node l.children.now l.sequencing.value) l.coming.coming
+still_listed l = filter (is_in_order l.spans.value) (all_coming l)
+
+-- the one that is lent, with these children for its subtasks
+abbrev pub arranged_with : Lister → List Child → Arrangement
+arranged_with l cs =
+    record {
+      node = l.node;
+      objects = l.coming.objects;
+      children = cs;
+      order = l.sequencing.value.order.items;
+      direct = lists_of l.sequencing.value.direct.items;
+    }
 
 -- All possible candidates of the node of number v are to come: these are the node's children, and the
--- subtasks are laid out as its method allows
+-- subtasks are laid out as its method allows, and the spans are those of the tree
 pub record ListsAll (w : World) (t : PlanTree) (v : ℕ) (ever : Option (List (List ℕ))) (l : Lister) : Type 0 where
   pub of_node : l.node ≡ v
   pub node : Node
@@ -38,6 +55,7 @@ pub record ListsAll (w : World) (t : PlanTree) (v : ℕ) (ever : Option (List (L
   pub has_method : node_method w node ≡ Some method
   pub children : map child_view l.children.now ≡ node.children
   pub sequencing : IsSequencing method.network.order l.sequencing.value
+  pub spans : AreSpans t l.spans.value
   pub all : HasAllAt w t v ever l.coming
 
 -- the rows, where some are given, have each atom that is ever true, and preconditions count

@@ -114,6 +114,29 @@ fn object_makes_no_chain_by_rule(rt: HostRuntime) {
     assert!(rt; have_objects(rt.alloc(), domain, problem, &types) == Some(true));
 }
 
+// Of types one below the other only the lowest has objects; above others there is more than one type,
+// or an object; and two stand below each other.
+#[test]
+fn types_have_the_objects_of_the_one_below_them(rt: HostRuntime) {
+    let domain = b"(define (domain d) (:types low - mid mid - high high - top side - top top - over \
+        last - ring ring - last twice - low) (:constants c - last))";
+    let problem =
+        b"(define (problem q) (:domain d) (:objects x - low y - side z - over) (:htn) (:init))";
+    let types: [(&[u8], &[&[u8]]); 10] = [
+        (b"low", &[b"x"]),
+        (b"mid", &[b"x"]),
+        (b"high", &[b"x"]),
+        (b"top", &[b"x", b"y"]),
+        (b"over", &[b"x", b"y", b"z"]),
+        (b"side", &[b"y"]),
+        (b"last", &[b"c"]),
+        (b"ring", &[b"c"]),
+        (b"twice", &[]),
+        (b"object", &[b"c", b"x", b"y", b"z"]),
+    ];
+    assert!(rt; have_objects(rt.alloc(), domain, problem, &types) == Some(true));
+}
+
 // Objects and types by number, of two objects and two types, and whether the one is of the other.
 const NUMBERS: [(usize, usize, bool); 5] = [
     (1, 0, true),

@@ -1,4 +1,5 @@
-use Rattle.std.proofs.Common.{◌≡◌, ◌+◌, ◌<◌, ◌-◌, ◌++◌, ◌∷◌, [], length, slice_index_or, vec_len, ◌^◌, arith, ap, length-append}
+use Rattle.std.proofs.lemmas.List.{take-append-le}
+use Rattle.std.proofs.Common.{◌≡◌, ◌∙◌, sym, take, ◌+◌, ◌<◌, ◌-◌, ◌++◌, ◌∷◌, [], length, slice_index_or, vec_len, ◌^◌, arith, ap, length-append}
 use Rattle.std.proofs.lemmas.List.Elements.{All-pop}
 use Rattle.hv_match.proofs.Turns.{back_coming, back_steps, path_pop, none_numbers}
 use Rattle.hv_match.proofs.Told.{told_first}
@@ -36,3 +37,7 @@ returns-in-Some-clause-steps g c =
 
 pub returns-in-None-clause-steps : goal.returns-in-None-clause-steps
 returns-in-None-clause-steps g c = rw c.requires.running (none_numbers (g.R.Rule.search c.args.rule.now).options (g.R.Rule.search c.args.rule.now).levels _ _ _ c.requires.place.even (omega (arith, c.args.at.now.numbers.ok.0, c.in-None.ensures.cases)))
+
+pub returns-in-Some-clause-front : goal.returns-in-Some-clause-front
+returns-in-Some-clause-front g c n le =
+    sym (ap (take n) (last g c) ∙ take-append-le n c.pop-in-Some.new.self.items (slice_index_or c.args.at.now.chosen.items (vec_len c.args.at.now.chosen - 1) 0 ∷ []) le)

@@ -8,4 +8,4 @@ use Rattle.hv_order.proofs.lister.candidates_of.Goals as goal
 pub returns : goal.returns
 returns c =
     lists_all c.args.matcher.now (tree_view c.args.tree.now) c.args.number (node_view c.node_of-node.result) (option_map ever_rows c.args.ever) _ c.node_of-node.ensures
-    c.requires.sequencing refl c.children.ensures c.in_ok-new.ensures.exact
+    c.requires.sequencing c.requires.spans refl c.children.ensures c.in_ok-new.ensures.exact

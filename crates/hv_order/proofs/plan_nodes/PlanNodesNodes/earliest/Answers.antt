@@ -9,4 +9,4 @@ pub returns : goal.returns
 returns c =
     let q : Setting = setting (tree_view c.self.inside.tree.now) c.self.inside.trace.now c.self.inside.is_with in
     let P : Setting → Type 0 = λ q. (s f : ℕ) → FitsNode q c.args.node s f → c.end_at.result ≤ f in
-    subst P c.self.view_is (λ s f fits. rw (c.end_at.ensures, c.deref.ensures.value) (node_behind q c.self.inside.ends.items c.self.invariant.behind c.args.node s f fits))
+    subst P c.self.view_is (λ s f fits. rw (c.end_at.ensures, c.deref-2.ensures.value, c.deref.ensures) (node_behind q c.self.inside.spans.value.ends.items c.self.invariant.spanned.ends c.args.node s f fits))
