@@ -11,6 +11,7 @@ ghost use Rattle.hv_order.specs.inside.Nodes.{AreNodes};
 ghost use Rattle.hv_order.specs.inside.PlanFacts.{FitsNode, plan_facts};
 ghost use Rattle.hv_order.specs.inside.PlanNodes.{IsRange};
 
+use crate::children::latest_start;
 use crate::ends::end_at;
 use crate::lister::{Lister, candidates_of};
 use crate::memory::Memory;
@@ -18,9 +19,10 @@ use crate::node_methods::method_if;
 use crate::nodes::Nodes;
 use crate::sequencing::{Sequencings, make_sequencings, sequencing_of};
 use crate::spans::Spans;
+use crate::told::{is_empty, told_child};
 use crate::trial::{Arranged, Stretch};
 use hv_match::Matcher;
-use hv_plan::Tree;
+use hv_plan::{Child, Tree};
 use hv_state::{BitState, Trace};
 use hv_world::{Binding, World};
 use std::alloc::Global;
@@ -171,6 +173,30 @@ impl<'a, 's, 'm, 'p, 't, 'c, 'd> Nodes for PlanNodes<'a, 's, 'm, 'p, 't, 'c, 'd>
 
     fn earliest(&self, node: u32) -> u32 {
         end_at(&self.spans.ends, node)
+    }
+
+    fn told_begin(&self, node: u32, start: u32) -> Option<u32> {
+        let method = method_if(self.world, self.tree, node)?;
+        if !self.is_with || is_empty(method.precondition()) {
+            return Some(start);
+        }
+        if !method.parameters().is_empty() {
+            return None;
+        }
+        let end = self.tree.actions().len();
+        let latest = latest_start(self.tree.node(node)?.children(), u32::MAX) as usize;
+        let (first, _) = self.trace.first_true(
+            start as usize,
+            latest.min(end),
+            method.precondition(),
+            &Binding::Given(&[]),
+        )?;
+        Some(first as u32)
+    }
+
+    fn told_child(&self, node: u32, place: usize) -> Option<Child> {
+        let method = method_if(self.world, self.tree, node)?;
+        told_child(self.tree, method, node, place)
     }
 
     fn first_true(&self, candidate: &Arranged, from: u32, upto: u32) -> Option<Stretch> {

@@ -1,12 +1,13 @@
 //! What a node comes to from one start, where only what is asked for is worked out.
-ghost use Rattle.std.specs.Prelude.{◌≡◌, ◌<◌, ◌≤◌, IfOk, OnOk, is_some, true};
+ghost use Rattle.std.specs.Prelude.{◌≡◌, ◌<◌, ◌≤◌, IfOk, IfSome, OnOk, is_some, true};
 ghost use Rattle.hv_order.specs.inside.Facts.{IsNodeRun};
 ghost use Rattle.hv_order.specs.inside.Memos.{found, AreKnown, IsSmall, Keeps, IsBelow, IsWanted};
-ghost use Rattle.hv_order.specs.inside.Tasks.{pair_of, task_pair, IsTask, IsPending, IsOutcome, IsOpened, Settles, Waits};
+ghost use Rattle.hv_order.specs.inside.Tasks.{pair_of, task_pair, IsPair, IsTask, IsPending, IsOutcome, IsOpened, Settles, Waits};
 ghost use Rattle.hv_order.specs.inside.Nodes.{AreNodes, IsSettled, settled_by};
 ghost use Rattle.hv_order.specs.inside.Trials.{IfWants, WantsOnly};
 ghost use Rattle.hv_order.specs.inside.Winners.{as_winner};
 
+use crate::children::run_of_action;
 use crate::frame::{Candidates, Frame, advance, next_turn};
 use crate::memo::{Memo, Pair};
 use crate::memory::Memory;
@@ -14,10 +15,11 @@ use crate::nodes::Nodes;
 use crate::settle::{Settled, run_of};
 use crate::trial::{Arranged, Best, Finish, Progress, Run, Stretch, Table};
 use crate::winner::{no_candidate, with_candidate};
+use hv_plan::Child;
 use std::alloc::Global;
 
 // So many children at most has a task that is let go: it is begun anew for each.
-const FEW: usize = 4;
+pub(crate) const FEW: usize = 4;
 
 // So many tasks that wait are kept whatever they take.
 const NEAR: usize = 1024;
@@ -245,6 +247,62 @@ pub fn work_on<N: Nodes>(
     }
 }
 
+/// A child of a node, and a start, of which the finish will be wanted and is not known yet, as far as
+/// that is told before the node is begun: when it is begun behind them, it need not wait for them.
+pub fn ahead<N: Nodes>(nodes: &N, memo: &Memo, pair: Pair) -> Option<Pair>
+    requires memo { AreKnown (N.facts nodes.now) (N.size nodes.now) memo.now }
+    requires pair { IsPair (N.facts nodes.now) (N.size nodes.now) pair }
+    ensures { IfSome result (λ c.
+        IsWanted (N.facts nodes.now) memo.now pair.node c.node c.start) }
+{
+    let last = nodes.last();
+    let mut start = nodes.told_begin(pair.node, pair.start)?;
+    for place in 0..FEW {
+        if last < start {
+            return None;
+        }
+        match nodes.told_child(pair.node, place)? {
+            Child::Action(action) => start = run_of_action(action, start, last).finish?,
+            Child::Node(node) => {
+                if pair.node <= node {
+                    return None;
+                }
+                match memo.known(node, start) {
+                    Finish::Unknown => return Some(Pair { node, start }),
+                    Finish::Known(run) => start = run.finish?,
+                }
+            }
+        }
+    }
+    None
+}
+
+/// Begins a node, and works on it up to the first finish that it wants, or to its end. One that is
+/// `far` down asks ahead for finishes that it will want, since it may be let go where it waits.
+pub fn set_out<N: Nodes>(
+    alloc: Global,
+    nodes: &N,
+    memo: &Memo,
+    pair: Pair,
+    far: bool,
+) -> Result<Outcome<N::Left>, Memory>
+    requires nodes { AreNodes (N.facts nodes.now) }
+    requires memo { AreKnown (N.facts nodes.now) (N.size nodes.now) memo.now }
+    requires pair { IsPair (N.facts nodes.now) (N.size nodes.now) pair }
+    ensures { IfOk result
+        (IsOutcome N.Left.left (N.facts nodes.now) (N.size nodes.now) memo.now pair) }
+{
+    if far {
+        if let Some(child) = ahead(nodes, memo, pair) {
+            return Ok(Outcome::Wants(Pending::Asked(pair), child));
+        }
+    }
+    match open(alloc, nodes, memo, pair.node, pair.start)? {
+        None => Ok(Outcome::Over(run_of(None, nodes.last()))),
+        Some(task) => work(alloc, nodes, memo, task, far),
+    }
+}
+
 /// Goes on with a node that waited, which is begun where it is not yet. Where it waits again `far`
 /// down, it may be let go.
 pub fn resume<N: Nodes>(
@@ -262,10 +320,7 @@ pub fn resume<N: Nodes>(
 {
     match pending {
         Pending::Begun(task) => work_on(alloc, nodes, memo, task),
-        Pending::Asked(pair) => match open(alloc, nodes, memo, pair.node, pair.start)? {
-            None => Ok(Outcome::Over(run_of(None, nodes.last()))),
-            Some(task) => work(alloc, nodes, memo, task, far),
-        },
+        Pending::Asked(pair) => set_out(alloc, nodes, memo, pair, far),
     }
 }
 
