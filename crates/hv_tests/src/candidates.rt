@@ -397,35 +397,54 @@ fn begin_alike(one: &Candidate, other: &Candidate, last: usize) -> bool {
     true
 }
 
-// How many candidates of the root line's node come behind the first, where those that have its
-// children up to a subtask are passed over; none where one of them has.
-fn left_behind(alloc: Global, last: usize) -> Option<usize> {
-    let world = world_of(alloc, ORDERS, FOUR)?;
-    let plan = plan_of(alloc, FOUR_DONE)?;
-    let tree = tree_of(alloc, &world, &plan)?;
-    let node = node_of(&tree, None)?;
-    let matcher = matcher_of(alloc, &world)?;
-    let mut candidates = Candidates::new(alloc, &matcher, &tree, node, None).ok()?;
+// How many candidates come behind the first, where those that have its children up to a subtask are
+// passed over; none where one of them has.
+fn left_behind(alloc: Global, candidates: &mut Candidates<'_>, last: usize) -> Option<usize> {
     if !candidates.advance().ok()? {
         return None;
     }
-    let first = lent(alloc, &candidates)?;
+    let first = lent(alloc, candidates)?;
     candidates.pass_over(last);
     for left in 0..100 {
         if !candidates.advance().ok()? {
             return Some(left);
         }
-        if last < 4 && begin_alike(&first, &lent(alloc, &candidates)?, last) {
+        if last < 4 && begin_alike(&first, &lent(alloc, candidates)?, last) {
             return None;
         }
     }
     None
 }
 
+// The same of a node.
+fn left_of_node<'a>(
+    alloc: Global,
+    world: &'a World<'_>,
+    tree: &'a Tree<'_, '_>,
+    node: u32,
+    last: usize,
+) -> Option<usize>
+    requires tree { IsTreeIn (world_view world.now) (tree_view tree.now) }
+    requires node { node < length (tree_view tree.now).nodes }
+{
+    let matcher = matcher_of(alloc, world)?;
+    let mut candidates = Candidates::new(alloc, &matcher, tree, node, None).ok()?;
+    left_behind(alloc, &mut candidates, last)
+}
+
+// The same of the root line's node.
+fn left_of_root(alloc: Global, last: usize) -> Option<usize> {
+    let world = world_of(alloc, ORDERS, FOUR)?;
+    let plan = plan_of(alloc, FOUR_DONE)?;
+    let tree = tree_of(alloc, &world, &plan)?;
+    let node = node_of(&tree, None)?;
+    left_of_node(alloc, &world, &tree, node, last)
+}
+
 // Three of the four subtasks are alike; behind the last there is none that says more.
 #[test]
 fn candidates_that_begin_alike_are_passed_over(rt: HostRuntime) {
     for (last, wanted) in [(0, 4), (1, 5), (2, 5), (3, 5), (4, 5), (usize::MAX, 5)] {
-        assert_eq!(rt; left_behind(rt.alloc(), last), Some(wanted));
+        assert_eq!(rt; left_of_root(rt.alloc(), last), Some(wanted));
     }
 }

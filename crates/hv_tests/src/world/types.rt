@@ -118,7 +118,8 @@ fn object_makes_no_chain_by_rule(rt: HostRuntime) {
 // or an object; and two stand below each other.
 #[test]
 fn types_have_the_objects_of_the_one_below_them(rt: HostRuntime) {
-    let domain = b"(define (domain d) (:types low - mid mid - high high - top side - top top - over \
+    let domain =
+        b"(define (domain d) (:types low - mid mid - high high - top side - top top - over \
         last - ring ring - last twice - low) (:constants c - last))";
     let problem =
         b"(define (problem q) (:domain d) (:objects x - low y - side z - over) (:htn) (:init))";
