@@ -6,8 +6,8 @@ sweep/deep.py PROGRAM OTHER [--seed N] [--first N] [--count N] [--keep FOLDER]
 Each plan has one recursive task, and at each level of one to two and a half thousand a method of those below: with and without a
 precondition, in an order and without one, with subtasks of two names and of one, with and without a parameter. One plan in five is
 spoilt: a precondition, an order or an action does not fit somewhere. Both programs have the same command line. A plan is kept where
-what they write differs, or where PROGRAM takes more than a second and twenty times as long as OTHER. The last lines count the
-verdicts. The same seed makes the same plans."""
+their verdicts differ, where OTHER does not certify what PROGRAM writes as a certificate, and where PROGRAM takes more than a second
+and twenty times as long as OTHER. The last lines count the verdicts. The same seed makes the same plans."""
 
 import argparse
 import collections
@@ -155,11 +155,27 @@ def make_plan(chance):
     return plan.text(root)
 
 
-def ask(program, folder):
+def ask(program, folder, command, *more):
+    """How a run ends, all that it writes, and how long it takes."""
     began = time.monotonic()
-    words = [program, "judge", "--explain", *(f"{folder}/{name}" for name in ("domain", "problem", "plan"))]
+    words = [program, *command, *(f"{folder}/{name}" for name in ("domain", "problem", "plan", *more))]
     ran = subprocess.run(words, stdin=subprocess.DEVNULL, capture_output=True)
-    return (ran.returncode, ran.stdout), time.monotonic() - began
+    return ran.returncode, ran.stdout, time.monotonic() - began
+
+
+def is_certified(other, folder, certificate):
+    with open(f"{folder}/certificate", "wb") as it:
+        it.write(certificate)
+    return ask(other, folder, ["recheck"], "certificate")[:2] == (0, b"certified\n")
+
+
+def is_alike(program, other, folder):
+    """The verdict of one, and whether nothing tells the two apart."""
+    status, said, took = ask(program, folder, ["judge", "--explain"])
+    other_status, other_said, other_took = ask(other, folder, ["judge"])
+    verdict = said.split(b"\n")[0] + b"\n"
+    is_same = (status, verdict) == (other_status, other_said) and took <= max(1, 20 * other_took)
+    return verdict, is_same and (status != 0 or is_certified(other, folder, said))
 
 
 def write(folder, plan):
@@ -183,9 +199,9 @@ def main():
         for number in range(given.first, given.first + given.count):
             plan = make_plan(random.Random(f"{given.seed} {number}"))
             write(folder, plan)
-            (mine, took), (theirs, took_other) = ask(given.program, folder), ask(given.other, folder)
-            verdicts[b" ".join(mine[1].split(b"\n")[0].split()[:3]).decode()] += 1
-            if mine != theirs or took > max(1, 20 * took_other):
+            verdict, is_same = is_alike(given.program, given.other, folder)
+            verdicts[b" ".join(verdict.split()[:3]).decode()] += 1
+            if not is_same:
                 kept += 1
                 write(f"{given.keep}/{given.seed}-{number}", plan)
     for verdict, count in verdicts.most_common():
