@@ -65,7 +65,7 @@ none_possible view pz p as' i d are lt cannot k = none_fits pz p (λ q xs e m.
     let is = m.possible in cc) k
 
 -- the last child chosen cannot do its subtask
-zip_read : (cs : List (Option Work)) (B M : List ℕ) (ss : List code_subtask.Subtask) (i : ℕ) (d : code_subtask.Subtask) → AllZip (Done cs B) M (map subtask_view ss) → i < length ss → (x : ℕ) × (slice_get M i ≡ Some x) × Done cs B x (subtask_view (get_or ss i d))
+pub zip_read : (cs : List (Option Work)) (B M : List ℕ) (ss : List code_subtask.Subtask) (i : ℕ) (d : code_subtask.Subtask) → AllZip (Done cs B) M (map subtask_view ss) → i < length ss → (x : ℕ) × (slice_get M i ≡ Some x) × Done cs B x (subtask_view (get_or ss i d))
 zip_read cs B M [] i d a h = absurd (omega arith)
 zip_read cs B [] (s ∷ ss) i d a h = absurd a
 zip_read cs B (x ∷ M) (s ∷ ss) zero d a h = (x, refl, a.0)
@@ -170,12 +170,12 @@ none_scarce pz ks j keys few k = none_fits pz [] (λ q xs e m. go q m (slice_get
         omega (arith, few, size, most, keys.sizes r.0)
 
 -- a subtask that no child may do
-get_at : (ss : List code_subtask.Subtask) (j : ℕ) (d : code_subtask.Subtask) → j < length ss → slice_get (map subtask_view ss) j ≡ Some (subtask_view (get_or ss j d))
+pub get_at : (ss : List code_subtask.Subtask) (j : ℕ) (d : code_subtask.Subtask) → j < length ss → slice_get (map subtask_view ss) j ≡ Some (subtask_view (get_or ss j d))
 get_at [] j d h = absurd (omega arith)
 get_at (s ∷ ss) zero d h = refl
 get_at (s ∷ ss) (suc j) d h = get_at ss j d (omega arith)
 
-child_there : (pz : Puzzle) (j : ℕ) (s : Subtask) → slice_get pz.subtasks j ≡ Some s → (B : List ℕ) (x : ℕ) → Done pz.children B x s → Contains (children_for pz j) x
+pub child_there : (pz : Puzzle) (j : ℕ) (s : Subtask) → slice_get pz.subtasks j ≡ Some s → (B : List ℕ) (x : ℕ) → Done pz.children B x s → Contains (children_for pz j) x
 child_there pz j s e B x does =
     let z : 0 + x ≡ x = omega arith in
     let may : may_do s (child_at pz.children x) ≡ true = ap (may_do s) does ∙ done_may s B in

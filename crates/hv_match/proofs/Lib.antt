@@ -15,6 +15,7 @@ pub mod Fitting
 pub mod Steps
 pub mod Scarce
 pub mod Hope
+pub mod Foretelling
 pub mod Bridge
 pub mod Ways
 pub mod NodeLemmas

@@ -32,6 +32,11 @@ pub(crate) struct RowKeys {
 }
 
 impl RowKeys {
+    /// Whether some subtasks share a key.
+    pub(crate) fn has_rivals(&self) -> bool {
+        self.keys.len() < self.row_of.len()
+    }
+
     /// How many subtasks have the key that the subtask of a number has.
     pub(crate) fn size(&self, subtask: usize) -> usize
         ensures { result ≡ tables.size_for self.now subtask }

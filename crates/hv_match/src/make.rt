@@ -20,6 +20,7 @@ ghost use Rattle.hv_match.specs.inside.Ranges.{AreRangesOf, AreWorks, IsRange, a
 use crate::child_rows::{child_rows_for, row_keys};
 use crate::counts::exact_count;
 use crate::decided::{decided, decided_atoms};
+use crate::foretold::tellers;
 use crate::puzzle::{Puzzle, Work};
 use crate::sources::sources;
 use crate::table::MethodTable;
@@ -135,6 +136,7 @@ pub(crate) fn method_table<'w>(
     let constraints = method.network().constraints();
     let keys = row_keys(alloc, subtasks)?;
     let sources = sources(alloc, ranges.len(), task, subtasks)?;
+    let tellers = tellers(alloc, ranges.len(), subtasks, &keys)?;
     let decided = decided(alloc, subtasks.len(), &sources, constraints)?;
     let needed = needed_atoms(alloc, method.precondition())?;
     let needed_by = decided_atoms(alloc, subtasks.len(), &sources, &needed)?;
@@ -147,6 +149,7 @@ pub(crate) fn method_table<'w>(
         keys,
         decided,
         sources,
+        tellers,
         needed,
         needed_by,
         count,

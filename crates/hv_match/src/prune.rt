@@ -112,15 +112,23 @@ impl Puzzle<'_> {
         }
     }
 
+    // Whether a parameter is bound to an object that it cannot have.
+    fn is_misbound(&self, chosen: &[usize], parameter: usize) -> bool
+        ensures { result ≡ true → NothingBegins (search_of self.now) chosen.now }
+    {
+        self.is_bound_outside(chosen, parameter) || self.is_foretold_otherwise(chosen, parameter)
+    }
+
     // Whether one of the parameters that have their objects from these terms, those of a subtask or
-    // of the task, is bound to an object that is not of its type.
+    // of the task, is bound to an object that it cannot have: by its type, or by what another subtask
+    // tells of it.
     fn is_outside(&self, chosen: &[usize], subtask: Option<usize>, terms: &[Term]) -> bool
         ensures { result ≡ true → NothingBegins (search_of self.now) chosen.now }
     {
         for term in terms {
             if let Term::Variable(parameter) = *term
                 && self.is_bound_by(parameter, subtask)
-                && self.is_bound_outside(chosen, parameter)
+                && self.is_misbound(chosen, parameter)
             {
                 return true;
             }

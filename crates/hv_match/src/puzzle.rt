@@ -38,8 +38,8 @@ pub(crate) struct Puzzle<'a> {
     pub(crate) ghost placed: { ArePlaces table.now.subtasks.now children.items places },
 }
 
-// The object at a position.
-fn object_at(objects: &[ObjectId], position: usize) -> Option<usize>
+/// The object at a position.
+pub(crate) fn object_at(objects: &[ObjectId], position: usize) -> Option<usize>
     ensures { result ≡ slice_get (map object_number objects.now) position }
 {
     match objects.get(position) {
@@ -133,8 +133,8 @@ pub(crate) fn work_does(work: Work<'_>, values: &[usize], subtask: &Subtask) -> 
 impl<'a> Puzzle<'a> {
     ghost use Rattle.hv_match.specs.inside.PuzzleViews.{puzzle_view};
 
-    // What the child at a place does.
-    fn child(&self, place: usize) -> Option<Work<'a>>
+    /// What the child at a place does.
+    pub(crate) fn child(&self, place: usize) -> Option<Work<'a>>
         ensures { option_map work_view result
             ≡ puzzles.child_at (puzzle_view self.now).children place }
     {

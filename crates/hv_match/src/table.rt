@@ -22,6 +22,8 @@ pub(crate) struct MethodTable<'w> {
     pub(crate) keys: RowKeys,
     /// For each parameter the place from which it has its object.
     pub(crate) sources: Vec<Option<Source>>,
+    /// For each parameter a place in a subtask that alone has its key, if some do not.
+    pub(crate) tellers: Vec<Option<Source>>,
     /// For each number of choices the numbers of the constraints that so many decide.
     pub(crate) decided: Vec<Vec<usize>>,
     /// The atoms that the precondition needs.

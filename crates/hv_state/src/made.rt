@@ -125,8 +125,8 @@ fn take_made_for_each<T: Take>(
     }
 }
 
-/// Puts the rows of the atoms that effects make true, or false, behind others. A row stands as often
-/// as an effect makes its atom so.
+/// Puts the rows of the atoms that effects make true, or false, behind others. One may stand there
+/// more than once, as where two effects make its atom so.
 pub(crate) fn push_made(
     world: &World<'_>,
     rows: &mut Vec<Row>,

@@ -221,6 +221,10 @@ CannotDo p q x s = (B : List ℕ) → Agrees p q B → Done p.children B x s →
 abbrev pub IsChosen : Puzzle → List ℕ → ℕ → ℕ → Type 0
 IsChosen p q v o = slice_get q (length p.subtasks + v) ≡ Some o
 
+-- the v-th parameter has this object in every match
+abbrev pub IsForetold : Puzzle → ℕ → ℕ → Type 0
+IsForetold p v o = (M B : List ℕ) → IsMatch p M B → slice_index B v ≡ o
+
 -- B goes on from the choices q: it has what the task and the children chosen say of parameters, the objects chosen,
 -- and for each parameter an object that it may have
 pub record GoesOn (p : Puzzle) (q B : List ℕ) : Type 0 where

@@ -2,7 +2,9 @@
 
 use crate::texts::{PLAIN, place_in};
 use hv_syntax::{read_domain, read_problem};
-use hv_world::{Side, StaticKind, World};
+use hv_text::Memory;
+use hv_world::{Side, StaticFault, StaticKind, World};
+use std::alloc::Global;
 
 // Each fault of a domain once or more, and where it stands.
 const DOMAINS: [(&[u8], StaticKind, (u32, u32)); 32] = [
@@ -281,28 +283,27 @@ const PROBLEMS: [(&[u8], StaticKind, (u32, u32)); 21] = [
 const DOMAIN: &[u8] =
     b"(define (domain d) (:predicates (p ?x)) (:task t :parameters (?x)) (:action a))";
 
+// Builds the world of a domain and a problem; want of memory too where they are not read.
+fn build(alloc: Global, domain: &[u8], problem: &[u8]) -> Result<(), StaticFault> {
+    let domain = read_domain(alloc, domain).map_err(|_| Memory)?;
+    let domain = Box::new(alloc, domain).map_err(|_| Memory)?;
+    let problem = read_problem(alloc, problem).map_err(|_| Memory)?;
+    World::build(alloc, &domain, &problem)?;
+    Ok(())
+}
+
 // The static fault of a domain and a problem that are read, with its line and column.
 fn fault_of(
     rt: &HostRuntime,
     domain: &[u8],
     problem: &[u8],
 ) -> Option<(Side, StaticKind, (u32, u32))> {
-    let Ok(domain_text) = read_domain(rt.alloc(), domain) else {
-        return Some((Side::Domain, StaticKind::Memory, (0, 1)));
+    let fault = build(rt.alloc(), domain, problem).err()?;
+    let text = match fault.side {
+        Side::Domain => domain,
+        Side::Problem => problem,
     };
-    let Ok(problem_text) = read_problem(rt.alloc(), problem) else {
-        return Some((Side::Problem, StaticKind::Memory, (0, 1)));
-    };
-    match World::build(rt.alloc(), &domain_text, &problem_text) {
-        Ok(_) => None,
-        Err(fault) => {
-            let text = match fault.side {
-                Side::Domain => domain,
-                Side::Problem => problem,
-            };
-            Some((fault.side, fault.kind, place_in(text, fault.span)))
-        }
-    }
+    Some((fault.side, fault.kind, place_in(text, fault.span)))
 }
 
 #[test]
