@@ -7,7 +7,7 @@ ghost use Rattle.hv_world.specs.WorldViews.{world_view};
 ghost use Rattle.hv_plan.specs.BuiltTrees.{tree_view};
 ghost use Rattle.hv_plan.specs.TreeViews.{child_view};
 ghost use Rattle.hv_order.specs.inside.Writings.{HasId};
-ghost use Rattle.hv_order.specs.inside.Checks.{IsPlaceIn, ArePlacesOf, AreToldApart, AreObjectsOf};
+ghost use Rattle.hv_order.specs.inside.Checks.{IsPlaceIn, ArePlacesIn, ArePlacesOf, AreToldApart, AreObjectsOf};
 
 use crate::certify::child_ids;
 use crate::memory::Memory;
@@ -17,15 +17,75 @@ use hv_world::{ObjectId, World};
 use indexmap::IndexSet;
 use std::alloc::Global;
 
-// The place of an id, that behind the last where it has none, in 32 bits, which are enough for the
-// children in every text.
+// Of so few children the ids are looked through, and none is hashed.
+const FEW: usize = 8;
+
+// A place in 32 bits, which are enough for the children in every text.
+fn narrow(place: usize) -> Result<u32, Memory>
+    ensures { IfOk result (λ p. p ≡ place) }
+{
+    match u32::try_from(place) {
+        Ok(place) => Ok(place),
+        Err(_) => Err(Memory),
+    }
+}
+
+// The place of an id in a table, that behind the last where it has none.
 fn place_of(table: &IndexSet<u64, Seeded>, id: u64) -> Result<u32, Memory>
     requires { Once table.now.keys }
     ensures { IfOk result (IsPlaceIn table.now.keys id) }
 {
-    match u32::try_from(place_in(table, id)) {
-        Ok(place) => Ok(place),
-        Err(_) => Err(Memory),
+    let place = narrow(place_in(table, id))?;
+    Ok(place)
+}
+
+// The place of an id among others, that behind the last where it is not among them.
+fn place_among(own: &[u64], id: u64) -> usize
+    requires { Once own.now }
+    ensures { IsPlaceIn own.now id result }
+{
+    for (place, other) in own.iter().enumerate() {
+        if *other == id {
+            return place;
+        }
+    }
+    own.len()
+}
+
+// The places of ids among a few.
+fn few_places(alloc: Global, own: &[u64], ids: &[u64]) -> Result<Vec<u32>, Memory>
+    requires { Once own.now }
+    ensures { IfOk result (λ v. ArePlacesIn own.now ids.now v.items) }
+{
+    let mut places = Vec::with_capacity(alloc, ids.len())?;
+    for id in ids {
+        places.push(narrow(place_among(own, *id))?)?;
+    }
+    Ok(places)
+}
+
+// The places of ids among many.
+fn many_places(alloc: Global, own: &[u64], ids: &[u64]) -> Result<Vec<u32>, Memory>
+    requires { Once own.now }
+    ensures { IfOk result (λ v. ArePlacesIn own.now ids.now v.items) }
+{
+    let table = table_of_ids(alloc, own)?;
+    let mut places = Vec::with_capacity(alloc, ids.len())?;
+    for id in ids {
+        places.push(place_of(&table, *id)?)?;
+    }
+    Ok(places)
+}
+
+// The places of ids among others.
+fn places_among(alloc: Global, own: &[u64], ids: &[u64]) -> Result<Vec<u32>, Memory>
+    requires { Once own.now }
+    ensures { IfOk result (λ v. ArePlacesIn own.now ids.now v.items) }
+{
+    if own.len() <= FEW {
+        few_places(alloc, own, ids)
+    } else {
+        many_places(alloc, own, ids)
     }
 }
 
@@ -42,11 +102,7 @@ pub(crate) fn places_of(
         ArePlacesOf (tree_view tree.now) (map child_view children.now) ids.now v.items) }
 {
     let own = child_ids(alloc, tree, children)?;
-    let table = table_of_ids(alloc, &own)?;
-    let mut places = Vec::new(alloc);
-    for id in ids {
-        places.push(place_of(&table, *id)?)?;
-    }
+    let places = places_among(alloc, &own, ids)?;
     Ok(places)
 }
 

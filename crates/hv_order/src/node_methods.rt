@@ -10,8 +10,8 @@ ghost use Rattle.hv_match.specs.Candidates.{node_method, method_at};
 use hv_plan::{Node, Tree};
 use hv_world::{Method, World};
 
-// The method of a node, which for the root line's is the initial network.
-fn method_for<'a, 's>(world: &'a World<'s>, node: &Node<'_>) -> Option<&'a Method<'s>>
+/// The method of a node, which for the root line's is the initial network.
+pub(crate) fn method_for<'a, 's>(world: &'a World<'s>, node: &Node<'_>) -> Option<&'a Method<'s>>
     ensures { option_map (λ m. method_view m.now) result
         ≡ node_method (world_view world.now) (node_view node.now) }
 {

@@ -6,8 +6,8 @@ ghost use Rattle.hv_order.specs.inside.Nodes.{AreAllOf};
 
 use crate::frame::Candidates;
 use crate::memory::Memory;
+use crate::told::Told;
 use crate::trial::{Arranged, Stretch};
-use hv_plan::Child;
 use std::alloc::Global;
 
 /// The nodes of a plan, with their candidates, and where the preconditions of these are true.
@@ -34,13 +34,10 @@ pub trait Nodes {
         requires node { node < size self.now }
         ensures { (s f : ℕ) → (facts self.now).fits node s f → result ≤ f };
 
-    /// The state that the children of a node begin behind from a start on, whatever candidate is
-    /// taken, where that is told without one. It is asked for to save time, and no answer hangs on it.
-    fn told_begin(&self, node: u32, start: u32) -> Option<u32>;
-
-    /// The child that is laid out at a place of a node's order behind the one at the place before and
-    /// no other, whatever candidate is taken, where names tell it. No answer hangs on it either.
-    fn told_child(&self, node: u32, place: usize) -> Option<Child>;
+    /// How a node's children are laid out from a start on, whatever candidate is taken, as far as that
+    /// is told without one, and there are nodes among them. It is asked for to save time, and no answer
+    /// hangs on it.
+    fn told(&self, node: u32, start: u32) -> Option<Told>;
 
     /// The first index from `from` to `upto` at which a candidate's precondition is true, and one
     /// up to which it stays true.

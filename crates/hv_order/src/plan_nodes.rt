@@ -15,16 +15,16 @@ use crate::children::latest_start;
 use crate::ends::end_at;
 use crate::lister::{Lister, candidates_of};
 use crate::memory::Memory;
-use crate::node_methods::method_if;
+use crate::node_methods::{method_for, method_if};
 use crate::nodes::Nodes;
 use crate::sequencing::{Sequencings, make_sequencings, sequencing_of};
 use crate::spans::Spans;
-use crate::told::{is_empty, told_child};
+use crate::told::{Told, is_empty, told_children};
 use crate::trial::{Arranged, Stretch};
 use hv_match::Matcher;
 use hv_plan::{Child, Tree};
 use hv_state::{BitState, Trace};
-use hv_world::{Binding, World};
+use hv_world::{Binding, Method, World};
 use std::alloc::Global;
 use std::marker::Model;
 use std::rc::Rc;
@@ -118,6 +118,26 @@ impl<'a, 's, 'm, 'p, 't, 'c, 'd> PlanNodes<'a, 's, 'm, 'p, 't, 'c, 'd> {
         self.tree
     }
 
+    // The state from a start on that the children of a node with this method begin behind: where its
+    // precondition counts, the first in which it is true, which is not told where it has parameters.
+    fn told_begin(&self, method: &Method<'_>, children: &[Child], start: u32) -> Option<u32> {
+        if !self.is_with || is_empty(method.precondition()) {
+            return Some(start);
+        }
+        if !method.parameters().is_empty() {
+            return None;
+        }
+        let end = self.tree.actions().len();
+        let latest = latest_start(children, u32::MAX) as usize;
+        let (first, _) = self.trace.first_true(
+            start as usize,
+            latest.min(end),
+            method.precondition(),
+            &Binding::Given(&[]),
+        )?;
+        Some(first as u32)
+    }
+
     /// A law of the value: these are nodes whose finishes can be worked out.
     pub fn are_nodes(&self)
         ensures { AreNodes (plan_facts self.now) }
@@ -175,28 +195,12 @@ impl<'a, 's, 'm, 'p, 't, 'c, 'd> Nodes for PlanNodes<'a, 's, 'm, 'p, 't, 'c, 'd>
         end_at(&self.spans.ends, node)
     }
 
-    fn told_begin(&self, node: u32, start: u32) -> Option<u32> {
-        let method = method_if(self.world, self.tree, node)?;
-        if !self.is_with || is_empty(method.precondition()) {
-            return Some(start);
-        }
-        if !method.parameters().is_empty() {
-            return None;
-        }
-        let end = self.tree.actions().len();
-        let latest = latest_start(self.tree.node(node)?.children(), u32::MAX) as usize;
-        let (first, _) = self.trace.first_true(
-            start as usize,
-            latest.min(end),
-            method.precondition(),
-            &Binding::Given(&[]),
-        )?;
-        Some(first as u32)
-    }
-
-    fn told_child(&self, node: u32, place: usize) -> Option<Child> {
-        let method = method_if(self.world, self.tree, node)?;
-        told_child(self.tree, method, node, place)
+    fn told(&self, node: u32, start: u32) -> Option<Told> {
+        let node = self.tree.node(node)?;
+        let method = method_for(self.world, &node)?;
+        let children = told_children(self.tree, method, &node)?;
+        let begin = self.told_begin(method, node.children(), start)?;
+        Some(Told { begin, children })
     }
 
     fn first_true(&self, candidate: &Arranged, from: u32, upto: u32) -> Option<Stretch> {

@@ -256,12 +256,13 @@ pub fn ahead<N: Nodes>(nodes: &N, memo: &Memo, pair: Pair) -> Option<Pair>
         IsWanted (N.facts nodes.now) memo.now pair.node c.node c.start) }
 {
     let last = nodes.last();
-    let mut start = nodes.told_begin(pair.node, pair.start)?;
-    for place in 0..FEW {
+    let told = nodes.told(pair.node, pair.start)?;
+    let mut start = told.begin;
+    for child in told.children {
         if last < start {
             return None;
         }
-        match nodes.told_child(pair.node, place)? {
+        match child? {
             Child::Action(action) => start = run_of_action(action, start, last).finish?,
             Child::Node(node) => {
                 if pair.node <= node {

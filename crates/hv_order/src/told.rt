@@ -2,8 +2,16 @@
 //! time of the search hangs on it.
 
 use crate::solve::FEW;
-use hv_plan::{Child, Tree};
-use hv_world::{Formula, Method, Order, TaskName};
+use hv_plan::{Child, Node, Tree};
+use hv_world::{Formula, Method, Order, Subtask, TaskName};
+
+/// The state that the children of a node begin behind, and those of them that are laid out one behind
+/// the other and behind no other, up to the first of which that is not told.
+#[derive(Clone, Copy)]
+pub struct Told {
+    pub begin: u32,
+    pub children: [Option<Child>; FEW],
+}
 
 /// Whether a precondition has no part, so that it is true everywhere.
 pub(crate) fn is_empty(precondition: &Formula) -> bool {
@@ -27,11 +35,20 @@ fn name_of(tree: &Tree<'_, '_>, child: Child) -> Option<TaskName> {
     }
 }
 
+// The names of what a few children do.
+fn names_of(tree: &Tree<'_, '_>, children: &[Child]) -> [Option<TaskName>; FEW] {
+    let mut names = [None; FEW];
+    for (name, child) in names.iter_mut().zip(children) {
+        *name = name_of(tree, *child);
+    }
+    names
+}
+
 // The one of these children that does what has a name, if there is just one.
-fn only_one(tree: &Tree<'_, '_>, children: &[Child], name: TaskName) -> Option<Child> {
+fn only_one(children: &[Child], names: &[Option<TaskName>], wanted: TaskName) -> Option<Child> {
     let mut found = None;
-    for child in children {
-        if name_of(tree, *child) == Some(name) {
+    for (child, name) in children.iter().zip(names) {
+        if *name == Some(wanted) {
             if found.is_some() {
                 return None;
             }
@@ -53,19 +70,47 @@ fn is_next(order: &Order, place: usize, subtask: usize) -> bool {
     }
 }
 
-/// The child that is laid out at a place of the order of a node with this method, behind the one at
-/// the place before it and no other: the only one with its subtask's name among a few.
-pub(crate) fn told_child(
-    tree: &Tree<'_, '_>,
-    method: &Method<'_>,
-    node: u32,
+// The child that is laid out at a place of an order, behind the one at the place before it and no other:
+// the only one with its subtask's name.
+fn told_child(
+    order: &Order,
+    subtasks: &[Subtask],
+    children: &[Child],
+    names: &[Option<TaskName>],
     place: usize,
 ) -> Option<Child> {
-    let network = method.network();
-    let subtask = *network.order().arrangement().get(place)?;
-    let children = tree.node(node)?.children();
-    if FEW < children.len() || !is_next(network.order(), place, subtask) {
+    let subtask = *order.arrangement().get(place)?;
+    if !is_next(order, place, subtask) {
         return None;
     }
-    only_one(tree, children, network.subtasks().get(subtask)?.name)
+    only_one(children, names, subtasks.get(subtask)?.name)
+}
+
+// Whether there is a node among these.
+fn has_node(children: &[Child]) -> bool {
+    for child in children {
+        if let Child::Node(_) = child {
+            return true;
+        }
+    }
+    false
+}
+
+/// The children of a node with this method that are told, where they are few and nodes among them.
+pub(crate) fn told_children(
+    tree: &Tree<'_, '_>,
+    method: &Method<'_>,
+    node: &Node<'_>,
+) -> Option<[Option<Child>; FEW]> {
+    let children = node.children();
+    if FEW < children.len() || !has_node(children) {
+        return None;
+    }
+    let network = method.network();
+    let names = names_of(tree, children);
+    let mut told = [None; FEW];
+    for (place, child) in told.iter_mut().enumerate() {
+        *child = told_child(network.order(), network.subtasks(), children, &names, place);
+    }
+    Some(told)
 }

@@ -26,6 +26,10 @@ pub record IsPlaceIn (ids : List ℕ) (i p : ℕ) : Type 0 where
   pub there : p < length ids → slice_get ids p ≡ Some i
   pub only : (x : ℕ) → slice_get ids x ≡ Some i → x ≡ p
 
+-- so of several ids
+abbrev pub ArePlacesIn : List ℕ → List ℕ → List ℕ → Type 0
+ArePlacesIn own ids ps = AllZip (λ p i. IsPlaceIn own i p) ps ids
+
 -- the child at place x begins with this id
 abbrev pub StandsAt : PlanTree → List Item → ℕ → ℕ → Type 0
 StandsAt t xs i x = (y : Item) × (slice_get xs x ≡ Some y) × StandsFor t i y
