@@ -42,6 +42,35 @@ const WAYS: [(&[u8], usize, usize); 5] = [
     (b"==>\n1 see p\nroot 2\n2 go p -> never 1\n<==", 1, 0),
 ];
 
+// Notes candidates that are still to come, where they are fewer than a hundred.
+fn note(alloc: Global, candidates: &mut Candidates<'_>, noted: &mut Vec<Candidate>) -> Option<()> {
+    for _ in 0..100 {
+        if !candidates.advance().ok()? {
+            return Some(());
+        }
+        noted.push(lent(alloc, candidates)?).ok()?;
+    }
+    None
+}
+
+// Notes the candidates of a node that are possible on the way of the plan.
+fn note_possible(
+    alloc: Global,
+    world: &World<'_>,
+    tree: &Tree<'_, '_>,
+    node: u32,
+    trace: &Trace<'_, '_, BitState>,
+    noted: &mut Vec<Candidate>,
+) -> Option<()>
+    requires tree { IsTreeIn (world_view world.now) (tree_view tree.now) }
+    requires node { node < length (tree_view tree.now).nodes }
+{
+    let matcher = matcher_of(alloc, world)?;
+    let ever = Some(trace.ever_true());
+    let mut candidates = Candidates::new(alloc, &matcher, tree, node, ever).ok()?;
+    note(alloc, &mut candidates, noted)
+}
+
 // The possible candidates of a node, where they are fewer than a hundred.
 fn possible(
     alloc: Global,
@@ -53,17 +82,9 @@ fn possible(
     requires node { node < length (tree_view tree.now).nodes }
 {
     let trace: Trace<BitState> = Trace::run(alloc, world, tree.actions()).ok()?;
-    let matcher = matcher_of(alloc, world)?;
-    let ever = Some(trace.ever_true());
-    let mut candidates = Candidates::new(alloc, &matcher, tree, node, ever).ok()?;
     let mut possible = Vec::new(alloc);
-    for _ in 0..100 {
-        if !candidates.advance().ok()? {
-            return Some(possible);
-        }
-        possible.push(lent(alloc, &candidates)?).ok()?;
-    }
-    None
+    note_possible(alloc, world, tree, node, &trace, &mut possible)?;
+    Some(possible)
 }
 
 // The candidates of line 2, how many there are and those of them that are possible.
