@@ -20,6 +20,6 @@ returns-in-Some c =
     let at = c.stands_at.ensures c.if-not-stands_at.false in
     let child = sym c.child.ensures ∙ ap (option_map work_view) c.in-Some.is in
     if_told p c.args.parameter c.object_at.result (λ n e.
-        foretells p ss refl j _ c.requires c.row-row.result.now are c.if-row-ne1.false c.args.position c.args.parameter n
-        (subst (λ (ts : List Term). slice_get (map term_view ts) c.args.position ≡ Some (variable c.args.parameter)) c.deref.ensures.value at)
-        (ap (λ x. slice_get (objects_of x) c.args.position) child ∙ sym c.object_at.ensures ∙ e))
+    foretells p ss refl j _ c.requires c.row-row.result.now are c.if-row-ne1.false c.args.position c.args.parameter n
+    (subst (λ (ts : List Term). slice_get (map term_view ts) c.args.position ≡ Some (variable c.args.parameter)) c.deref.ensures.value at)
+    (ap (λ x. slice_get (objects_of x) c.args.position) child ∙ sym c.object_at.ensures ∙ e))
