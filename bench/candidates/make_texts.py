@@ -6,8 +6,9 @@
 `free` and `equal`: a method with three parameters that nothing binds, with SIZE objects each; `equal` has a constraint
 that the first two are one. `names`: a node of SIZE children, each of another action. `objects`: the same with one
 action, and another object for each child. `typed`: as `late`, but each parameter has a type of its own instead of a
-constraint. `mixed`: 20 nodes with SIZE alike children, of which three do what no subtask wants. `chain`: SIZE nodes
-below one another, each with an action and the next node for its children.
+constraint. `last`: as `late`, but a last subtask, which has no rival, says the order. `mixed`: 20 nodes with SIZE alike
+children, of which three do what no subtask wants. `chain`: SIZE nodes below one another, each with an action and the next
+node for its children.
 """
 import random
 import sys
@@ -38,14 +39,18 @@ def shuffled(count, seed):
     return order
 
 
-def many_nodes(size, action, arguments, subtasks, parameters, constraints, objects):
-    """NODES nodes whose children do `action`, in an order of their own."""
+def many_nodes(size, action, arguments, subtasks, parameters, constraints, objects, last=None):
+    """NODES nodes whose children do `action`, in an order of their own, and then what is last, if it is given: a subtask and what does it."""
+    subtasks = subtasks + [last[0]] if last else subtasks
     method = f"(:method m :parameters ({parameters} ?n) :task (t ?n)\n:ordered-subtasks (and {' '.join(subtasks)}){constraints})"
     domain = domain_of(*objects[1], "(:task t :parameters (?n))", action, method)
     actions, lines, root = [], [], []
     for node in range(NODES):
         ids = [node * size + k for k in shuffled(size, node)]
         actions += [f"{node * size + k} a {arguments(k)}" for k in range(size)]
+        if last:
+            ids.append((size + 1) * NODES + node)
+            actions.append(f"{ids[-1]} {last[1]}")
         root.append(NODES * size + node)
         lines.append(f"{root[-1]} t n{node} -> m {' '.join(map(str, ids))}")
     return domain, problem_of(f"{objects[0]} {sequence('n', NODES)}", [f"(t n{node})" for node in range(NODES)]), plan_of(actions, lines, root)
@@ -69,6 +74,14 @@ def typed(size):
     subtasks = [f"(a ?x{k})" for k in range(size)]
     parameters = " ".join(f"?x{k} - t{k}" for k in range(size))
     return many_nodes(size, action, lambda k: f"o{k}", subtasks, parameters, "", (" ".join(f"o{k} - t{k}" for k in range(size)), [f"(:types {sequence('t', size)})"]))
+
+
+def last(size):
+    parameters = sequence("?x", size)
+    subtasks = [f"(a ?x{k})" for k in range(size)]
+    objects = ("", [f"(:constants {sequence('o', size)})", f"(:action b :parameters ({parameters}))"])
+    teller = (f"(b {parameters})", f"b {sequence('o', size)}")
+    return many_nodes(size, "(:action a :parameters (?x))", lambda k: f"o{k}", subtasks, parameters, "", objects, teller)
 
 
 def mixed(size):
@@ -104,7 +117,7 @@ def objects(size):
 
 
 def main():
-    kinds = {"tour": tour, "late": late, "typed": typed, "mixed": mixed, "free": free, "equal": equal, "names": names, "objects": objects, "chain": chain}
+    kinds = {"tour": tour, "late": late, "typed": typed, "last": last, "mixed": mixed, "free": free, "equal": equal, "names": names, "objects": objects, "chain": chain}
     texts = kinds[sys.argv[1]](int(sys.argv[2]))
     for name, text in zip(sys.argv[3:], texts):
         with open(name, "w") as file:

@@ -7,7 +7,7 @@ import sys
 from runs import numbers
 
 ROUNDS = 3
-RUNS = [("tour", 9), ("late", 7), ("late", 9), ("typed", 9), ("mixed", 11), ("free", 20), ("free", 50), ("free", 100), ("equal", 100)]
+RUNS = [("tour", 9), ("late", 7), ("late", 9), ("typed", 9), ("last", 9), ("mixed", 11), ("free", 20), ("free", 50), ("free", 100), ("equal", 100)]
 RUNS += [(kind, size) for kind in ("names", "objects") for size in (10, 100, 1000, 10000)]
 RUNS += [("chain", 100000), ("chain", 1000000)]
 HERE = os.path.dirname(os.path.abspath(__file__))

@@ -6,5 +6,5 @@ here=$(cd "$(dirname "$0")" && pwd)
 . "$here/../../bench/harness.sh"
 texts=$here/wide
 words="$texts/domain.hddl $texts/problem.hddl $texts/plan.txt $texts/certificate.txt"
-build hv_lists hv_text hv_syntax hv_world hv_state hv_plan hv_match hv_certificate hv_order hv_answer hv_judge
+build hv_judge
 PYTHONPATH=$top/sweep python3 "$here/refuse.py" "$work/crates/bench/out/bench"
