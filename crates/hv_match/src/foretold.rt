@@ -13,7 +13,7 @@ use hv_text::Memory;
 use hv_world::{Subtask, Term};
 use std::alloc::Global;
 
-/// For each parameter its place in the first subtask that has it and alone has its key. The table is
+/// For each parameter its place in the last subtask that has it and alone has its key. The table is
 /// empty where each subtask alone has its key, so that no child has a rival. Only the time of the
 /// search hangs on it.
 pub(crate) fn tellers(
