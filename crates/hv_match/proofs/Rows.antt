@@ -16,7 +16,7 @@ use Rattle.hv_world.specs.declared.id.ObjectId.{ObjectId}
 use Rattle.hv_world.specs.Alike.{same_name}
 use Rattle.hv_world.specs.Values.{Term, TaskName, compound, primitive, Subtask}
 use Rattle.hv_match.specs.inside.Puzzles.{Work, is_ground, first_fixed, stands_there, same_values, may_do, places_where}
-use Rattle.hv_match.specs.inside.Tables.{key_head, mark_of, one_key, work_key, key_at, subtask_key, has_one, has_key, number_of, row_at, AreKeys, AreNamed, IsFixedBelow, AreFixedBelow, AreRows, HasPut, HasPutExact, HavePutOnes, HasPutOnes, row_for, AreChildRows}
+use Rattle.hv_match.specs.inside.Tables.{is_bare, key_head, mark_of, one_key, work_key, key_at, subtask_key, has_one, has_key, number_of, row_at, AreKeys, IsFixedBelow, AreFixedBelow, AreRows, HasPut, HasPutName, HasPutExact, HavePutOnes, HasPutOnes, row_for, AreChildRows}
 use Rattle.hv_match.specs.declared.child_rows.ChildRows.{ChildRows}
 use Rattle.hv_match.specs.declared.child_rows.RowKeys.{RowKeys}
 use Rattle.hv_match.proofs.Factors.{name_is, name_itself}
@@ -318,20 +318,26 @@ row_within ss cs j x m = go (slice_get ss j) m
     go (Some s) m = omega (arith, (places_within (may_do s) 0 cs x m).1)
 
 -- the key of a subtask is looked for
-key_sought : (s : Subtask) (exact : Bool) (width : ℕ) → (exact ≡ false → is_ground s.terms ≡ false) → IsFixedBelow width s → (exact ≡ false → mark_of (subtask_key s) ≢ 1) × (mark_of (subtask_key s) < 2 + width)
-key_sought s exact width named below = go (is_ground s.terms) refl
+key_sought : (s : Subtask) (exact bare : Bool) (width : ℕ) → (exact ≡ false → is_ground s.terms ≡ false) → (bare ≡ false → is_bare s ≡ false) → IsFixedBelow width s →
+    (exact ≡ false → mark_of (subtask_key s) ≢ 1) × (bare ≡ false → mark_of (subtask_key s) ≢ 0) × (mark_of (subtask_key s) < 2 + width)
+key_sought s exact bare width named bound below = go (is_ground s.terms) refl
   where
-    fixed : (o : Option (ℕ × ℕ)) → ((p x : ℕ) → o ≡ Some (p, x) → p < width) → (exact ≡ false → mark_of (key_at s.name o) ≢ 1) × (mark_of (key_at s.name o) < 2 + width)
-    fixed None h = let mark = name_mark s.name (key_head 0 s.name) (key_itself (key_head 0 s.name)) in ((λ x e. absurd (omega (arith, e, mark))), omega (arith, mark))
-    fixed (Some f) h = let mark = mark_is (2 + f.0) s.name (f.1 ∷ []) in ((λ x e. absurd (omega (arith, e, mark))), omega (arith, mark, h f.0 f.1 refl))
+    fixed : (o : Option (ℕ × ℕ)) → (o ≡ None → bare ≡ false → ⊥) → ((p x : ℕ) → o ≡ Some (p, x) → p < width) →
+        (exact ≡ false → mark_of (key_at s.name o) ≢ 1) × (bare ≡ false → mark_of (key_at s.name o) ≢ 0) × (mark_of (key_at s.name o) < 2 + width)
+    fixed None some h = let mark = name_mark s.name (key_head 0 s.name) (key_itself (key_head 0 s.name)) in ((λ x e. absurd (omega (arith, e, mark))), (λ x e. some refl x), omega (arith, mark))
+    fixed (Some f) some h = let mark = mark_is (2 + f.0) s.name (f.1 ∷ []) in ((λ x e. absurd (omega (arith, e, mark))), (λ x e. absurd (omega (arith, e, mark))), omega (arith, mark, h f.0 f.1 refl))
+
+    is_so : is_ground s.terms ≡ false → first_fixed 0 s.terms ≡ None → is_bare s ≡ true
+    is_so e none = ap (λ (o : Option (ℕ × ℕ)). elim o [ None ↦ not (is_ground s.terms) | Some f ↦ false ]) none ∙ ap not e
 
     go : (b : Bool) → is_ground s.terms ≡ b →
         (exact ≡ false → mark_of (if b then key_head 1 s.name ++ map (object_of []) s.terms else key_at s.name (first_fixed 0 s.terms)) ≢ 1)
+        × (bare ≡ false → mark_of (if b then key_head 1 s.name ++ map (object_of []) s.terms else key_at s.name (first_fixed 0 s.terms)) ≢ 0)
         × (mark_of (if b then key_head 1 s.name ++ map (object_of []) s.terms else key_at s.name (first_fixed 0 s.terms)) < 2 + width)
     go true e =
         let mark = mark_is 1 s.name (map (object_of []) s.terms) in
-        ((λ x f. true≢false (sym e ∙ named x)), omega (arith, mark))
-    go false e = fixed (first_fixed 0 s.terms) (below e)
+        ((λ x f. true≢false (sym e ∙ named x)), (λ x f. absurd (omega (arith, f, mark))), omega (arith, mark))
+    go false e = fixed (first_fixed 0 s.terms) (λ none x. true≢false (sym (is_so e none) ∙ bound x)) (below e)
 
 pub placed : (ks : Bor RowKeys) (ss : List Subtask) (cs : List (Option Work)) (rows : List (Vec ℕ)) (ls : List (List ℕ)) → AreKeys ss ks.now → AreRows ks.now cs rows → ls ≡ map (λ v. v.items) rows →
     AreChildRows ss cs (record { keys = ks; rows = ls; is_by_subtask = false })
@@ -339,7 +345,7 @@ placed ks ss cs rows ls keys are same j s h =
     let r = number_at ks.now.keys.keys ss ks.now.row_of.items keys.numbers j s h in
     ap (λ (o : Option ℕ). elim o [ None ↦ [] | Some i ↦ get_or ls i [] ]) r.1
     ∙ ap (λ (l : List (List ℕ)). get_or l r.0 []) same
-    ∙ are (subtask_key s) r.0 (key_sought s ks.now.is_exact ks.now.width (λ e. keys.named e j s h) (keys.fixed j s h)) r.2
+    ∙ are (subtask_key s) r.0 (key_sought s ks.now.is_exact ks.now.is_bare ks.now.width (λ e. keys.named e j s h) (λ e. keys.bound e j s h) (keys.fixed j s h)) r.2
     ∙ places_same (has_key (subtask_key s)) (may_do s) (key_says s) 0 cs
 
 -- a row for each subtask
@@ -352,12 +358,12 @@ own_rows ks ss cs ls same j s h = ap (λ (l : List (List ℕ)). get_or l j []) s
     go (t ∷ ss) zero h = let f : t ≡ s = cc in ap (λ z. places_where (may_do z) 0 cs) f
     go (t ∷ ss) (suc j) h = go ss j h
 
--- one subtask more that has not objects alone
-pub named_more : (ss : List Subtask) (s : Subtask) → AreNamed ss → is_ground s.terms ≡ false → AreNamed (ss ++ s ∷ [])
-named_more [] s h e zero t g = let f : s ≡ t = cc in ap (λ z. is_ground z.terms) (sym f) ∙ e
-named_more [] s h e (suc j) t g = cc
-named_more (x ∷ ss) s h e zero t g = h zero t g
-named_more (x ∷ ss) s h e (suc j) t g = named_more ss s (λ j t g. h (suc j) t g) e j t g
+-- one subtask more that fails a test
+pub failed_more : (p : Subtask → Bool) (ss : List Subtask) (s : Subtask) → ((j : ℕ) (t : Subtask) → slice_get ss j ≡ Some t → p t ≡ false) → p s ≡ false → (j : ℕ) (t : Subtask) → slice_get (ss ++ s ∷ []) j ≡ Some t → p t ≡ false
+failed_more p [] s h e zero t g = let f : s ≡ t = cc in ap p (sym f) ∙ e
+failed_more p [] s h e (suc j) t g = cc
+failed_more p (x ∷ ss) s h e zero t g = h zero t g
+failed_more p (x ∷ ss) s h e (suc j) t g = failed_more p ss s (λ j t g. h (suc j) t g) e j t g
 
 -- the rows
 
@@ -402,12 +408,12 @@ two_puts : (a b : Bool) (place : ℕ) (l : List ℕ) → (a ≡ true → b ≡ f
 two_puts true b place l h = rw (h refl) (append-nil (l ++ place ∷ []))
 two_puts false b place l h = rw (append-nil l) refl
 
-pub child_put : (ks : RowKeys) (old mid more new : List (Vec ℕ)) (c : Work) (name : List ℕ) (place : ℕ) (cs : List (Option Work)) → name ≡ key_head 0 c.name → length cs ≡ place →
-    HasPut ks.keys.keys name place old mid → HasPutExact ks c place mid more → HasPutOnes ks c place more new → AreRows ks cs old → AreRows ks (cs ++ Some c ∷ []) new
-child_put ks old mid more new c name place cs en size f g h are k i sought e =
+pub child_put : (ks : RowKeys) (old mid more new : List (Vec ℕ)) (c : Work) (place : ℕ) (cs : List (Option Work)) → length cs ≡ place →
+    HasPutName ks c place old mid → HasPutExact ks c place mid more → HasPutOnes ks c place more new → AreRows ks cs old → AreRows ks (cs ++ Some c ∷ []) new
+child_put ks old mid more new c place cs size f g h are k i sought e =
     let z : 0 + length cs ≡ place = omega (arith, size) in
-    let first = f k i e in
-    let first' = rw (en, are k i sought e) at first in
+    let first = f k i sought e in
+    let first' = rw (are k i sought e) at first in
     let second = g k i sought e in
     let second' = rw first' at second in
     let third = h k i sought e in
@@ -438,6 +444,15 @@ child_put ks old mid more new c name place cs en size f g h are k i sought e =
 
 pub none_put : (ks : RowKeys) (rows : List (Vec ℕ)) (cs : List (Option Work)) → AreRows ks cs rows → AreRows ks (cs ++ None ∷ []) rows
 none_put ks rows cs are k i sought e = are k i sought e ∙ sym (places_end (has_key k) 0 cs None ∙ append-nil (places_where (has_key k) 0 cs))
+
+-- a name alone is looked for
+pub name_put : (ks : RowKeys) (old new : List (Vec ℕ)) (c : Work) (key : List ℕ) (place : ℕ) → key ≡ key_head 0 c.name → HasPut ks.keys.keys key place old new → HasPutName ks c place old new
+name_put ks old new c key place same f k i sought e = f k i e ∙ ap (λ (j : List ℕ). row_at old i ++ (if bytes_eq j k then place ∷ [] else [])) same
+
+-- or there is none to be looked for
+pub none_named : (ks : RowKeys) (rows : List (Vec ℕ)) (c : Work) (place : ℕ) → ks.is_bare ≡ false → HasPutName ks c place rows rows
+none_named ks rows c place none k i sought e =
+    rw (no_name k c.name (λ m. sought.1 none m)) (sym (append-nil (row_at rows i)))
 
 -- a key with objects is looked for
 pub exact_put : (ks : RowKeys) (old new : List (Vec ℕ)) (c : Work) (key : List ℕ) (place : ℕ) → key ≡ work_key c → HasPut ks.keys.keys key place old new → HasPutExact ks c place old new
@@ -470,7 +485,7 @@ pub ones_sought : (ks : RowKeys) (c : Work) (place count : ℕ) (old new : List 
 ones_sought ks c place count old new enough put k i sought e =
     put k i e ∙ ap (λ b. row_at old i ++ (if b then place ∷ [] else [])) (elim enough [
       | inl all ↦ ap (λ os. has_one c.name 0 os k) (take_all count c.objects all)
-      | inr wide ↦ first_of_them c.name 0 count c.objects k (omega (arith, wide, sought.1))
+      | inr wide ↦ first_of_them c.name 0 count c.objects k (omega (arith, wide, sought.2))
     ])
 
 pub enough : (os : List ObjectId) (width count : ℕ) → count ≡ min (length os) width → (length (map object_number os) ≤ count) ⊎ (width ≤ count)

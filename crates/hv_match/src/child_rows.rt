@@ -6,7 +6,7 @@ ghost use Rattle.hv_world.specs.Bindings.{object_number, object_of};
 ghost use Rattle.hv_world.specs.Views.{name_view, term_view, subtask_view};
 ghost use Rattle.hv_match.specs.inside.Puzzles as puzzles;
 ghost use Rattle.hv_match.specs.inside.Tables as tables;
-ghost use Rattle.hv_match.specs.inside.Tables.{work_view, AreChildRowsBy, AreFixedBelow, AreKeyNumbers, AreKeys, AreNamed, AreOwnRows, ArePlaces, AreRows, AreSizes, CountsOnce, HasPut, HasPutChild, HasPutExact, HasPutOnes, IsFixedBelow, IsKeyNumber, KeepNumbers};
+ghost use Rattle.hv_match.specs.inside.Tables.{work_view, AreChildRowsBy, AreFixed, AreFixedBelow, AreKeyNumbers, AreKeys, AreNamed, AreOwnRows, ArePlaces, AreRows, AreSizes, CountsOnce, HasPut, HasPutChild, HasPutExact, HasPutName, HasPutOnes, IsFixedBelow, IsKeyNumber, KeepNumbers};
 
 use crate::puzzle::{Work, are_values, same_name, value};
 use hv_text::{Lists, Memory, Seeded};
@@ -25,6 +25,8 @@ pub(crate) struct RowKeys {
     row_of: Vec<usize>,
     // For each key how many subtasks have it.
     sizes: Vec<usize>,
+    // Whether some key has a name alone.
+    is_bare: bool,
     // Whether some key has all objects.
     is_exact: bool,
     // The position of the object of a key that has just one is below this.
@@ -159,6 +161,28 @@ fn has_ground(subtasks: &[Subtask]) -> bool
 {
     for subtask in subtasks {
         if is_ground(&subtask.terms) {
+            return true;
+        }
+    }
+    false
+}
+
+// Whether a subtask has variables alone for its terms.
+fn is_bare(subtask: &Subtask) -> bool
+    ensures { result ≡ tables.is_bare (subtask_view subtask.now) }
+{
+    match first_fixed(&subtask.terms) {
+        Some(_) => false,
+        None => !is_ground(&subtask.terms),
+    }
+}
+
+// Whether there is a subtask whose terms are all variables.
+fn has_bare(subtasks: &[Subtask]) -> bool
+    ensures { result ≡ false → AreFixed (map subtask_view subtasks.now) }
+{
+    for subtask in subtasks {
+        if is_bare(subtask) {
             return true;
         }
     }
@@ -310,6 +334,27 @@ fn put(
     Ok(())
 }
 
+// The same for the key of a name alone, where there is such a key.
+fn put_name(
+    keys: &RowKeys,
+    rows: &mut [Vec<usize>],
+    key: &mut Vec<usize>,
+    work: Work<'_>,
+    place: usize,
+) -> Result<(), Memory>
+    requires { length rows.old ≡ length keys.now.keys.keys }
+    ensures size { OnOk result (length rows.new ≡ length rows.old) }
+    ensures rows { OnOk result (HasPutName keys.now (work_view work.entry) place rows.old
+        rows.new) }
+{
+    if !keys.is_bare {
+        return Ok(());
+    }
+    write_head(key, work.name, NAME)?;
+    put(&keys.keys, rows, key.as_slice(), place)?;
+    Ok(())
+}
+
 // The same for the key of what a child does, where some key has all objects.
 fn put_exact(
     keys: &RowKeys,
@@ -366,8 +411,7 @@ fn put_child(
         (HasPutChild keys.now (option_map work_view child.entry) place rows.old rows.new) }
 {
     if let Some(work) = child {
-        write_head(key, work.name, NAME)?;
-        put(&keys.keys, rows, key.as_slice(), place)?;
+        put_name(keys, rows, key, work, place)?;
         put_exact(keys, rows, key, work, place)?;
         put_ones(keys, rows, key, work, place)?;
     }
@@ -485,12 +529,14 @@ pub(crate) fn row_keys(alloc: Global, subtasks: &[Subtask]) -> Result<RowKeys, M
     let mut keys = IndexSet::with_hasher(alloc, seed_of_subtasks(subtasks));
     let row_of = key_numbers(alloc, &mut keys, subtasks)?;
     let sizes = sizes(alloc, keys.len(), &row_of)?;
+    let is_bare = has_bare(subtasks);
     let is_exact = has_ground(subtasks);
     let width = width_of(subtasks);
     Ok(RowKeys {
         keys,
         row_of,
         sizes,
+        is_bare,
         is_exact,
         width,
     })

@@ -1,5 +1,5 @@
 -- What the tables of the search say.
-use Rattle.std.specs.Prelude.{◌≡◌, ◌≢◌, ◌<◌, ◌≤◌, ◌+◌, ◌++◌, ◌||◌, ℕ, suc, nat_eq, slice_index, Bool, false, List, [], ◌∷◌, map, length, Option, None, Some, option_map, slice_get, slice_index_or, if◌then◌else◌}
+use Rattle.std.specs.Prelude.{◌≡◌, ◌≢◌, ◌<◌, ◌≤◌, ◌+◌, ◌++◌, ◌||◌, ℕ, suc, nat_eq, slice_index, Bool, false, not, List, [], ◌∷◌, map, length, Option, None, Some, option_map, slice_get, slice_index_or, if◌then◌else◌}
 use Rattle.std.specs.Global.{Vec}
 use Rattle.std.specs.Str.{bytes_eq}
 use Rattle.hv_world.specs.Bindings.{object_number, object_of}
@@ -62,9 +62,10 @@ number_of k (v ∷ vs) = if bytes_eq k v.items then Some 0 else option_map suc (
 abbrev pub row_at : List (Vec ℕ) → ℕ → List ℕ
 row_at rows i = slice_index_or (map (λ v. v.items) rows) i []
 
--- the key is looked for: it has not all objects, or such keys are looked for, and not one at too great a position
+-- the key is looked for: it is not a name alone, nor has it all objects, or such keys are looked for, and not one at too
+-- great a position
 abbrev pub IsSought : RowKeys → List ℕ → Type 0
-IsSought ks k = (ks.is_exact ≡ false → mark_of k ≢ 1) × (mark_of k < 2 + ks.width)
+IsSought ks k = (ks.is_exact ≡ false → mark_of k ≢ 1) × (ks.is_bare ≡ false → mark_of k ≢ 0) × (mark_of k < 2 + ks.width)
 
 -- the row of each key that is looked for has the places of the children that have the key
 abbrev pub AreRows : RowKeys → List (Option Work) → List (Vec ℕ) → Type 0
@@ -87,6 +88,14 @@ KeepNumbers old new = (k : List ℕ) (i : ℕ) → number_of k old ≡ Some i �
 abbrev pub AreNamed : List Subtask → Type 0
 AreNamed ss = (j : ℕ) (s : Subtask) → slice_get ss j ≡ Some s → is_ground s.terms ≡ false
 
+-- whether a subtask has variables alone for its terms
+abbrev pub is_bare : Subtask → Bool
+is_bare s = elim (first_fixed 0 s.terms) [ None ↦ not (is_ground s.terms) | Some f ↦ false ]
+
+-- each subtask has a term that is an object, or none at all
+abbrev pub AreFixed : List Subtask → Type 0
+AreFixed ss = (j : ℕ) (s : Subtask) → slice_get ss j ≡ Some s → is_bare s ≡ false
+
 -- a subtask has not objects alone for its terms, and then the first that it has stands below a position
 abbrev pub IsFixedBelow : ℕ → Subtask → Type 0
 IsFixedBelow width s = is_ground s.terms ≡ false → (p o : ℕ) → first_fixed 0 s.terms ≡ Some (p, o) → p < width
@@ -107,10 +116,12 @@ AreSizes numbers sizes = (i : ℕ) → slice_index sizes i ≤ how_often i numbe
 abbrev pub CountsOnce : List ℕ → ℕ → List ℕ → Type 0
 CountsOnce old n new = (i : ℕ) → slice_index new i ≤ slice_index old i + (if nat_eq n i then 1 else 0)
 
--- each subtask has the number of its key, and each key its size; keys with objects are looked for where there are any
+-- each subtask has the number of its key, and each key its size; names alone and keys with objects are looked for where
+-- there are any
 pub record AreKeys (ss : List Subtask) (k : RowKeys) : Type 0 where
   pub numbers : AreKeyNumbers k.keys.keys ss k.row_of.items
   pub sizes : AreSizes k.row_of.items k.sizes.items
+  pub bound : k.is_bare ≡ false → AreFixed ss
   pub named : k.is_exact ≡ false → AreNamed ss
   pub fixed : AreFixedBelow k.width ss
 
@@ -122,6 +133,12 @@ size_for k j = elim (slice_get k.row_of.items j) [ None ↦ 0 | Some i ↦ slice
 abbrev pub HasPut : List (Vec ℕ) → List ℕ → ℕ → List (Vec ℕ) → List (Vec ℕ) → Type 0
 HasPut keys key place old new =
     (k : List ℕ) (i : ℕ) → number_of k keys ≡ Some i → row_at new i ≡ row_at old i ++ (if bytes_eq key k then place ∷ [] else [])
+
+-- the place of a child stands behind those of its name alone, as far as that is looked for
+abbrev pub HasPutName : RowKeys → Work → ℕ → List (Vec ℕ) → List (Vec ℕ) → Type 0
+HasPutName ks c place old new =
+    (k : List ℕ) (i : ℕ) → IsSought ks k → number_of k ks.keys.keys ≡ Some i
+    → row_at new i ≡ row_at old i ++ (if bytes_eq (key_head 0 c.name) k then place ∷ [] else [])
 
 -- the place of a child stands behind those of its key with objects, as far as that is looked for
 abbrev pub HasPutExact : RowKeys → Work → ℕ → List (Vec ℕ) → List (Vec ℕ) → Type 0
