@@ -37,7 +37,7 @@ fn is_possible(ever: EverTrue<'_>, values: &[usize], atom: &Atom) -> bool
     let mut numbers = [0; MOST_TERMS];
     let into = &mut numbers[..count];
     write_values(into, values, &atom.terms);
-    ever.may_hold(&AtomView::of_numbers(atom.predicate, into))
+    ever.has(&AtomView::of_numbers(atom.predicate, into))
 }
 
 // Whether all these atoms may be.
@@ -98,7 +98,7 @@ impl Puzzle<'_> {
         if !self.write_known(chosen, into, &atom.terms) {
             return false;
         }
-        !ever.may_hold(&AtomView::of_numbers(atom.predicate, into))
+        !ever.has(&AtomView::of_numbers(atom.predicate, into))
     }
 
     // Whether one of the atoms of these numbers is true at no time.

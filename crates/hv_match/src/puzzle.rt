@@ -32,7 +32,7 @@ pub(crate) struct Puzzle<'a> {
     pub(crate) children: Vec<Option<Work<'a>>>,
     /// For each subtask the places of the children that may do it.
     pub(crate) places: ChildRows<'a>,
-    /// The atoms that are true at some time, where it counts when they are.
+    /// The atoms that are ever true where the node may begin, where it counts when they are.
     pub(crate) ever: Option<EverTrue<'a>>,
     pub(crate) ghost short: { length children.items < 2 ^ 32 },
     pub(crate) ghost placed: { ArePlaces table.now.subtasks.now children.items places },

@@ -1,5 +1,5 @@
 -- What lists all matchings and bindings of a node lists all its candidates.
-use Rattle.std.proofs.Common.{◌≡◌, ℕ, true, Option, ◌<◌, List, [], ◌∷◌, length, refl, sym, ap, ◌∙◌, subst}
+use Rattle.std.proofs.Common.{◌≡◌, ℕ, true, Option, ◌<◌, ◌≤◌, List, [], ◌∷◌, length, refl, sym, ap, ◌∙◌, subst, arith}
 use Rattle.std.specs.Prelude.{map, slice_get, Some}
 use Rattle.std.specs.List.{slice_index_or}
 use Rattle.std.proofs.lemmas.List.{length-map}
@@ -12,14 +12,14 @@ use Rattle.hv_plan.specs.declared.tree.Child.TheVariants as children
 use Rattle.hv_match.specs.Candidates.{IsCandidate, child_tasks, node_method}
 use Rattle.hv_state.specs.Needed.{needed}
 use Rattle.hv_match.specs.Possible.{are_possible}
-use Rattle.hv_order.specs.Settings.{Setting, HoldsAt}
+use Rattle.hv_order.specs.Settings.{Setting, last, HoldsAt}
 use Rattle.hv_order.specs.inside.Arrangements.{Arrangement, lists_of, listed_before}
 use Rattle.hv_order.specs.inside.Children.{child_at}
 use Rattle.hv_order.specs.inside.Choosing.{Gives}
 use Rattle.hv_order.specs.inside.Facts.{FitsWith}
 use Rattle.hv_order.specs.inside.Listers.{ListsAll, IsEver, arranged_by, all_coming, still_listed}
 use Rattle.hv_order.specs.inside.Nodes.{FitsWithOne, AreAllOf}
-use Rattle.hv_order.specs.inside.PlanFacts.{IsSetting, child_in, Arranges, plan_facts}
+use Rattle.hv_order.specs.inside.PlanFacts.{IsSetting, FitsNode, child_in, Arranges, plan_facts}
 use Rattle.hv_order.specs.inside.Spans.{is_in_order}
 use Rattle.hv_order.specs.declared.lister.Lister.{Lister}
 use Rattle.hv_order.proofs.Members.{MappedFrom, mem_map, mem_map_from}
@@ -33,7 +33,7 @@ map_twice : {X Y Z : Type 0} (f : X → Y) (g : Y → Z) (h : X → Z) → ((x :
 map_twice f g h each [] = refl
 map_twice f g h each (x ∷ xs) = let here = each x in let rest = map_twice f g h each xs in cc
 
-module _ (q : Setting) (is : IsSetting q) (v : ℕ) (ever : Option (List (List ℕ))) (is_ever : IsEver q ever) (l : Lister) (lists : ListsAll q.plan.world q.tree v ever l) where
+module _ (q : Setting) (is : IsSetting q) (v start : ℕ) (begun : start ≤ last q) (ever : Option (List (List ℕ))) (is_ever : IsEver q v start ever) (l : Lister) (lists : ListsAll q.plan.world q.tree v ever l) where
   abbrev arranged : List ℕ × List ℕ → Arrangement
   arranged = arranged_by l.node l.children.now l.sequencing.value
 
@@ -82,9 +82,19 @@ module _ (q : Setting) (is : IsSetting q) (v : ℕ) (ever : Option (List (List �
       subst (λ d. Arranges q v d) (sym w.image)
       (arranges w.source.0 w.source.1 (candidate_of w.source.0 w.source.1 (candidate_here q v w.source.0 w.source.1 ((lists.all w.source.0 w.source.1).0 w.is_member).0)))
 
+  -- where a candidate fits, the node fits from the state in which its precondition is true
+  begins : (s f : ℕ) (w : FitsWithOne (plan_facts q) v s f) → FitsNode q v w.fits.at f
+  begins s f w =
+      let (with_one, by_one) = (plan_nodes q is).by_one v w.fits.at f in
+      by_one (record {
+        candidate = w.candidate;
+        is_candidate = w.is_candidate;
+        fits = record { at = w.fits.at; late = omega arith; early = w.fits.early; holds = w.fits.holds; together = w.fits.together };
+      })
+
   -- where a candidate fits, the listed one with its matching and binding does
-  with_one : (s f : ℕ) → FitsWithOne (plan_facts q) v s f → Gives (still_listed l) (FitsWith (plan_facts q) s) f
-  with_one s f w =
+  with_one : (s f : ℕ) → start ≤ s → FitsWithOne (plan_facts q) v s f → Gives (still_listed l) (FitsWith (plan_facts q) s) f
+  with_one s f late w =
       let c = w.candidate in
       let r = w.is_candidate in
       let M = r.matching in
@@ -94,7 +104,7 @@ module _ (q : Setting) (is : IsSetting q) (v : ℕ) (ever : Option (List (List �
       let items : map child_view c.children ≡ map (child_in lists.node.children) M = subst (λ (n : Node). map child_view c.children ≡ map (child_in n.children) M) node r.children in
       let g = fits_matching q is v lists.node lists.has_node lists.method lists.has_method M c r.of_node candidate items s f w.fits in
       let holds = from_method q is v r.node r.has_node r.method r.has_method (λ m. HoldsAt q m c.objects w.fits.at) (rw r.of_node at w.fits.holds) in
-      let possible = of_method q is v r.node r.has_node r.method r.has_method (λ m. are_possible ever c.objects (needed m.precondition) ≡ true) (possible_where_true q ever is_ever r.method c.objects w.fits.at holds) in
+      let possible = of_method q is v r.node r.has_node r.method r.has_method (λ m. are_possible ever c.objects (needed m.precondition) ≡ true) (possible_where_true q is v start ever is_ever begun r.method c.objects w.fits.at f (let behind = w.fits.late in omega (arith, late, behind)) (begins s f w) holds) in
       let gives = fits_arranged q is v lists.node lists.has_node lists.method lists.has_method M (arranged (M, c.objects)) lists.of_node candidate (places_are M) s f g in
       let arranges_so = arranges M c.objects candidate in
       let in_order = fits_in_order q l.spans.value lists.spans (arranged (M, c.objects)) s f arranges_so.as_many ((plan_nodes q is).arranged v (arranged (M, c.objects)) arranges_so).0 gives in
@@ -106,7 +116,7 @@ module _ (q : Setting) (is : IsSetting q) (v : ℕ) (ever : Option (List (List �
         gives = gives;
       }
 
-  pub all_listed : AreAllOf (plan_facts q) v (still_listed l)
+  pub all_listed : AreAllOf (plan_facts q) v start (still_listed l)
   all_listed = record {
     each = λ c m. each c (mem_map_from arranged c l.coming.coming (from_filter (is_in_order l.spans.value) (all_coming l) c m));
     with_one = with_one;

@@ -36,32 +36,32 @@ winner_is q s all None c least won listed = least
 winner_is q s all (Some b) c least won listed = record { least = least; won = won b refl; listed = listed b refl }
 
 -- where one of all candidates gives a finish, the node fits up to it
-pub fits_by : (q : Facts) → AreNodes q → (v s f : ℕ) (all : List Arrangement) → AreAllOf q v all → Gives all (FitsWith q s) f → q.fits v s f
-fits_by q are v s f all whole w =
+pub fits_by : (q : Facts) → AreNodes q → (v start s f : ℕ) (all : List Arrangement) → AreAllOf q v start all → Gives all (FitsWith q s) f → q.fits v s f
+fits_by q are v start s f all whole w =
     let (with_one, by_one) = are.by_one v s f in
     by_one (record { candidate = w.candidate; is_candidate = whole.each w.candidate w.listed; fits = w.gives })
 
--- and where the node fits, one of all candidates gives the finish
-pub gives_by : (q : Facts) → AreNodes q → (v s f : ℕ) (all : List Arrangement) → AreAllOf q v all → q.fits v s f → Gives all (FitsWith q s) f
-gives_by q are v s f all whole is =
+-- and where the node fits from the start on, one of all candidates gives the finish
+pub gives_by : (q : Facts) → AreNodes q → (v start s f : ℕ) (all : List Arrangement) → AreAllOf q v start all → start ≤ s → q.fits v s f → Gives all (FitsWith q s) f
+gives_by q are v start s f all whole late is =
     let (with_one, by_one) = are.by_one v s f in
-    whole.with_one s f (with_one is)
+    whole.with_one s f late (with_one is)
 
 -- no candidate of a node finishes before the start, nor before the node can be over
-pub from_both : (q : Facts) → AreNodes q → (v s e low : ℕ) (all : List Arrangement) → AreAllOf q v all → ((s f : ℕ) → q.fits v s f → e ≤ f) → low ≡ max s e → IsEarliest q s all low
+pub from_both : (q : Facts) → AreNodes q → (v s e low : ℕ) (all : List Arrangement) → AreAllOf q v s all → ((s f : ℕ) → q.fits v s f → e ≤ f) → low ≡ max s e → IsEarliest q s all low
 from_both q are v s e low all whole behind is c g m w =
     let a = from_start q s all c g m w in
-    let b = behind s g (fits_by q are v s g all whole (record { candidate = c; listed = m; gives = w })) in
+    let b = behind s g (fits_by q are v s s g all whole (record { candidate = c; listed = m; gives = w })) in
     omega (arith, a, b, is)
 
 -- all candidates of a node are arranged
-pub all_arranged : (q : Facts) → AreNodes q → (v : ℕ) (all : List Arrangement) → AreAllOf q v all → AreArranged q v all
-all_arranged q are v all whole c m = are.arranged v c (whole.each c m)
+pub all_arranged : (q : Facts) → AreNodes q → (v s : ℕ) (all : List Arrangement) → AreAllOf q v s all → AreArranged q v all
+all_arranged q are v s all whole c m = are.arranged v c (whole.each c m)
 
 -- the run that the best of all candidates gives
-pub settled_is : (q : Facts) → AreNodes q → (v s : ℕ) (all : List Arrangement) → AreAllOf q v all → s ≤ q.last → (w : Option Winner) → IsBestOf q s all w → IsSettled q v s (settled_by w q.last)
+pub settled_is : (q : Facts) → AreNodes q → (v s : ℕ) (all : List Arrangement) → AreAllOf q v s all → s ≤ q.last → (w : Option Winner) → IsBestOf q s all w → IsSettled q v s (settled_by w q.last)
 settled_is q are v s all whole le None none = record {
-  run = record { begun = le; within = omega arith; least = λ x a b g c is. none x a g c (gives_by q are v x g all whole is) };
+  run = record { begun = le; within = omega arith; least = λ x a b g c is. none x a g c (gives_by q are v s x g all whole a is) };
   winner = refl;
 }
 settled_is q are v s all whole le (Some w) best =
@@ -76,7 +76,7 @@ settled_is q are v s all whole le (Some w) best =
         within = omega arith;
         least = λ x a b.
             let is = best.least x a b in
-            record { reached = fits_by q are v x w.best.finish all whole is.reached; within = is.within; least = λ g h. is.least g (gives_by q are v x g all whole h) };
+            record { reached = fits_by q are v s x w.best.finish all whole is.reached; within = is.within; least = λ g h. is.least g (gives_by q are v s x g all whole a h) };
       };
       winner = record { is_candidate = whole.each (arrangement_of w.candidate) best.listed; finish = w.best.finish; finish_is = refl; fits = won.fits };
     }

@@ -25,11 +25,11 @@ no_best : (b : Best) → None ≡ Some b → ⊥
 no_best b e = let k : None ≡ Some b = e in cc
 
 -- no candidate can be begun: no later start has a finish
-pub none_begun : (q : Facts) → AreNodes q → (v s : ℕ) (all left : List Arrangement) → AreAllOf q v all → s ≤ q.last → IsNext q s None all left None → IsSettled q v s (settled_by None q.last)
+pub none_begun : (q : Facts) → AreNodes q → (v s : ℕ) (all left : List Arrangement) → AreAllOf q v s all → s ≤ q.last → IsNext q s None all left None → IsSettled q v s (settled_by None q.last)
 none_begun q are v s all left whole le next = settled_is q are v s all whole le None (next all (nothing_tried q s all))
 
 -- the first that can be
-pub one_begun : {L : Type 0} (of : L → List Arrangement) (q : Facts) (size v s : ℕ) (all : List Arrangement) (left : L) (w : Arranged) (t : Turn) (e : ℕ) → v < size → AreAllOf q v all → s ≤ q.last → IsEarliest q s all e → IsNext q s None all (of left) (Some t) → IsTurn q v s None t all (of left)
+pub one_begun : {L : Type 0} (of : L → List Arrangement) (q : Facts) (size v s : ℕ) (all : List Arrangement) (left : L) (w : Arranged) (t : Turn) (e : ℕ) → v < size → AreAllOf q v s all → s ≤ q.last → IsEarliest q s all e → IsNext q s None all (of left) (Some t) → IsTurn q v s None t all (of left)
     → IsTaskFrom of q size v s (record { node = v; left = left; frame = record { start = s; earliest = e; best = None; winner = w; candidate = t.candidate; trial = t.trial } })
 one_begun of q size v s all left w t e lt whole le early next turn = record {
   node = refl;
@@ -68,7 +68,7 @@ task_stays q size v f f' left left' t begun early (progress.Wants w x) frame tri
   start = subst (λ k. k ≤ q.last) (sym begun) t.start;
   frame = subst (λ k. IsFrame q v k f' left') (sym begun) frame;
   all = t.all;
-  whole = t.whole;
+  whole = subst (λ k. AreAllOf q v k t.all) (sym begun) t.whole;
   earliest = λ d g m w. subst (λ k. k ≤ g) (sym early) (t.earliest d g m (subst (λ k. FitsWith q k d g) begun w));
   tried = subst (λ k. IsBest q k t.all (arrangement_of f'.candidate ∷ left') f'.best) (sym begun) (tried t.all t.tried);
   listed = listed t.all t.listed;

@@ -1,11 +1,10 @@
 -- Where the precondition of a candidate of a plan's node is first true.
-use Rattle.std.proofs.Common.{◌≡◌, ℕ, suc, ◌+◌, ◌<◌, ◌≤◌, ◌⊎◌, inl, inr, true, false, length, sym, ap, ◌∙◌, subst, arith, Option, Some, None, MatchOption}
+use Rattle.std.proofs.Common.{◌≡◌, ℕ, suc, ◌+◌, ◌<◌, ◌≤◌, ◌⊎◌, inl, inr, true, false, length, sym, ◌∙◌, subst, arith, Option, Some, None, MatchOption}
 use Rattle.std.specs.Prelude.{min, max}
 use Rattle.std.proofs.lemmas.Bool.{cases_lt}
-use Rattle.std.proofs.lemmas.List.{take_all}
 use Rattle.hv_world.specs.Worlds.{Method}
 use Rattle.hv_state.specs.Atoms.{Atoms}
-use Rattle.hv_state.specs.Plans.{StateAt, AfterActions, Start}
+use Rattle.hv_state.specs.Plans.{StateAt}
 use Rattle.hv_state.specs.Truth.{True}
 use Rattle.hv_state.specs.Changes as changes
 use Rattle.hv_state.specs.Changes.{AreFalse}
@@ -17,6 +16,7 @@ use Rattle.hv_order.specs.inside.PlanFacts.{HoldsFor}
 use Rattle.hv_order.specs.inside.PlanNodes.{IsRange}
 use Rattle.hv_order.specs.declared.trial.Stretch.{Stretch}
 use Rattle.hv_order.proofs.Members.{not_true}
+use Rattle.hv_order.proofs.Possibles.{stays_past}
 
 module _ (q : Setting) (c : Arrangement) (from upto : ℕ) where
   -- a node without a method has no candidate
@@ -43,20 +43,14 @@ module _ (q : Setting) (c : Arrangement) (from upto : ℕ) where
       holds = λ k low high. holds_for k (λ on. not_true (sym off ∙ on));
     }
 
-    -- behind the last state nothing changes
-    stays : (k : ℕ) → length q.plan.actions ≤ k → StateAt q.plan k ≡ StateAt q.plan (length q.plan.actions)
-    stays k past =
-        ap (AfterActions q.plan.world (Start q.plan.world))
-        (take_all k q.plan.actions past ∙ sym (take_all (length q.plan.actions) q.plan.actions (omega arith)))
-
     abbrev True_at : ℕ → Type 0
     True_at k = True q.plan.world.typing (StateAt q.plan k) m.precondition c.objects
 
     to_last : (k : ℕ) → length q.plan.actions ≤ k → True_at k → True_at (length q.plan.actions)
-    to_last k past h = let P : Atoms → Type 0 = λ S. True q.plan.world.typing S m.precondition c.objects in subst P (stays k past) h
+    to_last k past h = let P : Atoms → Type 0 = λ S. True q.plan.world.typing S m.precondition c.objects in subst P (stays_past q k past) h
 
     from_last : (k : ℕ) → length q.plan.actions ≤ k → True_at (length q.plan.actions) → True_at k
-    from_last k past h = let P : Atoms → Type 0 = λ S. True q.plan.world.typing S m.precondition c.objects in subst P (sym (stays k past)) h
+    from_last k past h = let P : Atoms → Type 0 = λ S. True q.plan.world.typing S m.precondition c.objects in subst P (sym (stays_past q k past)) h
 
     module _ (on : q.is_with ≡ true) where
       pub nowhere_true : AreFalse q.plan m.precondition c.objects (min from (length q.plan.actions)) (min upto (length q.plan.actions) + 1) → IsFirstTrue (HoldsFor q c) from upto None

@@ -24,10 +24,13 @@ pub trait Nodes {
         ensures last { result ≡ (facts self.now).last }
         ensures small { result < 4294967295 };
 
-    /// Candidates of a node: where it fits with any candidate, it does with one of these.
-    fn candidates(&self, alloc: Global, node: usize) -> Result<Self::Left, Memory>
+    /// Candidates of a node: where it fits with any candidate from a start on, it does with one of
+    /// these.
+    fn candidates(&self, alloc: Global, node: usize, start: u32) -> Result<Self::Left, Memory>
         requires node { node < size self.now }
-        ensures { IfOk result (λ all. AreAllOf (facts self.now) node (Self.Left.left all)) };
+        requires start { start ≤ (facts self.now).last }
+        ensures { IfOk result
+            (λ all. AreAllOf (facts self.now) node start (Self.Left.left all)) };
 
     /// A state that a node is over no earlier than, whatever its start.
     fn earliest(&self, node: u32) -> u32

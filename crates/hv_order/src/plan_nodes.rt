@@ -1,18 +1,21 @@
 //! The nodes of a plan's tree, with their candidates.
-ghost use Rattle.std.specs.Prelude.{◌≡◌, ◌<◌, ◌≤◌, ◌↔◌, ℕ, length, None, IfOk};
+ghost use Rattle.std.specs.Prelude.{◌≡◌, ◌<◌, ◌≤◌, ◌↔◌, ℕ, length, option_map, None, IfOk};
 ghost use Rattle.hv_world.specs.WorldViews.{world_view};
+ghost use Rattle.hv_state.specs.Ever.{ever_rows};
 ghost use Rattle.hv_state.specs.Plans.{plan};
 ghost use Rattle.hv_plan.specs.BuiltTrees.{tree_view};
 ghost use Rattle.hv_plan.specs.PlanTrees.{IsTreeIn, root_number};
 ghost use Rattle.hv_order.specs.Meanings.{Meaning};
 ghost use Rattle.hv_order.specs.Settings.{setting, last, HasNoPrecondition, HasCandidate, IsMeaning, IsSolved};
 ghost use Rattle.hv_order.specs.Tables.{IsLeast};
+ghost use Rattle.hv_order.specs.inside.Listers.{IsEver};
 ghost use Rattle.hv_order.specs.inside.Nodes.{AreNodes};
 ghost use Rattle.hv_order.specs.inside.PlanFacts.{FitsNode, plan_facts};
 ghost use Rattle.hv_order.specs.inside.PlanNodes.{IsRange};
 
 use crate::children::latest_start;
 use crate::ends::end_at;
+use crate::firsts::first_at;
 use crate::lister::{Lister, candidates_of};
 use crate::memory::Memory;
 use crate::node_methods::{method_for, method_if};
@@ -23,7 +26,7 @@ use crate::told::{Told, is_empty, told_children};
 use crate::trial::{Arranged, Stretch};
 use hv_match::Matcher;
 use hv_plan::{Child, Tree};
-use hv_state::{BitState, Trace};
+use hv_state::{BitState, EverTrue, Trace};
 use hv_world::{Binding, Method, World};
 use std::alloc::Global;
 use std::marker::Model;
@@ -138,6 +141,20 @@ impl<'a, 's, 'm, 'p, 't, 'c, 'd> PlanNodes<'a, 's, 'm, 'p, 't, 'c, 'd> {
         Some(first as u32)
     }
 
+    // Where preconditions count, what is true from a start on up to the first action below a node: no
+    // candidate is of use whose precondition is not true there.
+    fn ever_before(&self, node: u32, start: u32) -> Option<EverTrue<'a>>
+        requires start { start ≤ last self.now }
+        ensures { IsEver self.now node start (option_map ever_rows result) }
+    {
+        if self.is_with {
+            let latest = start.max(first_at(&self.spans.firsts, node));
+            Some(self.trace.ever_true(start as usize, latest as usize + 1))
+        } else {
+            None
+        }
+    }
+
     /// A law of the value: these are nodes whose finishes can be worked out.
     pub fn are_nodes(&self)
         ensures { AreNodes (plan_facts self.now) }
@@ -177,16 +194,11 @@ impl<'a, 's, 'm, 'p, 't, 'c, 'd> Nodes for PlanNodes<'a, 's, 'm, 'p, 't, 'c, 'd>
         self.tree.actions().len() as u32
     }
 
-    fn candidates(&self, alloc: Global, node: usize) -> Result<Lister<'a>, Memory> {
+    fn candidates(&self, alloc: Global, node: usize, start: u32) -> Result<Lister<'a>, Memory> {
         let _count = self.tree.node_count();
         let number = node as u32;
         let shared = sequencing_of(self.world, &self.sequencings, self.tree, number).clone()?;
-        // Where preconditions count, no candidate is of use whose precondition is never true.
-        let ever = if self.is_with {
-            Some(self.trace.ever_true())
-        } else {
-            None
-        };
+        let ever = self.ever_before(number, start);
         let spans = self.spans.clone()?;
         candidates_of(alloc, self.matcher, self.tree, number, shared, spans, ever)
     }

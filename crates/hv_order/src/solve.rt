@@ -115,7 +115,7 @@ pub fn open<N: Nodes>(
     requires start { start ≤ (N.facts nodes.now).last }
     ensures { IfOk result (IsOpened N.Left.left (N.facts nodes.now) (N.size nodes.now) node start) }
 {
-    let mut left = nodes.candidates(alloc, node as usize)?;
+    let mut left = nodes.candidates(alloc, node as usize, start)?;
     let table = Below { nodes, memo, node };
     let earliest = start.max(nodes.earliest(node));
     match next_turn(

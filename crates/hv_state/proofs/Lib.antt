@@ -12,6 +12,7 @@ pub mod HistoryLemmas
 pub mod GrowLemmas
 pub mod NoteLemmas
 pub mod SomeLemmas
+pub mod StretchLemmas
 pub mod MadeLemmas
 pub mod NextLemmas
 pub mod DecisionLemmas

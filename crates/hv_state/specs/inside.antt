@@ -9,3 +9,4 @@ pub mod Takings
 pub mod Hashes
 pub mod Gaps
 pub mod Lacks
+pub mod Stretches

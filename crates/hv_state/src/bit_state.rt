@@ -8,7 +8,7 @@ ghost use Rattle.hv_state.specs.inside.Bits.{Lit, Shown, Knows, AreBits, IsChang
 
 use crate::atom::AtomView;
 use crate::bits::has_bit;
-use crate::find::{guesses_of, look_up, look_up_at, next_possible};
+use crate::find::{guesses_of, look_up_at, next_possible};
 use crate::ground::GroundAtoms;
 use crate::guesses::{Guesses, Stride};
 use crate::lit::{bright, clear_all, knows_all, lacking, lit_rows, set_all};
@@ -90,13 +90,6 @@ impl BitState {
         let mut rows = copy_of(alloc, &self.table)?;
         push_copies(&mut rows, more)?;
         BitState::over(alloc, lit, &rows)
-    }
-
-    /// Whether the table has an atom: each that is true is there, and others may be.
-    pub(crate) fn knows(&self, atom: &AtomView<'_>) -> bool
-        ensures { IsTrue result ↔ Contains self.now.0 (row_of (atom_read atom.now)) }
-    {
-        look_up(&self.table, &self.guesses, atom).is_some()
     }
 
     /// The first number, from that of an atom's last object on, with which in its place the table may

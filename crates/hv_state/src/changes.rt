@@ -12,6 +12,7 @@ ghost use Rattle.hv_state.specs.inside.Histories.{index_of, truth_of, change_vie
 ghost use Rattle.hv_state.specs.inside.Histories.{changes_of, history_view};
 ghost use Rattle.hv_state.specs.inside.Notes.{IsTurnedAt, IsSet};
 ghost use Rattle.hv_state.specs.Changes.{told, TrueAfter};
+ghost use Rattle.hv_state.specs.inside.Stretches.{is_true_in};
 
 use crate::atom::AtomView;
 use crate::bits::{has_bit, raise};
@@ -102,16 +103,6 @@ impl Changes {
         found
     }
 
-    /// Whether an action touches an atom.
-    pub(crate) fn touches(&self, atom: &AtomView<'_>) -> bool
-        ensures { IsTrue result ↔ Contains (rows_of self.now) (row_of (atom_read atom.now)) }
-    {
-        if !has_bit(&self.flags, atom.predicate.0) {
-            return false;
-        }
-        self.place_of(atom).is_some()
-    }
-
     /// The first number, from that of an atom's last object on, with which in its place an action may
     /// touch the atom.
     pub(crate) fn next_touched(&self, atom: &AtomView<'_>) -> usize
@@ -143,6 +134,25 @@ impl Changes {
         match self.of(atom) {
             Some(history) => history.next(k, end, &self.recent),
             None => end,
+        }
+    }
+
+    /// Whether an atom is true at an index, as its changes say or else the first state, or turns
+    /// behind it, before an end.
+    pub(crate) fn is_true_in<S: State>(
+        &self,
+        first: &S,
+        atom: &AtomView<'_>,
+        from: usize,
+        end: usize,
+    ) -> bool
+        requires { from < end }
+        ensures { (b : Bool) → (IsTrue b ↔ S.atoms first.now (atom_read atom.now))
+            → result ≡ is_true_in b from end (kept self.now (atom_read atom.now)) }
+    {
+        match self.of(atom) {
+            Some(history) => history.is_true_in(first, atom, from, end, &self.recent),
+            None => first.holds(atom),
         }
     }
 

@@ -1,9 +1,10 @@
 //! The changes of one atom's truth, in order.
 
-ghost use Rattle.std.specs.Prelude.{◌≡◌, ◌↔◌, ◌<◌, ◌+◌, ◌-◌, ℕ, ◌∷◌, [], ◌++◌, length, map};
+ghost use Rattle.std.specs.Prelude.{◌≡◌, ◌↔◌, ◌<◌, ◌+◌, ◌-◌, ℕ, Bool, ◌∷◌, [], ◌++◌, length, map};
 ghost use Rattle.std.specs.Prelude.{slice_get, option_to_list, IsSome, IsTrue, IfOk, OnOk, OnErr};
 ghost use Rattle.hv_state.specs.Atoms.{atom_read};
 ghost use Rattle.hv_state.specs.Changes.{told, Tells};
+ghost use Rattle.hv_state.specs.inside.Stretches.{is_true_in};
 ghost use Rattle.hv_state.specs.inside.Histories.{Rise, IsNextIn, IsLeast, ArePast};
 ghost use Rattle.hv_state.specs.inside.Histories.{index_of, truth_of, change_view};
 ghost use Rattle.hv_state.specs.inside.Histories.{in_order, changes_of};
@@ -252,6 +253,28 @@ impl History {
                 }
             }
         }
+    }
+
+    /// Whether the atom is true at an index, as the changes say or else the first state, or turns
+    /// behind it, before an end.
+    pub(crate) fn is_true_in<S: State>(
+        &self,
+        first: &S,
+        atom: &AtomView<'_>,
+        from: usize,
+        end: usize,
+        recent: &Cell<usize>,
+    ) -> bool
+        requires rise { Rise (changes_of self.now) }
+        requires some { from < end }
+        ensures { (b : Bool) → (IsTrue b ↔ S.atoms first.now (atom_read atom.now))
+            → result ≡ is_true_in b from end (changes_of self.now) }
+    {
+        let is_true = match self.told(from, recent) {
+            Some(is_true) => is_true,
+            None => first.holds(atom),
+        };
+        is_true || self.next(from, end, recent) < end
     }
 
     /// The index of the first change after another index, or else the end.

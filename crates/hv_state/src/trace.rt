@@ -66,13 +66,18 @@ impl<'a, 's, S: State> Model for Trace<'a, 's, S> {
 }
 
 impl Trace<'_, '_, BitState> {
-    /// The atoms that may be true somewhere on the way of the plan.
-    pub fn ever_true(&self) -> EverTrue<'_>
-        ensures { HasAllEver self.now (ever_rows result) }
+    /// The atoms that are true somewhere in a stretch of the plan's states: after `from` actions, or
+    /// more, but fewer than `end`.
+    pub fn ever_true(&self, from: usize, end: usize) -> EverTrue<'_>
+        requires some { from < end }
+        requires within { from ≤ length self.now.actions }
+        ensures { HasAllEver self.now from end (ever_rows result) }
     {
         EverTrue {
             first: &self.first,
             changes: &self.changes,
+            from,
+            end,
         }
     }
 }

@@ -1,13 +1,16 @@
 -- What lists the candidates of a node of a plan's tree.
-use Rattle.std.specs.Prelude.{◌≡◌, ℕ, true, List, map, slice_get, Option, Some, None}
+use Rattle.std.specs.Prelude.{◌≡◌, ◌≤◌, ℕ, true, List, map, slice_get, Option, Some, None}
 use Rattle.std.specs.List.{filter}
+use Rattle.hv_world.specs.Bindings.{GroundAtom}
 use Rattle.hv_world.specs.Worlds.{World, Method}
 use Rattle.hv_plan.specs.PlanTrees.{Node, PlanTree}
 use Rattle.hv_plan.specs.TreeViews.{child_view}
 use Rattle.hv_plan.specs.declared.tree.Child.{Child}
 use Rattle.hv_match.specs.Candidates.{HasAllAt, node_method}
-use Rattle.hv_state.specs.Ever.{HasAllEver}
-use Rattle.hv_order.specs.Settings.{Setting}
+use Rattle.hv_state.specs.Ever.{is_listed}
+use Rattle.hv_state.specs.Plans.{StateAt}
+use Rattle.hv_order.specs.Settings.{Setting, last}
+use Rattle.hv_order.specs.inside.PlanFacts.{FitsNode}
 use Rattle.hv_order.specs.inside.Arrangements.{Arrangement, lists_of}
 use Rattle.hv_order.specs.inside.Sequencings.{IsSequencing}
 use Rattle.hv_order.specs.inside.Children.{child_at}
@@ -58,7 +61,13 @@ pub record ListsAll (w : World) (t : PlanTree) (v : ℕ) (ever : Option (List (L
   pub spans : AreSpans t l.spans.value
   pub all : HasAllAt w t v ever l.coming
 
--- the rows, where some are given, have each atom that is ever true, and preconditions count
-abbrev pub IsEver : Setting → Option (List (List ℕ)) → Type 0
-IsEver q None = Unit {0}
-IsEver q (Some rows) = (q.is_with ≡ true) × HasAllEver q.plan rows
+-- each atom that is true in a state from a start on in which the node of number v may begin has its row
+-- among these
+abbrev pub HasAllFrom : Setting → ℕ → ℕ → List (List ℕ) → Type 0
+HasAllFrom q v start rows =
+    (k f : ℕ) (g : GroundAtom) → start ≤ k → k ≤ last q → FitsNode q v k f → StateAt q.plan k g → is_listed rows g ≡ true
+
+-- so it has where rows are given, and preconditions count then
+abbrev pub IsEver : Setting → ℕ → ℕ → Option (List (List ℕ)) → Type 0
+IsEver q v start None = Unit {0}
+IsEver q v start (Some rows) = (q.is_with ≡ true) × HasAllFrom q v start rows

@@ -1,5 +1,5 @@
 -- The nodes of a plan, and what one comes to from a start.
-use Rattle.std.specs.Prelude.{◌≡◌, ◌↔◌, ℕ, List, Option, Some, None, Contains}
+use Rattle.std.specs.Prelude.{◌≡◌, ◌≤◌, ◌↔◌, ℕ, List, Option, Some, None, Contains}
 use Rattle.hv_order.specs.inside.Arrangements.{Arrangement, arrangement_of}
 use Rattle.hv_order.specs.inside.Children.{AreNodesBelow}
 use Rattle.hv_order.specs.inside.Facts.{Facts, AreFits, FitsWith, IsNodeRun}
@@ -16,10 +16,11 @@ pub record FitsWithOne (q : Facts) (v s f : ℕ) : Type 0 where
   pub is_candidate : q.is_candidate v candidate
   pub fits : FitsWith q s candidate f
 
--- These are candidates of the node, and where it fits with any candidate, it does with one of these
-pub record AreAllOf (q : Facts) (v : ℕ) (all : List Arrangement) : Type 0 where
+-- These are candidates of the node, and where it fits with any candidate from a start on, it does with
+-- one of these
+pub record AreAllOf (q : Facts) (v start : ℕ) (all : List Arrangement) : Type 0 where
   pub each : (c : Arrangement) → Contains all c → q.is_candidate v c
-  pub with_one : (s f : ℕ) → FitsWithOne q v s f → Gives all (FitsWith q s) f
+  pub with_one : (s f : ℕ) → start ≤ s → FitsWithOne q v s f → Gives all (FitsWith q s) f
 
 -- Nothing finishes before it starts, and what fits from a start fits from an earlier one. A node
 -- fits exactly where it does with one of its candidates; these are arranged, and the nodes among

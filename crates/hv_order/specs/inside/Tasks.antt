@@ -26,7 +26,7 @@ pub record IsWorking (q : Facts) (size v : ℕ) (f : Frame) (left : List Arrange
   pub start : f.start ≤ q.last
   pub frame : IsFrame q v f.start f left
   pub all : List Arrangement
-  pub whole : AreAllOf q v all
+  pub whole : AreAllOf q v f.start all
   pub earliest : IsEarliest q f.start all f.earliest
   pub tried : IsBest q f.start all (arrangement_of f.candidate ∷ left) f.best
   pub listed : AreListed all f left

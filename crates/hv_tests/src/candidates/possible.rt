@@ -32,14 +32,18 @@ const LINKS: &[u8] = b"(define (domain links) (:types place)\n\
 const PLACES: &[u8] = b"(define (problem places) (:domain links) (:objects p q r s - place)\n\
     (:htn :subtasks (go p)) (:init (link p q) (link q r) (link p s) (link s p)))";
 
-// Plans, how many candidates line 2 has, and how many of them are possible.
-const WAYS: [(&[u8], usize, usize); 5] = [
-    (b"==>\n1 see p\nroot 2\n2 go p -> m 1\n<==", 16, 1),
-    (b"==>\n1 see p\nroot 2\n2 go p -> one 1\n<==", 4, 1),
+// Plans, before which state the needed atoms have to be true, how many candidates line 2 has, and how
+// many of them are possible then.
+const WAYS: [(&[u8], usize, usize, usize); 7] = [
+    (b"==>\n1 see p\nroot 2\n2 go p -> m 1\n<==", 2, 16, 1),
+    // nothing is seen before the action
+    (b"==>\n1 see p\nroot 2\n2 go p -> m 1\n<==", 1, 16, 0),
+    (b"==>\n1 see p\nroot 2\n2 go p -> one 1\n<==", 2, 4, 1),
+    (b"==>\n1 see p\nroot 2\n2 go p -> one 1\n<==", 1, 4, 1),
     // a disjunction needs none of its parts, and of four objects nothing is asked
-    (b"==>\n1 see p\nroot 2\n2 go p -> either 1\n<==", 4, 4),
-    (b"==>\n1 see p\nroot 2\n2 go p -> wide 1\n<==", 4, 4),
-    (b"==>\n1 see p\nroot 2\n2 go p -> never 1\n<==", 1, 0),
+    (b"==>\n1 see p\nroot 2\n2 go p -> either 1\n<==", 2, 4, 4),
+    (b"==>\n1 see p\nroot 2\n2 go p -> wide 1\n<==", 2, 4, 4),
+    (b"==>\n1 see p\nroot 2\n2 go p -> never 1\n<==", 2, 1, 0),
 ];
 
 // Notes candidates that are still to come, where they are fewer than a hundred.
@@ -53,20 +57,21 @@ fn note(alloc: Global, candidates: &mut Candidates<'_>, noted: &mut Vec<Candidat
     None
 }
 
-// Notes the candidates of a node that are possible on the way of the plan.
+// Notes the candidates of a node that are possible before a state of the plan.
 fn note_possible(
     alloc: Global,
     world: &World<'_>,
     tree: &Tree<'_, '_>,
     node: u32,
     trace: &Trace<'_, '_, BitState>,
+    end: usize,
     noted: &mut Vec<Candidate>,
 ) -> Option<()>
     requires tree { IsTreeIn (world_view world.now) (tree_view tree.now) }
     requires node { node < length (tree_view tree.now).nodes }
 {
     let matcher = matcher_of(alloc, world)?;
-    let ever = Some(trace.ever_true());
+    let ever = Some(trace.ever_true(0, end.max(1)));
     let mut candidates = Candidates::new(alloc, &matcher, tree, node, ever).ok()?;
     note(alloc, &mut candidates, noted)
 }
@@ -77,36 +82,42 @@ fn possible(
     world: &World<'_>,
     tree: &Tree<'_, '_>,
     node: u32,
+    end: usize,
 ) -> Option<Vec<Candidate>>
     requires tree { IsTreeIn (world_view world.now) (tree_view tree.now) }
     requires node { node < length (tree_view tree.now).nodes }
 {
     let trace: Trace<BitState> = Trace::run(alloc, world, tree.actions()).ok()?;
     let mut possible = Vec::new(alloc);
-    note_possible(alloc, world, tree, node, &trace, &mut possible)?;
+    note_possible(alloc, world, tree, node, &trace, end, &mut possible)?;
     Some(possible)
 }
 
 // The candidates of line 2, how many there are and those of them that are possible.
-fn ways(alloc: Global, world: &World<'_>, plan: &'static [u8]) -> Option<(usize, Vec<Candidate>)> {
+fn ways(
+    alloc: Global,
+    world: &World<'_>,
+    plan: &'static [u8],
+    end: usize,
+) -> Option<(usize, Vec<Candidate>)> {
     let plan = plan_of(alloc, plan)?;
     let tree = tree_of(alloc, world, &plan)?;
     let node = node_of(&tree, Some(2))?;
     let every = all(alloc, world, &tree, node)?;
-    Some((every.len(), possible(alloc, world, &tree, node)?))
+    Some((every.len(), possible(alloc, world, &tree, node, end)?))
 }
 
 // How many there are.
-fn counted(alloc: Global, plan: &'static [u8]) -> Option<(usize, usize)> {
+fn counted(alloc: Global, plan: &'static [u8], end: usize) -> Option<(usize, usize)> {
     let world = world_of(alloc, LINKS, PLACES)?;
-    let (every, possible) = ways(alloc, &world, plan)?;
+    let (every, possible) = ways(alloc, &world, plan, end)?;
     Some((every, possible.len()))
 }
 
 // Whether the first possible candidate has objects of these names.
 fn has_objects(alloc: Global, plan: &'static [u8], names: [&'static [u8]; 3]) -> Option<bool> {
     let world = world_of(alloc, LINKS, PLACES)?;
-    let (_, possible) = ways(alloc, &world, plan)?;
+    let (_, possible) = ways(alloc, &world, plan, 2)?;
     let found = &possible.first()?.objects;
     for (place, name) in names.iter().enumerate() {
         if found.get(place).copied() != object(&world, name) {
@@ -118,11 +129,11 @@ fn has_objects(alloc: Global, plan: &'static [u8], names: [&'static [u8]; 3]) ->
 
 #[test]
 fn needed_atoms_leave_possible_candidates(rt: HostRuntime) {
-    for (plan, every, possible) in WAYS {
-        assert_eq!(rt; counted(rt.alloc(), plan), Some((every, possible)));
+    for (plan, end, every, possible) in WAYS {
+        assert_eq!(rt; counted(rt.alloc(), plan, end), Some((every, possible)));
     }
     // from p over s, which is linked to p, where it was seen
-    let (plan, _, _) = WAYS[0];
+    let (plan, _, _, _) = WAYS[0];
     assert_eq!(rt;
         has_objects(rt.alloc(), plan, [b"p", b"s", b"p"]),
         Some(true)

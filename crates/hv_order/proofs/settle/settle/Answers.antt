@@ -8,7 +8,7 @@ best_of-requires-clause-known g c = λ v s h. h
 pub best_of-requires-clause-arranged : goal.best_of-requires-clause-arranged
 best_of-requires-clause-arranged g c =
     let q = g.N.Nodes.facts c.args.nodes.now in
-    all_arranged q c.requires.nodes (length c.args.rows.now) _ c.in_ok-left.ensures
+    all_arranged q c.requires.nodes (length c.args.rows.now) c.args.start _ c.in_ok-left.ensures
 
 pub returns : goal.returns
 returns g c =

@@ -3,7 +3,7 @@ use Rattle.hv_order.proofs.Tasks.{one_begun}
 use Rattle.hv_order.proofs.solve.open.Goals as goal
 
 pub next_turn-requires-clause-arranged : goal.next_turn-requires-clause-arranged
-next_turn-requires-clause-arranged g c = all_arranged (g.N.Nodes.facts c.args.nodes.now) c.requires.nodes c.args.node _ c.in_ok-left.ensures
+next_turn-requires-clause-arranged g c = all_arranged (g.N.Nodes.facts c.args.nodes.now) c.requires.nodes c.args.node c.args.start _ c.in_ok-left.ensures
 
 pub next_turn-requires-clause-earliest : goal.next_turn-requires-clause-earliest
 next_turn-requires-clause-earliest g c =
