@@ -1,6 +1,7 @@
 -- What is told of the order of a candidate's children is so, and where the candidate fits they are in order.
 use Rattle.std.proofs.Common.{◌≡◌, ℕ, zero, suc, ◌+◌, ◌<◌, ◌≤◌, ◌⊎◌, inl, inr, Bool, true, false, List, [], ◌∷◌, length, refl, sym, subst, arith, Contains}
 use Rattle.std.specs.Prelude.{◌&&◌, nat_le, take}
+use Rattle.std.specs.List.{slice_index_or}
 use Rattle.std.proofs.lemmas.Bool.{cases_lt, le-leb}
 use Rattle.hv_lists.proofs.Bools.{and_both, or_left, or_right}
 use Rattle.hv_lists.proofs.Contained.{at_head, in_tail, none_in_empty, contains_cases}
@@ -27,6 +28,15 @@ not_left true b e = absurd (let clash : true ≡ false = e in cc)
 not_right : (a b : Bool) → b ≡ false → (a && b) ≡ false
 not_right true b e = e
 not_right false b e = refl
+
+-- lists that agree up to a place have the same there
+pub agreed : {X : Type 0} (d : X) (n : ℕ) (xs ys : List X) (k : ℕ) → take n xs ≡ take n ys → k < n → slice_index_or xs k d ≡ slice_index_or ys k d
+agreed d zero xs ys k e lt = absurd (omega (arith, lt))
+agreed d (suc n) [] [] k e lt = refl
+agreed d (suc n) [] (y ∷ ys) k e lt = absurd (let clash : [] ≡ y ∷ take n ys = e in cc)
+agreed d (suc n) (x ∷ xs) [] k e lt = absurd (let clash : x ∷ take n xs ≡ [] = e in cc)
+agreed d (suc n) (x ∷ xs) (y ∷ ys) zero e lt = let same : x ∷ take n xs ≡ y ∷ take n ys = e in cc
+agreed d (suc n) (x ∷ xs) (y ∷ ys) (suc k) e lt = let same : x ∷ take n xs ≡ y ∷ take n ys = e in agreed d n xs ys k (let rest : take n xs ≡ take n ys = cc in rest) (omega (arith, lt))
 
 module _ (s : Spans) where
   -- where each of some subtasks has a child that another is behind, it is behind all of these
@@ -80,21 +90,12 @@ module _ (s : Spans) where
   within (is ∷ lists) zero i m = omega arith
   within (is ∷ lists) (suc l) i m = let rest = within lists l i m in omega (arith, rest)
 
-  -- lists that agree up to a place have the same there
-  agreed : (n : ℕ) (cs cs' : List Child) (k : ℕ) → take n cs ≡ take n cs' → k < n → child_at cs k ≡ child_at cs' k
-  agreed zero cs cs' k e lt = absurd (omega (arith, lt))
-  agreed (suc n) [] [] k e lt = refl
-  agreed (suc n) [] (c ∷ cs') k e lt = absurd (let clash : [] ≡ c ∷ take n cs' = e in cc)
-  agreed (suc n) (c ∷ cs) [] k e lt = absurd (let clash : c ∷ take n cs ≡ [] = e in cc)
-  agreed (suc n) (c ∷ cs) (d ∷ cs') zero e lt = let same : c ∷ take n cs ≡ d ∷ take n cs' = e in cc
-  agreed (suc n) (c ∷ cs) (d ∷ cs') (suc k) e lt = let same : c ∷ take n cs ≡ d ∷ take n cs' = e in agreed n cs cs' k (let rest : take n cs ≡ take n cs' = cc in rest) (omega (arith, lt))
-
   -- with the same children up to the last of a pair that is out of order nothing is in order
   pub misplaced_alike :
       (cs cs' : List Child) (lists : List (List ℕ)) (last : ℕ) → IsMisplaced s cs lists last → take (last + 1) cs' ≡ take (last + 1) cs → are_behind s cs' 0 lists ≡ false
   misplaced_alike cs cs' lists last m e =
-      let former = agreed (last + 1) cs' cs m.former e (omega (arith, m.of_former)) in
-      let latter = agreed (last + 1) cs' cs m.latter e (omega (arith, m.of_latter)) in
+      let former = agreed (children.Action 0) (last + 1) cs' cs m.former e (omega (arith, m.of_former)) in
+      let latter = agreed (children.Action 0) (last + 1) cs' cs m.latter e (omega (arith, m.of_latter)) in
       let apart : is_behind s (child_view (child_at cs' m.former)) (child_view (child_at cs' m.latter)) ≡ false =
       subst (λ (c : Child). is_behind s (child_view c) (child_view (child_at cs' m.latter)) ≡ false) (sym former)
       (subst (λ (c : Child). is_behind s (child_view (child_at cs m.former)) (child_view c) ≡ false) (sym latter) m.pair.apart) in

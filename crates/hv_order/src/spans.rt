@@ -1,6 +1,6 @@
 //! Where in the plan the actions stand that are at and below the children of a candidate, and whether
 //! that is as their subtasks are ordered.
-ghost use Rattle.std.specs.Prelude.{◌≡◌, nat_le, length, IfOk};
+ghost use Rattle.std.specs.Prelude.{◌≡◌, ◌∷◌, [], nat_le, length, IsTrue, IfOk, IfSome};
 ghost use Rattle.hv_plan.specs.BuiltTrees.{tree_view};
 ghost use Rattle.hv_plan.specs.TreeViews.{child_view};
 ghost use Rattle.hv_order.specs.inside.Arrangements.{lists_of};
@@ -8,7 +8,8 @@ ghost use Rattle.hv_order.specs.inside.Children as inside;
 ghost use Rattle.hv_order.specs.inside.Ends.{item_end};
 ghost use Rattle.hv_order.specs.inside.Firsts.{never};
 ghost use Rattle.hv_order.specs.inside.Spans as spans;
-ghost use Rattle.hv_order.specs.inside.Spans.{AreSpans, TellsInFront, TellsMisplaced};
+ghost use Rattle.hv_order.specs.inside.Spans.{AreSpans, TellsInFront, TellsMisplaced, TellsStuck};
+ghost use Rattle.hv_order.specs.inside.Spans.{IsChain, HasActions, HaveActions, IsMet, IsBlocked};
 
 use crate::ends::{end_at, ends_of};
 use crate::firsts::{child_first, firsts_of};
@@ -42,6 +43,28 @@ pub fn is_over_by(ends: &[u32], child: Child, state: u32) -> bool
         Child::Action(action) => action < state,
         Child::Node(node) => end_at(ends, node) <= state,
     }
+}
+
+// Whether a list has just one number, which is this.
+fn is_just(list: &[usize], number: usize) -> bool
+    ensures { IsTrue result → list.now ≡ number ∷ [] }
+{
+    match list {
+        [only] => *only == number,
+        _ => false,
+    }
+}
+
+// Whether just the one before it stands directly before each subtask, as they are written.
+fn is_chain(direct: &[Vec<usize>]) -> bool
+    ensures { IsTrue result → IsChain (lists_of direct.now) }
+{
+    for latter in 1..direct.len() {
+        if !is_just(&direct[latter], latter - 1) {
+            return false;
+        }
+    }
+    true
 }
 
 /// Whether a state is behind all of every plan.
@@ -82,9 +105,9 @@ impl Spans {
         None
     }
 
-    /// The later in written order of two subtasks, one directly before the other, whose children
-    /// stand in the plan the other way round, or meet; if there are such.
-    pub fn misplaced(&self, children: &[Child], direct: &[Vec<usize>]) -> Option<usize>
+    // The later in written order of two subtasks, one directly before the other, whose children
+    // stand in the plan the other way round, or meet; if there are such.
+    fn misplaced(&self, children: &[Child], direct: &[Vec<usize>]) -> Option<usize>
         ensures { TellsMisplaced self.now children.now (lists_of direct.now) result }
     {
         for latter in 0..direct.len() {
@@ -94,5 +117,67 @@ impl Spans {
             }
         }
         None
+    }
+
+    // Whether some action stands at or below a child, by its span.
+    fn has_actions(&self, child: Child) -> bool
+        ensures { IsTrue result → HasActions self.now (child_view child) }
+    {
+        let first = child_first(&self.firsts, child);
+        !is_never(first) && !is_over_by(&self.ends, child, first)
+    }
+
+    // Whether it does so for each of these.
+    fn have_actions(&self, children: &[Child]) -> bool
+        ensures { IsTrue result → HaveActions self.now children.now }
+    {
+        for child in children {
+            if !self.has_actions(*child) {
+                return false;
+            }
+        }
+        true
+    }
+
+    // The first subtask, as they are written, whose child is not over when that of a later one begins.
+    fn first_met(&self, children: &[Child]) -> Option<usize>
+        ensures { IfSome result (IsMet self.now children.now) }
+    {
+        let (last, before) = children.split_last()?;
+        let mut soonest = child_first(&self.firsts, *last);
+        let mut met = None;
+        for place in (0..before.len()).rev() {
+            let child = child_at(children, place);
+            if !is_over_by(&self.ends, child, soonest) {
+                met = Some(place);
+            }
+            soonest = soonest.min(child_first(&self.firsts, child));
+        }
+        met
+    }
+
+    // The first subtask whose child is not over when another begins that is left for a later one.
+    // Where the subtasks stand in one chain, nothing helps then but another child for this one, or
+    // for one before it. It is told of children each of which has actions.
+    fn blocked(&self, children: &[Child], direct: &[Vec<usize>]) -> Option<usize>
+        ensures { IfSome result (IsBlocked self.now children.now (lists_of direct.now)) }
+    {
+        if direct.len() == children.len() && is_chain(direct) && self.have_actions(children) {
+            self.first_met(children)
+        } else {
+            None
+        }
+    }
+
+    /// A subtask, as they are written, up to which the children cannot stay as they are, where they are
+    /// not in the order of the subtasks.
+    pub fn stuck(&self, children: &[Child], direct: &[Vec<usize>]) -> Option<usize>
+        ensures { TellsStuck self.now children.now (lists_of direct.now) result }
+    {
+        let last = self.misplaced(children, direct)?;
+        match self.blocked(children, direct) {
+            Some(first) => Some(first),
+            None => Some(last),
+        }
     }
 }

@@ -1,5 +1,6 @@
 -- Whether the children of a candidate stand in the plan as their subtasks are ordered.
-use Rattle.std.specs.Prelude.{◌≡◌, ℕ, ◌+◌, ◌≤◌, Bool, true, false, ◌||◌, ◌&&◌, List, [], ◌∷◌, nat_le, Option, MatchOption, Contains}
+use Rattle.std.specs.Prelude.{◌≡◌, ℕ, suc, ◌+◌, ◌<◌, ◌≤◌, ◌⊎◌, Bool, true, false, ◌||◌, ◌&&◌, List, [], ◌∷◌, length, nat_le, Option, MatchOption, All, Contains}
+use Rattle.hv_lists.specs.Lists.{Once}
 use Rattle.hv_plan.specs.Trees.{Item}
 use Rattle.hv_plan.specs.PlanTrees.{PlanTree}
 use Rattle.hv_plan.specs.TreeViews.{child_view}
@@ -52,3 +53,43 @@ TellsMisplaced s cs lists o = MatchOption o (are_behind s cs 0 lists ≡ true) (
 
 abbrev pub TellsInFront : Spans → List Child → Child → List ℕ → Option ℕ → Type 0
 TellsInFront s cs y is o = MatchOption o (is_behind_all s cs y is ≡ true) (IsInFront s cs y is)
+
+-- just the one before it stands directly before each subtask, as they are written
+abbrev pub IsChain : List (List ℕ) → Type 0
+IsChain lists = (j : ℕ) → suc j < length lists → listed_before lists (suc j) ≡ j ∷ []
+
+-- some action stands at or below it, by its span
+pub record HasActions (s : Spans) (x : Item) : Type 0 where
+  pub begins : item_first s.firsts.items x < never
+  pub ends : item_first s.firsts.items x < item_end s.ends.items x
+
+abbrev pub HaveActions : Spans → List Child → Type 0
+HaveActions s cs = (j : ℕ) → j < length cs → HasActions s (child_view (child_at cs j))
+
+-- the child at a place is not over when that at a later one begins
+pub record IsMet (s : Spans) (cs : List Child) (at : ℕ) : Type 0 where
+  pub later : ℕ
+  pub behind : at < later
+  pub within : later < length cs
+  pub meets : item_first s.firsts.items (child_view (child_at cs later)) < item_end s.ends.items (child_view (child_at cs at))
+
+-- the subtasks stand in one chain, and with the same children up to this one some child is left that begins too soon
+pub record IsBlocked (s : Spans) (cs : List Child) (lists : List (List ℕ)) (at : ℕ) : Type 0 where
+  pub as_many : length lists ≡ length cs
+  pub chain : IsChain lists
+  pub actions : HaveActions s cs
+  pub met : IsMet s cs at
+
+-- all are in order where none is told, and else the children cannot stay as they are up to this subtask
+abbrev pub TellsStuck : Spans → List Child → List (List ℕ) → Option ℕ → Type 0
+TellsStuck s cs lists o = MatchOption o (are_behind s cs 0 lists ≡ true) (λ last. IsMisplaced s cs lists last ⊎ IsBlocked s cs lists last)
+
+-- the numbers are those below n, each once
+pub record IsPlacing (n : ℕ) (M : List ℕ) : Type 0 where
+  pub once : Once M
+  pub within : All (λ x. x < n) M
+  pub all : length M ≡ n
+
+-- so are the places of each of these candidates
+abbrev pub ArePlacings : ℕ → List (List ℕ × List ℕ) → Type 0
+ArePlacings n cs = (M B : List ℕ) → Contains cs (M, B) → IsPlacing n M
