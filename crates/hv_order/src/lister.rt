@@ -1,4 +1,4 @@
-//! What lists the candidates of a node of a plan's tree.
+//! What lists the candidates of a node of a plan's tree: those that are still to come.
 ghost use Rattle.std.specs.Prelude.{length};
 ghost use Rattle.hv_order.specs.inside.Spans.{ArePlacings};
 
