@@ -1,9 +1,12 @@
 -- What the check of a certificate's text answers, and what is written of it.
-use Rattle.std.proofs.Common.{◌≡◌, ◌<◌, ◌≤◌, ℕ, Bool, true, false, List, Option, None, length, sym, subst, arith}
+use Rattle.std.proofs.Common.{◌≡◌, ◌<◌, ◌≤◌, ◌⊎◌, inl, inr, ℕ, Bool, true, false, List, Option, None, Result, Ok, Err, IfOk, IfErr, length, sym, subst, arith}
 use Rattle.hv_text.specs.Io.{IsRead, IsReadFault}
 use Rattle.hv_text.specs.declared.fault.TheConstants.{MOST_BYTES}
 use Rattle.hv_text.specs.declared.io.ReadFault.{ReadFault}
+use Rattle.hv_world.specs.Worlds.{World}
+use Rattle.hv_plan.specs.Values.{Plan}
 use Rattle.hv_certificate.specs.Forms.{IsCertFault}
+use Rattle.hv_judge.specs.declared.checking.CheckFault.{CheckFault}
 use Rattle.hv_certificate.specs.declared.fault.CertFault.{CertFault}
 use Rattle.hv_certificate.specs.declared.fault.CertFault.TheVariants as certificates
 use Rattle.hv_answer.specs.declared.answer.Fault.{Fault}
@@ -14,13 +17,13 @@ use Rattle.hv_judge.specs.declared.not_solved.NotSolved.TheVariants.{Rejected, F
 use Rattle.hv_judge.specs.declared.rechecking.RecheckKind.{RecheckKind}
 use Rattle.hv_judge.specs.declared.rechecking.RecheckKind.TheVariants as kinds
 use Rattle.hv_judge.specs.declared.running.RunFault.{RunFault}
-use Rattle.hv_judge.specs.Checked.{Rechecked, IsRejectedOfFour, not_judged, not_of_form, IsRecheckFault}
+use Rattle.hv_judge.specs.Checked.{Rechecked, IsRecheckOf, IsRejectedOfFour, not_judged, not_of_form, IsRecheckFault}
 use Rattle.hv_judge.specs.Rechecks.{IsRecheckLine, says_certified, says_not_certified, says_rejected, found_line, IsFoundLine}
 use Rattle.hv_judge.specs.Rechecks.{IsHaltFrom, text_failed, text_given}
 use Rattle.hv_judge.specs.Rejections.{first_too_long}
 use Rattle.hv_judge.specs.Runs.{rejection, IsRejection, IsFailureOf}
 use Rattle.hv_judge.specs.Verdicts.{IsSpelledAs, HasVerdict}
-use Rattle.hv_judge.specs.inside.CheckEnds.{check_end, cert_end}
+use Rattle.hv_judge.specs.inside.CheckEnds.{check_end, cert_end, IsCertEnd}
 use Rattle.hv_judge.specs.inside.Ends.{Ends}
 use Rattle.hv_judge.proofs.RunLemmas.{failed_read}
 
@@ -42,6 +45,26 @@ module _ (domain problem plan cert : List ℕ) where
       absurd (let long : MOST_BYTES < length cert = h in omega (arith, few, long))
   cert_ends (certificates.BadCertificate line) few spelled h = not_of_form line spelled h
   cert_ends certificates.Memory few spelled h = tt
+
+  pub text_ends : (e : CheckFault) → length cert ≤ MOST_BYTES
+      → IsSpelledAs domain problem plan (λ w q. Unit {0}) → IsCertEnd cert e
+      → IsRecheckFault domain problem plan cert e
+  text_ends e few spelled (inl memory) = subst (λ x. IsRecheckFault domain problem plan cert x) (sym memory) tt
+  text_ends e few spelled (inr (f, fault, is)) =
+      subst (λ x. IsRecheckFault domain problem plan cert x) (sym is) (cert_ends f few spelled fault)
+
+  -- what is found by the certificate's text
+  pub ends_as : (r : Result Recheck CheckFault) → length cert ≤ MOST_BYTES
+      → IsSpelledAs domain problem plan (λ w q. Unit {0}) → IfErr r (IsCertEnd cert)
+      → IfErr r (IsRecheckFault domain problem plan cert)
+  ends_as (Ok found) few spelled h = tt
+  ends_as (Err e) few spelled h = text_ends e few spelled h
+
+  pub finds_as : (r : Result Recheck CheckFault) (w : World) (q : Plan)
+      → ((found : Recheck) → IsRecheckOf cert found w q → Rechecked domain problem plan cert found)
+      → IfOk r (λ found. IsRecheckOf cert found w q) → IfOk r (Rechecked domain problem plan cert)
+  finds_as (Ok found) w q spelled h = spelled found h
+  finds_as (Err e) w q spelled h = tt
 
   -- a line of a kind
   as_line : (k x : RecheckKind) (line bytes : List ℕ) → k ≡ x → line ≡ bytes

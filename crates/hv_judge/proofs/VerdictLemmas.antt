@@ -15,21 +15,21 @@ use Rattle.hv_plan.specs.Fits.{FitWorld}
 use Rattle.hv_plan.specs.PlanTrees.{PlanTree, IsTreeOf, IsTreeIn, IsActionOf}
 use Rattle.hv_plan.specs.declared.cause.TreeFault.{TreeFault}
 use Rattle.hv_plan.specs.declared.cause.TreeFault.TheVariants as trees
-use Rattle.hv_order.specs.Certified.{Certifies, IsRowFault}
-use Rattle.hv_order.specs.Settings.{HasCandidate, HaveCandidates, IsFirstWithout, IsSolved}
+use Rattle.hv_order.specs.Certified.{Certifies, IsUnsolvedBy}
+use Rattle.hv_order.specs.Settings.{IsSolved}
 use Rattle.hv_certificate.specs.declared.certificate.Certificate.{Certificate}
-use Rattle.hv_order.specs.declared.solution.RowFault.{RowFault}
-use Rattle.hv_order.specs.declared.solution.RowFault.TheVariants as rows
+use Rattle.hv_order.specs.declared.solution.Unsolved.{Unsolved}
+use Rattle.hv_order.specs.declared.solution.Unsolved.TheVariants as unsolved
 use Rattle.hv_answer.specs.declared.answer.Verdict.TheVariants as verdicts
 use Rattle.hv_answer.specs.declared.answer.CauseKind.{CauseKind}
 use Rattle.hv_answer.specs.declared.answer.CauseKind.TheVariants as causes
 use Rattle.hv_judge.specs.declared.not_solved.NotSolved.{NotSolved}
 use Rattle.hv_judge.specs.declared.not_solved.NotSolved.TheVariants.{Fails}
-use Rattle.hv_judge.specs.Solutions.{HasTree, IsRun, ReachesGoal, SolvesBy, run_of, judged_in, judged_without}
+use Rattle.hv_judge.specs.Solutions.{HasTree, IsRun, ReachesGoal, SolvesBy, run_of, judged_in}
 use Rattle.hv_answer.specs.Places.{cause_nowhere}
 use Rattle.hv_judge.specs.Causes.{IsCauseOf, by_tree, by_action, by_goal, by_binding, by_order, by_precondition, IsWithinLimit}
 use Rattle.hv_judge.specs.Verdicts.{IsVerdict}
-use Rattle.hv_judge.specs.inside.Ends.{Ends, Explains, tree_end, run_end, row_end, IsEndInOrder, IsLastCause}
+use Rattle.hv_judge.specs.inside.Ends.{Ends, Explains, tree_end, run_end, unsolved_end, IsEndInOrder}
 
 -- the tree that was built is the plan's
 pub has_tree : (w : World) (p : Plan) (t : PlanTree)
@@ -63,55 +63,16 @@ no_run w p t limit (stops.Inapplicable k) tree h =
     (by_action t k line.0 tree h line.1)
 no_run w p t limit stops.Memory tree h = tt
 
--- whether a node has a candidate does not hang on the preconditions
-has_candidate : (w : World) (t : PlanTree) (v : ℕ)
-    → HasCandidate (judged_without w t) v → HasCandidate (judged_in w t) v
-has_candidate w t v h =
-    record { matching = h.matching; binding = h.binding; candidate = h.candidate }
-
-has_candidate_too : (w : World) (t : PlanTree) (v : ℕ)
-    → HasCandidate (judged_in w t) v → HasCandidate (judged_without w t) v
-has_candidate_too w t v h =
-    record { matching = h.matching; binding = h.binding; candidate = h.candidate }
-
-first_without : (w : World) (t : PlanTree) (line : ℕ)
-    → IsFirstWithout (judged_without w t) line → IsFirstWithout (judged_in w t) line
-first_without w t line h =
-    record {
-      place = h.place;
-      number = h.number;
-      stands = h.stands;
-      node = h.node;
-      has_node = h.has_node;
-      none = λ c. h.none (has_candidate_too w t h.number c);
-      earlier = λ i u less at. has_candidate w t u (h.earlier i u less at);
-      on_line = h.on_line;
-    }
-
--- a plan with a node without candidate fails at the line of the first
-pub no_binding : (w : World) (t : PlanTree) (f : RowFault)
-    → IsRowFault (judged_in w t) f → IsEndInOrder w t (row_end f)
-no_binding w t (rows.NoBinding line) h = λ p limit reaches within. by_binding t line reaches within h
-no_binding w t rows.Memory h = λ p limit reaches within. tt
-
-pub no_binding_without : (w : World) (t : PlanTree) (f : RowFault)
-    → IsRowFault (judged_without w t) f → IsEndInOrder w t (row_end f)
-no_binding_without w t (rows.NoBinding line) h =
-    λ p limit reaches within. by_binding t line reaches within (first_without w t line h)
-no_binding_without w t rows.Memory h = λ p limit reaches within. tt
-
--- a plan without a solution, where each node has a candidate
-pub no_order : (w : World) (t : PlanTree) (kind : CauseKind) → HaveCandidates (judged_in w t)
-    → (IsSolved (judged_in w t) → ⊥) → IsLastCause w t kind
-    → IsEndInOrder w t (Fails (cause_nowhere kind))
-no_order w t (causes.Tree k) all none h = absurd h
-no_order w t causes.Inapplicable all none h = absurd h
-no_order w t causes.GoalFalse all none h = absurd h
-no_order w t causes.NoBinding all none h = absurd h
-no_order w t causes.OrderBroken all none h =
-    λ p limit reaches within. by_order t reaches within all h
-no_order w t causes.PreconditionUnplaced all none h =
-    λ p limit reaches within. by_precondition t reaches within h none
+-- a plan without a solution fails for the reason that is told
+pub no_solution : (w : World) (t : PlanTree) (u : Unsolved)
+    → IsUnsolvedBy (judged_in w t) u → IsEndInOrder w t (unsolved_end u)
+no_solution w t (unsolved.NoBinding line) h =
+    λ p limit reaches within. by_binding t line reaches within h
+no_solution w t unsolved.OrderBroken (all, none) =
+    λ p limit reaches within. by_order t reaches within all none
+no_solution w t unsolved.PreconditionUnplaced (all, without, none) =
+    λ p limit reaches within. by_precondition t reaches within without none
+no_solution w t unsolved.Memory h = λ p limit reaches within. tt
 
 not_both : (b : Bool) → b ≡ true → b ≡ false → ⊥
 not_both b e f = cc

@@ -5,7 +5,7 @@ ghost use Rattle.hv_judge.specs.inside.Ends.{IsAnswerOf, IsVerdictOf};
 
 use crate::rejection::reported_plan;
 use hv_answer::{Answer, Cause, CauseKind, Fault, Verdict, Which};
-use hv_order::solution::RowFault;
+use hv_order::solution::Unsolved;
 use hv_plan::{PlanFault, TreeFault};
 use hv_text::Memory;
 
@@ -86,15 +86,19 @@ impl From<TreeFault> for NotSolved {
     }
 }
 
-impl From<RowFault> for NotSolved {
-    ghost use Rattle.hv_judge.specs.inside.Ends.{row_end};
+impl From<Unsolved> for NotSolved {
+    ghost use Rattle.hv_judge.specs.inside.Ends.{unsolved_end};
 
-    ghost from_gives = { λ f e. e ≡ row_end f };
+    ghost from_gives = { λ u e. e ≡ unsolved_end u };
 
-    fn from(fault: RowFault) -> NotSolved {
-        match fault {
-            RowFault::NoBinding(line) => NotSolved::Fails(Cause::at(CauseKind::NoBinding, line)),
-            RowFault::Memory => NotSolved::Memory,
+    fn from(unsolved: Unsolved) -> NotSolved {
+        match unsolved {
+            Unsolved::NoBinding(line) => NotSolved::Fails(Cause::at(CauseKind::NoBinding, line)),
+            Unsolved::OrderBroken => NotSolved::Fails(Cause::nowhere(CauseKind::OrderBroken)),
+            Unsolved::PreconditionUnplaced => {
+                NotSolved::Fails(Cause::nowhere(CauseKind::PreconditionUnplaced))
+            }
+            Unsolved::Memory => NotSolved::Memory,
         }
     }
 }

@@ -1,10 +1,14 @@
 //! The check of the text of a certificate, also over readers and a writer.
 
-ghost use Rattle.std.specs.Prelude.{◌≡◌, ◌<◌, ◌+◌, ◌-◌, ◌^◌, IfOk, IfErr};
+ghost use Rattle.std.specs.Prelude.{◌≡◌, ◌<◌, ◌+◌, ◌-◌, ◌^◌, length, IfOk, IfErr};
+ghost use Rattle.hv_world.specs.WorldViews.{world_view};
+ghost use Rattle.hv_plan.specs.LineViews.{plan_view};
+ghost use Rattle.hv_order.specs.Settings.{HasNoPrecondition};
 ghost use Rattle.hv_answer.specs.declared.answer.Which.TheVariants as texts;
 ghost use Rattle.hv_answer.specs.declared.answer.Which.{Which};
-ghost use Rattle.hv_judge.specs.Checked.{Rechecked, IsRecheckFault};
+ghost use Rattle.hv_judge.specs.Checked.{Rechecked, IsRecheckFault, IsRecheckOf as IsFound};
 ghost use Rattle.hv_judge.specs.Rechecks.{IsRecheckLine, IsFoundLine, IsRecheckOfCertificate, IsRecheckOfPlan, IsRecheckOfProblem, IsRecheckOf, IsRecheckHaltOfCertificate, IsRecheckHaltOfPlan, IsRecheckHaltOfProblem, IsRecheckHaltOf};
+ghost use Rattle.hv_judge.specs.inside.CheckEnds.{IsCertEnd};
 ghost use Rattle.hv_judge.specs.declared.rechecking.RecheckKind.TheVariants as kinds;
 ghost use Rattle.hv_judge.specs.Runs.{reads_failed, writes_failed, failures_at, Wrote, IsRejection, IsUnread, IfHalted, IsWant, IsFailureOf};
 
@@ -13,9 +17,28 @@ use crate::judgement::{first_too_long, read_world};
 use crate::running::RunFault;
 use hv_answer::{Fault, Verdict, Which, write_verdict};
 use hv_certificate::read_cert;
-use hv_plan::{plans_are_small, read_plan};
+use hv_plan::{PlanText, plans_are_small, read_plan};
 use hv_text::{MOST_BYTES, ReadFault, Sink, Source, read_all, write_all};
+use hv_world::World;
 use std::alloc::Global;
+
+// Reads the text of a certificate, and checks a plan of a world by it.
+fn check_text<'s>(
+    alloc: Global,
+    world: &World<'s>,
+    plan: &PlanText<'s>,
+    certificate: &'s [u8],
+) -> Result<Recheck, CheckFault>
+    requires top { HasNoPrecondition (world_view world.now) }
+    requires small { length (plan_view plan.now).actions
+        + length (plan_view plan.now).decompositions < 4294967295 }
+    ensures ok { IfOk result (λ found. IsFound
+        certificate.entry.now found (world_view world.now) (plan_view plan.now)) }
+    ensures err { IfErr result (IsCertEnd certificate.entry.now) }
+{
+    let certificate = read_cert(alloc, certificate)?;
+    Ok(check_plan(alloc, world, plan, &certificate)?)
+}
 
 /// Checks the text of a certificate, which is read and then checked as by `check`; no formula is
 /// evaluated twice.
@@ -46,8 +69,7 @@ pub fn recheck<'s>(
     }
     let world = read_world(alloc, domain, problem)?;
     let plan = read_plan(alloc, plan)?;
-    let certificate = read_cert(alloc, certificate)?;
-    Ok(check_plan(alloc, &world, &plan, &certificate)?)
+    check_text(alloc, &world, &plan, certificate)
 }
 
 /// What was said of a certificate.

@@ -16,12 +16,12 @@ use Rattle.hv_order.specs.declared.memo.Pair.{Pair}
 use Rattle.hv_order.specs.declared.memo.Span.{Span}
 use Rattle.hv_order.specs.declared.memo.Won.{Won}
 
-same_place : {X : Type 0} (xs : List X) (i : ℕ) (x : X) → i < length xs → slice_get (slice_set xs i x) i ≡ Some x
+pub same_place : {X : Type 0} (xs : List X) (i : ℕ) (x : X) → i < length xs → slice_get (slice_set xs i x) i ≡ Some x
 same_place [] i x lt = absurd (omega (arith, lt))
 same_place (y ∷ ys) zero x lt = refl
 same_place (y ∷ ys) (suc i) x lt = same_place ys i x (omega (arith, lt))
 
-other_place : {X : Type 0} (xs : List X) (i j : ℕ) (x : X) → (j ≡ i → ⊥) → slice_get (slice_set xs i x) j ≡ slice_get xs j
+pub other_place : {X : Type 0} (xs : List X) (i j : ℕ) (x : X) → (j ≡ i → ⊥) → slice_get (slice_set xs i x) j ≡ slice_get xs j
 other_place [] i j x other = refl
 other_place (y ∷ ys) zero zero x other = absurd (other refl)
 other_place (y ∷ ys) zero (suc j) x other = refl
@@ -29,11 +29,11 @@ other_place (y ∷ ys) (suc i) zero x other = refl
 other_place (y ∷ ys) (suc i) (suc j) x other = other_place ys i j x (λ e. other (ap suc e))
 
 -- what an interval says of a start
-data InSpan (p : Span) (s : ℕ) (o : Option Run) : Type 0 where
+pub data InSpan (p : Span) (s : ℕ) (o : Option Run) : Type 0 where
   inside : p.first ≤ s → s ≤ p.last → o ≡ Some (record { last = p.last; finish = finish_from p.finish }) → InSpan p s o
   outside : (p.first ≤ s → s ≤ p.last → ⊥) → o ≡ None → InSpan p s o
 
-span_cases : (p : Span) (s : ℕ) → InSpan p s (in_span p s)
+pub span_cases : (p : Span) (s : ℕ) → InSpan p s (in_span p s)
 span_cases p s = tell (leb p.first s) (leb s p.last) (leb_tells p.first s) (leb_tells s p.last)
   where
     says : Bool → Bool → Option Run

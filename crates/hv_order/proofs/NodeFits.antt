@@ -36,7 +36,7 @@ use Rattle.hv_order.proofs.NodeParts.{children_are, of_method, from_method, is_t
 use Rattle.hv_order.proofs.Deciding.{meaning_of}
 
 -- what is placed together is so in a wider sense
-placed_as :
+pub placed_as :
     (Is Is' : ℕ → Type 0) (Before Before' : ℕ → ℕ → Type 0) (Fit Fit' : ℕ → ℕ → ℕ → Type 0) (s f : ℕ)
     → ((j : ℕ) → Is' j → Is j) → ((i j : ℕ) → Before' i j → Before i j)
     → ((j a b : ℕ) → Is' j → Fit j a b → Fit' j a b)

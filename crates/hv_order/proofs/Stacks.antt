@@ -33,6 +33,7 @@ module _ {L : Type 0} (left : L → List Arrangement) (q : Facts) (size : ℕ) w
   -- one that waits is of a node of the plan, from one of its states on
   pub pair_is : (p : Pending L) → IsPending left q size p → IsPair q size (pair_of p)
   pair_is (pending.Asked p) is = is
+  pair_is (pending.Ready p) is = is
   pair_is (pending.Begun t) is = record { node = is.within; start = is.start }
 
   -- one of a node before another, from a start on of which nothing is known

@@ -7,11 +7,13 @@ use Rattle.hv_plan.specs.Trees.{Item}
 use Rattle.hv_plan.specs.PlanTrees.{Node, PlanTree, NodeIs, StandsFor, IsTreeIn, tree_of, root_number}
 use Rattle.hv_order.specs.Meanings as meanings
 use Rattle.hv_order.specs.Sequences.{HasSequenceAt}
-use Rattle.hv_order.specs.Settings.{Setting, last, AmountsTo, IsSolved, IsFirstWithout}
+use Rattle.hv_order.specs.Settings.{Setting, without_preconditions, last, AmountsTo, IsSolved, HaveCandidates, IsFirstWithout}
 use Rattle.hv_certificate.specs.declared.certificate.Choice.{Choice}
 use Rattle.hv_certificate.specs.declared.certificate.Certificate.{Certificate}
-use Rattle.hv_order.specs.declared.solution.RowFault.{RowFault}
-use Rattle.hv_order.specs.declared.solution.RowFault.TheVariants as faults
+use Rattle.hv_order.specs.declared.rows.RowFault.{RowFault}
+use Rattle.hv_order.specs.declared.rows.RowFault.TheVariants as faults
+use Rattle.hv_order.specs.declared.solution.Unsolved.{Unsolved}
+use Rattle.hv_order.specs.declared.solution.Unsolved.TheVariants as unsolved
 
 -- the child at place x among the children of the node of number v begins with this id
 pub record IsChildId (q : Setting) (v x id : ℕ) : Type 0 where
@@ -71,7 +73,17 @@ abbrev pub CertifiedPlans : Type 0
 CertifiedPlans =
     (q : Setting) (c : Certificate) → IsTreeIn q.plan.world q.tree → Certifies q c → IsSolved q
 
--- why there is neither a certificate nor none
+-- why it is not said that a plan is solved: the first node without a candidate, or else that it is not
+-- solved even where preconditions are taken as true, or is solved only there
+abbrev pub IsUnsolvedBy : Setting → Unsolved → Type 0
+IsUnsolvedBy q (unsolved.NoBinding line) = IsFirstWithout q line
+IsUnsolvedBy q unsolved.OrderBroken =
+    HaveCandidates q × (IsSolved (without_preconditions q) → ⊥)
+IsUnsolvedBy q unsolved.PreconditionUnplaced =
+    HaveCandidates q × IsSolved (without_preconditions q) × (IsSolved q → ⊥)
+IsUnsolvedBy q unsolved.Memory = Unit {0}
+
+-- why there are no rows
 abbrev pub IsRowFault : Setting → RowFault → Type 0
 IsRowFault q (faults.NoBinding line) = IsFirstWithout q line
 IsRowFault q faults.Memory = Unit {0}

@@ -1,5 +1,5 @@
 -- The plan that is judged: which candidates its nodes have, what they amount to, and when it is solved.
-use Rattle.std.specs.Prelude.{◌≡◌, ℕ, ◌<◌, Bool, true, List, length, slice_get, slice_index, Some}
+use Rattle.std.specs.Prelude.{◌≡◌, ℕ, ◌<◌, Bool, true, false, List, length, slice_get, slice_index, Some}
 use Rattle.std.specs.List.{slice_index_or}
 use Rattle.hv_world.specs.Values.{and, no_formulas}
 use Rattle.hv_world.specs.Orders.{Before}
@@ -23,6 +23,10 @@ pub record Setting : Type 0 where
 
 abbrev pub setting : PlanTree → states.Plan → Bool → Setting
 setting t p b = record { tree = t; plan = p; is_with = b }
+
+-- the same where each precondition of a method is taken as true
+abbrev pub without_preconditions : Setting → Setting
+without_preconditions q = setting q.tree q.plan false
 
 -- the number of the last state
 abbrev pub last : Setting → ℕ

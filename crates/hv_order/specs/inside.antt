@@ -25,3 +25,5 @@ pub mod Spans
 pub mod Listers
 pub mod PlanNodes
 pub mod Checks
+pub mod Marks
+pub mod Plain

@@ -3,7 +3,7 @@
 ghost use Rattle.std.specs.Prelude.{◌↔◌, ◌<◌, length, IfOk, IsTrue};
 ghost use Rattle.hv_plan.specs.BuiltTrees.{tree_view};
 ghost use Rattle.hv_plan.specs.PlanTrees.{IsTreeIn};
-ghost use Rattle.hv_order.specs.inside.Writings.{HasOne, TellsFirst};
+ghost use Rattle.hv_order.specs.inside.Writings.{AreBound, HasOne, TellsFirst};
 
 use crate::lines::{line_of, number_at};
 use hv_match::{Candidates, Matcher};
@@ -27,19 +27,40 @@ pub fn has_candidate<'a>(
     Ok(is_some)
 }
 
+// Whether a node has a candidate, where some are known to have one.
+fn is_bound(
+    alloc: Global,
+    matcher: &Matcher<'_, '_>,
+    tree: &Tree<'_, '_>,
+    bound: &[bool],
+    node: u32,
+) -> Result<bool, Memory>
+    requires tree { IsTreeIn matcher.now (tree_view tree.now) }
+    requires bound { AreBound matcher.now (tree_view tree.now) bound.now }
+    requires node { node < length (tree_view tree.now).nodes }
+    ensures { IfOk result (λ b. IsTrue b ↔ HasOne matcher.now (tree_view tree.now) node) }
+{
+    if bound.get(node as usize).copied().unwrap_or(false) {
+        return Ok(true);
+    }
+    has_candidate(alloc, matcher, tree, node)
+}
+
 /// The number of the line of the first node without a candidate, in the order of nodes. Each node
-/// is asked once.
+/// is asked once, but for those that are known to have one.
 pub fn first_without(
     alloc: Global,
     matcher: &Matcher<'_, '_>,
     tree: &Tree<'_, '_>,
+    bound: &[bool],
 ) -> Result<Option<u32>, Memory>
-    requires { IsTreeIn matcher.now (tree_view tree.now) }
+    requires tree { IsTreeIn matcher.now (tree_view tree.now) }
+    requires bound { AreBound matcher.now (tree_view tree.now) bound.now }
     ensures { IfOk result (TellsFirst matcher.now (tree_view tree.now)) }
 {
     for place in 0..tree.node_count() as usize {
         let node = number_at(tree, place);
-        if !has_candidate(alloc, matcher, tree, node)? {
+        if !is_bound(alloc, matcher, tree, bound, node)? {
             return Ok(Some(line_of(tree, node)));
         }
     }

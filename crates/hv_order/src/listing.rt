@@ -23,12 +23,6 @@ use hv_state::EverTrue;
 use std::alloc::Global;
 use std::rc::Rc;
 
-impl From<hv_text::Memory> for Memory {
-    fn from(_refused: hv_text::Memory) -> Memory {
-        Memory
-    }
-}
-
 // The children at these places.
 fn children_at(alloc: Global, children: &[Child], places: &[u32]) -> Result<Vec<Child>, Memory>
     ensures { IfOk result (λ v. v.items ≡ map (inside.child_at children.now) places.now) }

@@ -1,6 +1,6 @@
 //! What is known of the least finishes of a plan's nodes, while they are worked out on demand.
 ghost use Rattle.std.specs.Prelude.{◌≡◌, ◌<◌, ◌≤◌, length, IfOk, OnOk, is_some, true};
-ghost use Rattle.hv_order.specs.inside.Memos.{found, as_finish, finish_from, IsSmall, IsEmptyList, KnowsNothing, Keeps, SameRuns, IsRemembered, IsTaken, OnlyTaken};
+ghost use Rattle.hv_order.specs.inside.Memos.{found, as_finish, finish_from, IsSmall, IsEmptyList, KnowsNothing, Keeps, KeepsOnly, KeepsSpans, SameRuns, IsRemembered, IsTaken, OnlyTaken, TellsFinishes};
 
 use crate::memory::Memory;
 use crate::settle::Settled;
@@ -43,6 +43,13 @@ pub struct Memo {
     pub won: Vec<Option<Won>>,
 }
 
+// An interval without a start.
+const NONE: Span = Span {
+    first: 1,
+    last: 0,
+    finish: 0,
+};
+
 /// The finish that a number stands for.
 pub fn finish_of(number: u32) -> Option<u32>
     ensures { result ≡ finish_from number }
@@ -73,18 +80,25 @@ fn none_won(alloc: Global, count: usize) -> Result<Vec<Option<Won>>, Memory>
     Ok(won)
 }
 
+// Forgets the intervals of the nodes that are not to be kept.
+fn forget(spans: &mut [Span], kept: &[bool])
+    ensures size { length spans.new ≡ length spans.old }
+    ensures only { KeepsSpans spans.old kept.now spans.new }
+{
+    for node in 0..spans.len() {
+        if !kept.get(node).copied().unwrap_or(false) {
+            spans[node] = NONE;
+        }
+    }
+}
+
 impl Memo {
     /// A memory with room for so many nodes, which knows nothing, and a place for the winner of each
     /// node below `winners`.
     pub fn new(alloc: Global, count: usize, winners: usize) -> Result<Memo, Memory>
         ensures { IfOk result (KnowsNothing count) }
     {
-        let none = Span {
-            first: 1,
-            last: 0,
-            finish: 0,
-        };
-        let spans = vec![in alloc; none; count]?;
+        let spans = vec![in alloc; NONE; count]?;
         Ok(Memo {
             spans,
             more: BTreeMap::new(alloc),
@@ -157,5 +171,26 @@ impl Memo {
         } else {
             None
         }
+    }
+
+    /// Keeps what is known of the nodes that are to be kept, one interval of each, and forgets all
+    /// else.
+    pub fn keep_only(&mut self, kept: &[bool])
+        ensures { KeepsOnly self.old kept.now self.new }
+    {
+        self.more.clear();
+        self.won.clear();
+        forget(&mut self.spans, kept);
+    }
+
+    /// For each node whether a finish of it is known.
+    pub fn finishing(&self, alloc: Global) -> Result<Vec<bool>, Memory>
+        ensures { IfOk result (λ v. TellsFinishes self.now v.items) }
+    {
+        let mut finishing = Vec::with_capacity(alloc, self.spans.len())?;
+        for span in &self.spans {
+            finishing.push(span.first <= span.last && finish_of(span.finish).is_some())?;
+        }
+        Ok(finishing)
     }
 }

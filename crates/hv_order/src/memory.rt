@@ -1,5 +1,6 @@
 //! Want of memory.
 
+use hv_text::Memory as NoMemory;
 use std::alloc::{AllocError, AllocFailed};
 
 /// The answer to a refused growth.
@@ -14,6 +15,12 @@ impl From<AllocError> for Memory {
 
 impl<T: Drop> From<AllocFailed<T>> for Memory {
     fn from(_error: AllocFailed<T>) -> Memory {
+        Memory
+    }
+}
+
+impl From<NoMemory> for Memory {
+    fn from(_refused: NoMemory) -> Memory {
         Memory
     }
 }

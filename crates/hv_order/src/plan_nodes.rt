@@ -6,7 +6,7 @@ ghost use Rattle.hv_state.specs.Plans.{plan};
 ghost use Rattle.hv_plan.specs.BuiltTrees.{tree_view};
 ghost use Rattle.hv_plan.specs.PlanTrees.{IsTreeIn, root_number};
 ghost use Rattle.hv_order.specs.Meanings.{Meaning};
-ghost use Rattle.hv_order.specs.Settings.{setting, last, HasNoPrecondition, HasCandidate, IsMeaning, IsSolved};
+ghost use Rattle.hv_order.specs.Settings.{setting, without_preconditions, last, HasNoPrecondition, HasCandidate, IsMeaning, IsSolved};
 ghost use Rattle.hv_order.specs.Tables.{IsLeast};
 ghost use Rattle.hv_order.specs.inside.Listers.{IsEver};
 ghost use Rattle.hv_order.specs.inside.Nodes.{AreNodes};
@@ -115,11 +115,42 @@ impl<'a, 's, 'm, 'p, 't, 'c, 'd> PlanNodes<'a, 's, 'm, 'p, 't, 'c, 'd> {
         self.world
     }
 
+    /// What looks for the candidates of the plan's nodes.
+    pub fn matcher(&self) -> &'a Matcher<'m, 's>
+        ensures { result.now ≡ self.now.plan.world }
+    {
+        self.matcher
+    }
+
     /// The tree of the plan.
     pub fn tree(&self) -> &'a Tree<'p, 't>
         ensures { self.now.tree ≡ tree_view result.now }
     {
         self.tree
+    }
+
+    /// The same plan, where each method's precondition is taken as true.
+    pub fn without_preconditions(self) -> PlanNodes<'a, 's, 'm, 'p, 't, 'c, 'd>
+        ensures { result ≡ without_preconditions self.entry }
+    {
+        let PlanNodes {
+            world,
+            matcher,
+            tree,
+            trace,
+            sequencings,
+            spans,
+            ..
+        } = self;
+        PlanNodes {
+            world,
+            matcher,
+            tree,
+            trace,
+            is_with: false,
+            sequencings,
+            spans,
+        }
     }
 
     // The state from a start on that the children of a node with this method begin behind: where its

@@ -16,15 +16,45 @@ use crate::first::first_without;
 use crate::memory::Memory;
 use crate::plan_nodes::PlanNodes;
 use crate::runs::{Row, build, count_runs, least_finish, least_finish_counted};
-use crate::solution::RowFault;
+use crate::solve::new_memo;
 use crate::solved::certificate_of;
 use hv_certificate::Certificate;
 use hv_match::Matcher;
 use hv_plan::Tree;
 use hv_state::{BitState, Trace};
+use hv_text::Memory as NoMemory;
 use hv_world::World;
 use std::alloc::Global;
 use std::marker::Model;
+
+/// Why there are no rows of a plan.
+#[derive(Clone, Copy, Debug, PartialEq, Eq)]
+pub enum RowFault {
+    /// The node of this line of the text has no candidate; it is the first in the order of nodes.
+    NoBinding(u32),
+    /// A growth was refused.
+    Memory,
+}
+
+impl From<Memory> for RowFault {
+    ghost use Rattle.hv_order.specs.declared.rows.RowFault.TheVariants as faults;
+
+    ghost from_gives = { λ _ e. e ≡ faults.Memory };
+
+    fn from(_error: Memory) -> RowFault {
+        RowFault::Memory
+    }
+}
+
+impl From<NoMemory> for RowFault {
+    ghost use Rattle.hv_order.specs.declared.rows.RowFault.TheVariants as faults;
+
+    ghost from_gives = { λ _ e. e ≡ faults.Memory };
+
+    fn from(_error: NoMemory) -> RowFault {
+        RowFault::Memory
+    }
+}
 
 // The rows of a plan's nodes.
 fn rows_of(
@@ -91,7 +121,7 @@ impl<'a, 's, 'm, 'p, 't, 'c, 'd> Rows<'a, 's, 'm, 'p, 't, 'c, 'd> {
             (λ _. HaveCandidates (setting (tree_view tree.now) trace.now is_with)) }
         ensures fault { IfErr result (IsRowFault (setting (tree_view tree.now) trace.now is_with)) }
     {
-        match first_without(alloc, matcher, tree)? {
+        match first_without(alloc, matcher, tree, &[])? {
             Some(line) => Err(RowFault::NoBinding(line)),
             None => {
                 world.is_sound();
@@ -139,6 +169,8 @@ impl<'a, 's, 'm, 'p, 't, 'c, 'd> Rows<'a, 's, 'm, 'p, 't, 'c, 'd> {
     pub fn certificate(&self, alloc: Global) -> Result<Option<Certificate<'s>>, Memory>
         ensures { IfOk result (λ o. MatchOption o (IsSolved self.now → ⊥) (Certifies self.now)) }
     {
-        certificate_of(alloc, &self.nodes)
+        let count = self.nodes.tree().node_count() as usize;
+        let mut memo = new_memo(alloc, &self.nodes, count, count)?;
+        certificate_of(alloc, &self.nodes, &mut memo)
     }
 }

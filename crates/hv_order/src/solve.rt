@@ -13,6 +13,7 @@ use crate::memo::{Memo, Pair};
 use crate::memory::Memory;
 use crate::nodes::Nodes;
 use crate::settle::{Settled, run_of};
+use crate::told::is_node_told_behind;
 use crate::trial::{Arranged, Best, Finish, Progress, Run, Stretch, Table};
 use crate::winner::{no_candidate, with_candidate};
 use hv_plan::Child;
@@ -73,11 +74,22 @@ pub struct Task<L> {
     pub frame: Frame,
 }
 
-/// A node that waits for the one above it: begun, or to be begun anew from its start.
+/// A node that waits for the one above it.
 #[derive(Drop)]
 pub enum Pending<L> {
+    /// To be begun from its start. Where it is far down, it asks ahead first.
     Asked(Pair),
+    /// To be begun from its start, with nothing left to ask ahead.
+    Ready(Pair),
+    /// Begun.
     Begun(Box<Task<L>>),
+}
+
+/// A finish that a node will want, and whether it is the last that is told before the node is begun.
+#[derive(Clone, Copy)]
+pub struct WantedAhead {
+    pub child: Pair,
+    pub is_last: bool,
 }
 
 /// What a node came to: it waits for the finish of a child, or all candidates are over.
@@ -93,7 +105,7 @@ impl<L> Pending<L> {
         ensures { result ≡ pair_of self.now }
     {
         match self {
-            Pending::Asked(pair) => *pair,
+            Pending::Asked(pair) | Pending::Ready(pair) => *pair,
             Pending::Begun(task) => Pair {
                 node: task.node,
                 start: task.frame.start,
@@ -249,27 +261,32 @@ pub fn work_on<N: Nodes>(
 
 /// A child of a node, and a start, of which the finish will be wanted and is not known yet, as far as
 /// that is told before the node is begun: when it is begun behind them, it need not wait for them.
-pub fn ahead<N: Nodes>(nodes: &N, memo: &Memo, pair: Pair) -> Option<Pair>
+pub fn ahead<N: Nodes>(nodes: &N, memo: &Memo, pair: Pair) -> Option<WantedAhead>
     requires memo { AreKnown (N.facts nodes.now) (N.size nodes.now) memo.now }
     requires pair { IsPair (N.facts nodes.now) (N.size nodes.now) pair }
-    ensures { IfSome result (λ c.
-        IsWanted (N.facts nodes.now) memo.now pair.node c.node c.start) }
+    ensures { IfSome result (λ a.
+        IsWanted (N.facts nodes.now) memo.now pair.node a.child.node a.child.start) }
 {
     let last = nodes.last();
     let told = nodes.told(pair.node, pair.start)?;
     let mut start = told.begin;
-    for child in told.children {
+    for (place, child) in told.children.iter().enumerate() {
         if last < start {
             return None;
         }
-        match child? {
+        match (*child)? {
             Child::Action(action) => start = run_of_action(action, start, last).finish?,
             Child::Node(node) => {
                 if pair.node <= node {
                     return None;
                 }
                 match memo.known(node, start) {
-                    Finish::Unknown => return Some(Pair { node, start }),
+                    Finish::Unknown => {
+                        return Some(WantedAhead {
+                            child: Pair { node, start },
+                            is_last: !is_node_told_behind(&told.children, place),
+                        });
+                    }
                     Finish::Known(run) => start = run.finish?,
                 }
             }
@@ -278,8 +295,28 @@ pub fn ahead<N: Nodes>(nodes: &N, memo: &Memo, pair: Pair) -> Option<Pair>
     None
 }
 
-/// Begins a node, and works on it up to the first finish that it wants, or to its end. One that is
-/// `far` down asks ahead for finishes that it will want, since it may be let go where it waits.
+/// Begins a node, and works on it up to the first finish that it wants, or to its end.
+pub fn begin<N: Nodes>(
+    alloc: Global,
+    nodes: &N,
+    memo: &Memo,
+    pair: Pair,
+    far: bool,
+) -> Result<Outcome<N::Left>, Memory>
+    requires nodes { AreNodes (N.facts nodes.now) }
+    requires memo { AreKnown (N.facts nodes.now) (N.size nodes.now) memo.now }
+    requires pair { IsPair (N.facts nodes.now) (N.size nodes.now) pair }
+    ensures { IfOk result
+        (IsOutcome N.Left.left (N.facts nodes.now) (N.size nodes.now) memo.now pair) }
+{
+    match open(alloc, nodes, memo, pair.node, pair.start)? {
+        None => Ok(Outcome::Over(run_of(None, nodes.last()))),
+        Some(task) => work(alloc, nodes, memo, task, far),
+    }
+}
+
+/// Begins a node. One that is `far` down asks ahead for finishes that it will want, since it may be
+/// let go where it waits.
 pub fn set_out<N: Nodes>(
     alloc: Global,
     nodes: &N,
@@ -294,14 +331,16 @@ pub fn set_out<N: Nodes>(
         (IsOutcome N.Left.left (N.facts nodes.now) (N.size nodes.now) memo.now pair) }
 {
     if far {
-        if let Some(child) = ahead(nodes, memo, pair) {
-            return Ok(Outcome::Wants(Pending::Asked(pair), child));
+        if let Some(wanted) = ahead(nodes, memo, pair) {
+            let waits = if wanted.is_last {
+                Pending::Ready(pair)
+            } else {
+                Pending::Asked(pair)
+            };
+            return Ok(Outcome::Wants(waits, wanted.child));
         }
     }
-    match open(alloc, nodes, memo, pair.node, pair.start)? {
-        None => Ok(Outcome::Over(run_of(None, nodes.last()))),
-        Some(task) => work(alloc, nodes, memo, task, far),
-    }
+    begin(alloc, nodes, memo, pair, far)
 }
 
 /// Goes on with a node that waited, which is begun where it is not yet. Where it waits again `far`
@@ -321,6 +360,7 @@ pub fn resume<N: Nodes>(
 {
     match pending {
         Pending::Begun(task) => work_on(alloc, nodes, memo, task),
+        Pending::Ready(pair) => begin(alloc, nodes, memo, pair, far),
         Pending::Asked(pair) => set_out(alloc, nodes, memo, pair, far),
     }
 }
@@ -338,7 +378,7 @@ pub fn wait<N: Nodes>(
         (task_pair task)) }
 {
     if far && task.left.is_at_first() && task.frame.candidate.children.len() <= FEW {
-        return Ok(Pending::Asked(Pair {
+        return Ok(Pending::Ready(Pair {
             node: task.node,
             start: task.frame.start,
         }));

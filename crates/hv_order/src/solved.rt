@@ -5,15 +5,17 @@ ghost use Rattle.hv_world.specs.WorldViews.{world_view};
 ghost use Rattle.hv_plan.specs.BuiltTrees.{tree_view};
 ghost use Rattle.hv_order.specs.Certified.{Certifies};
 ghost use Rattle.hv_order.specs.Settings.{IsSolved};
+ghost use Rattle.hv_order.specs.inside.Memos.{AreKnown};
 ghost use Rattle.hv_order.specs.inside.PlanFacts.{IsSetting, plan_facts};
 ghost use Rattle.hv_order.specs.inside.Walks.{AreWalked};
 ghost use Rattle.hv_order.specs.inside.Writings.{IsSettingOver};
 
 use crate::certify::write_certificate;
 use crate::chosen::choose;
+use crate::memo::Memo;
 use crate::memory::Memory;
 use crate::plan_nodes::PlanNodes;
-use crate::solve::{new_memo, run_for};
+use crate::solve::run_for;
 use crate::walk::{Stand, walk};
 use hv_certificate::Certificate;
 use hv_plan::Tree;
@@ -43,14 +45,16 @@ fn by_walk<'s>(
 pub fn is_solved(
     alloc: Global,
     nodes: &PlanNodes<'_, '_, '_, '_, '_, '_, '_>,
+    memo: &mut Memo,
 ) -> Result<bool, Memory>
     requires setting { IsSetting nodes.now }
-    ensures { IfOk result (λ b. MatchBool b (IsSolved nodes.now) (IsSolved nodes.now → ⊥)) }
+    requires memo { AreKnown (plan_facts nodes.now) (length nodes.now.tree.nodes) memo.old }
+    ensures solved { IfOk result
+        (λ b. MatchBool b (IsSolved nodes.now) (IsSolved nodes.now → ⊥)) }
+    ensures memo { AreKnown (plan_facts nodes.now) (length nodes.now.tree.nodes) memo.new }
 {
-    let tree = nodes.tree();
-    let count = tree.node_count();
-    let mut memo = new_memo(alloc, nodes, count as usize, 0)?;
-    let run = run_for(alloc, nodes, &mut memo, count - 1, 0)?;
+    let root = nodes.tree().node_count() - 1;
+    let run = run_for(alloc, nodes, memo, root, 0)?;
     Ok(run.finish.is_some())
 }
 
@@ -59,15 +63,17 @@ pub fn is_solved(
 pub fn certificate_of<'s>(
     alloc: Global,
     nodes: &PlanNodes<'_, 's, '_, '_, '_, '_, '_>,
+    memo: &mut Memo,
 ) -> Result<Option<Certificate<'s>>, Memory>
     requires setting { IsSetting nodes.now }
-    ensures { IfOk result (λ o. MatchOption o (IsSolved nodes.now → ⊥) (Certifies nodes.now)) }
+    requires memo { AreKnown (plan_facts nodes.now) (length nodes.now.tree.nodes) memo.old }
+    ensures certificate { IfOk result
+        (λ o. MatchOption o (IsSolved nodes.now → ⊥) (Certifies nodes.now)) }
+    ensures memo { AreKnown (plan_facts nodes.now) (length nodes.now.tree.nodes) memo.new }
 {
     let world = nodes.world();
     let tree = nodes.tree();
-    let count = tree.node_count();
-    let mut memo = new_memo(alloc, nodes, count as usize, count as usize)?;
-    match walk(alloc, nodes, &mut memo, count)? {
+    match walk(alloc, nodes, memo, tree.node_count())? {
         None => Ok(None),
         Some(stands) => {
             let certificate = by_walk(alloc, world, tree, nodes, &stands)?;

@@ -1,6 +1,10 @@
 //! What is told of how the children of a node are laid out before any candidate is looked for. Only the
 //! time of the search hangs on it.
 
+ghost use Rattle.std.specs.Prelude.{◌≡◌, true};
+ghost use Rattle.hv_world.specs.Values.{and, no_formulas};
+ghost use Rattle.hv_world.specs.Views.{formula_view};
+
 use crate::solve::FEW;
 use hv_plan::{Child, Node, Tree};
 use hv_world::{Formula, Method, Order, Subtask, TaskName};
@@ -14,7 +18,9 @@ pub struct Told {
 }
 
 /// Whether a precondition has no part, so that it is true everywhere.
-pub(crate) fn is_empty(precondition: &Formula) -> bool {
+pub(crate) fn is_empty(precondition: &Formula) -> bool
+    ensures { result ≡ true → formula_view precondition.now ≡ and no_formulas }
+{
     match precondition {
         Formula::And(parts) => parts.is_empty(),
         _ => false,
@@ -113,4 +119,16 @@ pub(crate) fn told_children(
         *child = told_child(network.order(), network.subtasks(), children, &names, place);
     }
     Some(told)
+}
+
+/// Whether a node is told behind a place among these children.
+pub(crate) fn is_node_told_behind(children: &[Option<Child>], place: usize) -> bool {
+    for child in children.iter().skip(place).skip(1) {
+        match child {
+            None => return false,
+            Some(Child::Node(_)) => return true,
+            Some(Child::Action(_)) => {}
+        }
+    }
+    false
 }

@@ -10,14 +10,12 @@ use Rattle.hv_plan.specs.declared.fault.PlanFault.{PlanFault}
 use Rattle.hv_plan.specs.declared.cause.TreeFault.{TreeFault}
 use Rattle.hv_plan.specs.declared.cause.TreeFault.TheVariants as trees
 use Rattle.hv_certificate.specs.declared.certificate.Certificate.{Certificate}
-use Rattle.hv_order.specs.Settings.{IsSolved}
-use Rattle.hv_order.specs.declared.solution.RowFault.{RowFault}
-use Rattle.hv_order.specs.declared.solution.RowFault.TheVariants as rows
+use Rattle.hv_order.specs.declared.solution.Unsolved.{Unsolved}
+use Rattle.hv_order.specs.declared.solution.Unsolved.TheVariants as unsolved
 use Rattle.hv_answer.specs.declared.answer.Answer.{Answer}
 use Rattle.hv_answer.specs.declared.answer.Answer.TheVariants as answers
 use Rattle.hv_answer.specs.declared.answer.Verdict.{Verdict}
 use Rattle.hv_answer.specs.declared.answer.Verdict.TheVariants as verdicts
-use Rattle.hv_answer.specs.declared.answer.CauseKind.{CauseKind}
 use Rattle.hv_answer.specs.declared.answer.CauseKind.TheVariants as causes
 use Rattle.hv_answer.specs.declared.answer.Fault.{Fault}
 use Rattle.hv_answer.specs.declared.answer.FaultKind.{FaultKind}
@@ -26,8 +24,8 @@ use Rattle.hv_answer.specs.declared.answer.Which.TheVariants as which
 use Rattle.hv_judge.specs.declared.not_solved.NotSolved.{NotSolved}
 use Rattle.hv_judge.specs.declared.not_solved.NotSolved.TheVariants.{Rejected, Fails, Undecided, Memory}
 use Rattle.hv_syntax.specs.Values.{Domain, Problem}
-use Rattle.hv_judge.specs.Solutions.{ReachesGoal, judged_without}
-use Rattle.hv_answer.specs.Places.{cause_at}
+use Rattle.hv_judge.specs.Solutions.{ReachesGoal}
+use Rattle.hv_answer.specs.Places.{cause_at, cause_nowhere}
 use Rattle.hv_judge.specs.Causes.{tree_cause, IsWithinLimit, IsCountWithin, IsCountAbove}
 use Rattle.hv_judge.specs.Rejections.{reported_plan, fault_in, AreRead, IsRejectedPair}
 use Rattle.hv_judge.specs.Verdicts.{IsVerdict}
@@ -85,10 +83,12 @@ run_end lines (stops.Inapplicable k) =
     })
 run_end lines stops.Memory = Memory
 
--- where a node has no candidate, it fails at that node's line
-abbrev pub row_end : RowFault → NotSolved
-row_end (rows.NoBinding line) = Fails (cause_at causes.NoBinding line)
-row_end rows.Memory = Memory
+-- where it has no solution, it fails: at the line of a node without a candidate, or at none
+abbrev pub unsolved_end : Unsolved → NotSolved
+unsolved_end (unsolved.NoBinding line) = Fails (cause_at causes.NoBinding line)
+unsolved_end unsolved.OrderBroken = Fails (cause_nowhere causes.OrderBroken)
+unsolved_end unsolved.PreconditionUnplaced = Fails (cause_nowhere causes.PreconditionUnplaced)
+unsolved_end unsolved.Memory = Memory
 
 -- a domain and a problem are read, and this is their world
 pub record IsWorldOf (domain problem : List ℕ) (w : World) : Type 0 where
@@ -115,12 +115,6 @@ pub record IsAboveAt (w : World) (t : PlanTree) (limit place line : ℕ) : Type 
   pub has_node : slice_get t.nodes number ≡ Some node
   pub above : IsCountAbove w t limit number
   pub on_line : node.line ≡ line
-
--- why a plan has no solution, where each node has a candidate
-abbrev pub IsLastCause : World → PlanTree → CauseKind → Type 0
-IsLastCause w t causes.OrderBroken = IsSolved (judged_without w t) → ⊥
-IsLastCause w t causes.PreconditionUnplaced = IsSolved (judged_without w t)
-IsLastCause w t _ = ⊥
 
 -- a domain or a problem is rejected
 abbrev pub IsPairEnd : List ℕ → List ℕ → NotSolved → Type 0

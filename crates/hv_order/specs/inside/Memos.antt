@@ -1,10 +1,11 @@
 -- What is known of the least finishes of a plan's nodes, while they are worked out on demand.
-use Rattle.std.specs.Prelude.{◌≡◌, ℕ, zero, suc, ◌+◌, ◌<◌, ◌≤◌, ◌⊎◌, if◌then◌else◌, nat_eq, nat_le, true, List, length, Option, Some, None, MatchOption, slice_get, is_some}
+use Rattle.std.specs.Prelude.{◌≡◌, ℕ, zero, suc, ◌+◌, ◌<◌, ◌≤◌, ◌⊎◌, if◌then◌else◌, nat_eq, nat_le, Bool, true, List, length, Option, Some, None, MatchOption, slice_get, is_some}
 use Rattle.std.specs.List.{slice_set}
 use Rattle.std.specs.declared.cmp.Ordering.{Ordering}
 use Rattle.std.specs.Ordering.{nat_cmp, ordering_then}
 use Rattle.std.specs.BTreeMap.{get}
 use Rattle.hv_order.specs.inside.Facts.{Facts, IsNodeRun}
+use Rattle.hv_order.specs.inside.Marks.{IsMarked}
 use Rattle.hv_order.specs.inside.Nodes.{IsSettled}
 use Rattle.hv_order.specs.inside.Walks.{said_of}
 use Rattle.hv_order.specs.declared.trial.Run.{Run}
@@ -77,6 +78,32 @@ pub record KnowsNothing (size : ℕ) (m : Memo) : Type 0 where
   pub room : length m.spans.items ≡ size
   pub nothing : (v s : ℕ) → found m v s ≡ None
   pub won : (v : ℕ) → said_of m.won.items v ≡ None
+
+-- the intervals of nodes that are to be kept are as they were, and the others have no start
+abbrev pub KeepsSpans : List Span → List Bool → List Span → Type 0
+KeepsSpans old kept new =
+    (v s : ℕ) (r : Run) → spanned (slice_get new v) s ≡ Some r
+    → IsMarked kept v × (spanned (slice_get old v) s ≡ Some r)
+
+-- what is known of nodes that are to be kept was known, and of the others nothing is
+pub record KeepsOnly (m : Memo) (kept : List Bool) (m' : Memo) : Type 0 where
+  pub room : length m'.spans.items ≡ length m.spans.items
+  pub only :
+      (v s : ℕ) (r : Run) → found m' v s ≡ Some r
+      → IsMarked kept v × (found m v s ≡ Some r)
+  pub won : (v : ℕ) → said_of m'.won.items v ≡ None
+
+-- a finish of the node is known
+pub record KnowsFinish (m : Memo) (v : ℕ) : Type 0 where
+  pub start : ℕ
+  pub run : Run
+  pub finish : ℕ
+  pub known : found m v start ≡ Some run
+  pub is : run.finish ≡ Some finish
+
+-- such nodes alone are marked
+abbrev pub TellsFinishes : Memo → List Bool → Type 0
+TellsFinishes m told = (v : ℕ) → IsMarked told v → KnowsFinish m v
 
 -- the same is known of all starts
 pub record SameRuns (m m' : Memo) : Type 0 where

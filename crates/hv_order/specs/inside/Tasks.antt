@@ -61,6 +61,7 @@ task_pair t = record { node = t.node; start = t.frame.start }
 -- and of a node that waits
 abbrev pub pair_of : {L : Type 0} → Pending L → Pair
 pair_of (pending.Asked p) = p
+pair_of (pending.Ready p) = p
 pair_of (pending.Begun t) = task_pair t.value
 
 -- a node of the plan, from one of its states on
@@ -71,6 +72,7 @@ pub record IsPair (q : Facts) (size : ℕ) (p : Pair) : Type 0 where
 -- a node that waits is worked out, or is to be
 abbrev pub IsPending : {L : Type 0} → (L → List Arrangement) → Facts → ℕ → Pending L → Type 0
 IsPending left q size (pending.Asked p) = IsPair q size p
+IsPending left q size (pending.Ready p) = IsPair q size p
 IsPending left q size (pending.Begun t) = IsTask left q size t.value
 
 -- so one does that has this node and this start

@@ -1,5 +1,5 @@
 -- What is written down of a choice for each node.
-use Rattle.std.specs.Prelude.{◌≡◌, ℕ, ◌<◌, List, map, length, slice_get, Some, MatchOption, Option}
+use Rattle.std.specs.Prelude.{◌≡◌, ℕ, ◌<◌, Bool, List, map, length, slice_get, Some, MatchOption, Option}
 use Rattle.std.specs.List.{All, AllZip}
 use Rattle.hv_text.specs.Names.{text_of}
 use Rattle.hv_text.specs.declared.name.Name.{Name}
@@ -13,11 +13,11 @@ use Rattle.hv_plan.specs.PlanTrees.{Node, PlanTree, NodeIs, StandsFor, root_numb
 use Rattle.hv_match.specs.Candidates.{IsCandidateAt}
 use Rattle.hv_order.specs.Meanings as meanings
 use Rattle.hv_order.specs.Settings.{Setting, AmountsTo, HaveCandidates, IsFirstWithout}
-use Rattle.hv_order.specs.Certified.{line_numbers, IsRowFault}
+use Rattle.hv_order.specs.inside.Marks.{IsMarked}
+use Rattle.hv_order.specs.Certified.{line_numbers}
 use Rattle.hv_certificate.specs.declared.certificate.Choice.{Choice}
 use Rattle.hv_certificate.specs.declared.certificate.Certificate.{Certificate}
 use Rattle.hv_order.specs.declared.certify.Chosen.{Chosen}
-use Rattle.hv_order.specs.declared.solution.RowFault.{RowFault}
 
 -- the id is that of the line of an item
 abbrev pub IsIdOf : PlanTree → Item → ℕ → Type 0
@@ -112,6 +112,10 @@ pub record AreChosen
 abbrev pub HasOne : World → PlanTree → ℕ → Type 0
 HasOne w t v = (M : List ℕ) × (B : List ℕ) × IsCandidateAt w t v M B
 
+-- each node that is marked has a candidate
+abbrev pub AreBound : World → PlanTree → List Bool → Type 0
+AreBound w t bound = (v : ℕ) → IsMarked bound v → HasOne w t v
+
 -- a setting over this tree of this world
 abbrev pub IsSettingOver : World → PlanTree → Setting → Type 0
 IsSettingOver w t q = (q.plan.world ≡ w) × (q.tree ≡ t)
@@ -120,11 +124,3 @@ IsSettingOver w t q = (q.plan.world ≡ w) × (q.tree ≡ t)
 abbrev pub TellsFirst : World → PlanTree → Option ℕ → Type 0
 TellsFirst w t o =
     (q : Setting) → IsSettingOver w t q → MatchOption o (HaveCandidates q) (IsFirstWithout q)
-
--- all nodes have candidates
-abbrev pub TellsBound : World → PlanTree → Type 0
-TellsBound w t = (q : Setting) → IsSettingOver w t q → HaveCandidates q
-
--- this is the fault of a tree of which not all have
-abbrev pub TellsUnbound : World → PlanTree → RowFault → Type 0
-TellsUnbound w t e = (q : Setting) → IsSettingOver w t q → IsRowFault q e

@@ -6,22 +6,26 @@ use Rattle.hv_text.specs.declared.fault.TheConstants.{MOST_BYTES}
 use Rattle.hv_answer.specs.declared.answer.Which.TheVariants as which
 use Rattle.hv_judge.specs.Checked.{IsRecheckOf, IsRejectedOfFour, too_long, certificate_too_long}
 use Rattle.hv_judge.specs.inside.Ends.{plan_end}
-use Rattle.hv_judge.proofs.RecheckLemmas.{judged_ends, cert_ends}
+use Rattle.hv_judge.proofs.RecheckLemmas.{judged_ends, ends_as, finds_as}
 use Rattle.hv_judge.proofs.JudgementLemmas.{pair_rejected, plan_rejected, spelled}
 use Rattle.hv_judge.proofs.rechecking.recheck.Goals as goal
 
 pub returns-clause-ok : goal.returns-clause-ok
 returns-clause-ok c =
-    spelled c.args.domain.now c.args.problem.now c.args.plan.now 0
+    finds_as c.args.domain.now c.args.problem.now c.args.plan.now c.args.certificate.now c.check_text.result
+    (world_view c.in_ok-world.world) (plan_view c.in_ok-plan.plan)
+    (λ found is. spelled c.args.domain.now c.args.problem.now c.args.plan.now 0
     (world_view c.in_ok-world.world) (plan_view c.in_ok-plan.plan)
     (sym c.first_too_long.ensures ∙ c.in_default.is) c.in_ok-world.ensures.ok
-    c.in_ok-plan.ensures.ok (IsRecheckOf c.args.certificate.now c.in_ok-check_plan.field-0)
-    (record {
-      certificate = c.in_ok-certificate.certificate;
-      says = c.in_ok-certificate.ensures.ok;
-      certified = c.in_ok-check_plan.ensures.certified;
-      evaluated = c.in_ok-check_plan.ensures.evaluated;
-    })
+    c.in_ok-plan.ensures.ok (IsRecheckOf c.args.certificate.now found) is)
+    c.check_text.ensures.ok
+
+pub returns-clause-err : goal.returns-clause-err
+returns-clause-err c =
+    ends_as c.args.domain.now c.args.problem.now c.args.plan.now c.args.certificate.now c.check_text.result c.if-certificate-gt-MOST_BYTES.false
+    (spelled c.args.domain.now c.args.problem.now c.args.plan.now 0 (world_view c.in_ok-world.world) (plan_view c.in_ok-plan.plan)
+    (sym c.first_too_long.ensures ∙ c.in_default.is) c.in_ok-world.ensures.ok c.in_ok-plan.ensures.ok (λ w q. Unit {0}) tt)
+    c.check_text.ensures.err
 
 pub returns-in-Some-clause-err : goal.returns-in-Some-clause-err
 returns-in-Some-clause-err c =
@@ -52,22 +56,8 @@ returns-in_err-plan-clause-err c =
     (world_view c.in_ok-world.world) c.in_err-plan.field-0.0 (sym c.first_too_long.ensures ∙ c.in_default.is) c.in_ok-world.ensures.ok
     c.in_err-plan.ensures.err))
 
-pub returns-in_err-certificate-clause-err : goal.returns-in_err-certificate-clause-err
-returns-in_err-certificate-clause-err c =
-    let p = err_from_is_err_and c.from_residual-in_err-certificate.result c.from_residual-in_err-certificate.ensures.1 in
-    rw (p.1, p.2)
-    (cert_ends c.args.domain.now c.args.problem.now c.args.plan.now c.args.certificate.now c.in_err-certificate.field-0.0 c.if-certificate-gt-MOST_BYTES.false
-    (spelled c.args.domain.now c.args.problem.now c.args.plan.now 0 (world_view c.in_ok-world.world) (plan_view c.in_ok-plan.plan) (sym c.first_too_long.ensures ∙ c.in_default.is)
-    c.in_ok-world.ensures.ok c.in_ok-plan.ensures.ok (λ w q. Unit {0}) tt)
-    c.in_err-certificate.ensures.err)
-
-pub returns-in_err-check_plan-clause-err : goal.returns-in_err-check_plan-clause-err
-returns-in_err-check_plan-clause-err c =
-    let p = err_from_is_err_and c.from_residual-in_err-check_plan.result c.from_residual-in_err-check_plan.ensures.1 in
-    rw (p.1, p.2) tt
-
-pub check_plan-requires-clause-small : goal.check_plan-requires-clause-small
-check_plan-requires-clause-small c =
+pub check_text-requires-clause-small : goal.check_text-requires-clause-small
+check_text-requires-clause-small c =
     let q = plan_view c.in_ok-plan.plan in
     let few : length q.actions + length q.decompositions ≤ length c.args.plan.now =
     c.plans_are_small.ensures c.args.plan.now q c.in_ok-plan.ensures.ok in

@@ -9,7 +9,7 @@ walk-requires-clause-nodes c = plan_nodes c.args.nodes.now c.requires.setting
 pub walk-requires-clause-tree : goal.walk-requires-clause-tree
 walk-requires-clause-tree c = one_parent c.args.nodes.now c.requires.setting
 
-pub returns-in-None : goal.returns-in-None
-returns-in-None c =
-    let count : c.node_count-count.result ≡ length c.args.nodes.now.tree.nodes = search rules in
-    none_walked c.args.nodes.now c.requires.setting c.node_count-count.result c.in_ok-walk.field-0 count c.in_ok-walk.ensures.walk c.in-None.is
+pub returns-in-None-clause-certificate : goal.returns-in-None-clause-certificate
+returns-in-None-clause-certificate c =
+    let count : c.node_count.result ≡ length c.args.nodes.now.tree.nodes = search rules in
+    none_walked c.args.nodes.now c.requires.setting c.node_count.result c.in_ok-walk.field-0 count c.in_ok-walk.ensures.walk c.in-None.is
