@@ -22,7 +22,8 @@ use Rattle.hv_match.specs.Candidates.{Does, Holds, IsCandidate}
 use Rattle.hv_state.specs.Needed.{needed}
 use Rattle.hv_match.specs.Possible.{are_possible}
 use Rattle.hv_match.specs.inside.Puzzles.{Work, work, Puzzle, child_at, same_bool, holds, all_hold, options, levels, is_good, Done, IsMatch}
-use Rattle.hv_match.specs.inside.Ranges.{IsRange, AreRanges, as_subtask, IsPuzzleOf, IsTableOf}
+use Rattle.hv_world.specs.Ranges.{IsRange}
+use Rattle.hv_match.specs.inside.Ranges.{AreRanges, as_subtask, IsPuzzleOf, IsTableOf}
 use Rattle.hv_match.specs.inside.PuzzleViews.{puzzle_view}
 use Rattle.hv_match.specs.declared.puzzle.Puzzle as code_puzzle
 use Rattle.hv_match.specs.declared.table.MethodTable.{MethodTable}

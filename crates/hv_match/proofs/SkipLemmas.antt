@@ -1,17 +1,13 @@
 -- Objects of a parameter that need not be tried.
-use Rattle.std.proofs.Common.{◌≡◌, ℕ, zero, suc, ◌+◌, ◌-◌, ◌<◌, ◌≤◌, ◌⊎◌, inl, inr, nat_lt, ltb-true, length-drop, get_or-drop, take_all, Bool, true, false, List, [], ◌∷◌, ◌++◌, length, map, take, drop, get_or, slice_get, slice_index, refl, sym, ap, subst, ◌∙◌, arith, Option, Some, None}
-use Rattle.std.specs.List.Sorted.{IsStrictlyIncreasing, IsNonDecreasingBy}
-use Rattle.std.proofs.lemmas.Bool.{cases_eq}
-use Rattle.std.proofs.lemmas.List.{get_or-map, length-map, at_drop_more}
-use Rattle.std.proofs.lemmas.List.Kept.{AllPairs-from_increasing}
-use Rattle.hv_world.specs.declared.id.ObjectId.{ObjectId}
-use Rattle.hv_world.specs.Bindings.{ground_atom, object_of, object_number}
+use Rattle.std.proofs.Common.{◌≡◌, ℕ, zero, suc, ◌+◌, ◌-◌, ◌<◌, ◌≤◌, Bool, true, false, List, [], ◌∷◌, ◌++◌, length, map, take, drop, get_or, slice_get, refl, sym, ap, subst, ◌∙◌, arith, Option, Some, None}
+use Rattle.std.proofs.lemmas.List.{at_drop_more}
+use Rattle.hv_world.specs.Bindings.{ground_atom, object_of}
 use Rattle.hv_world.specs.Values.{Atom}
 use Rattle.hv_world.specs.Views.{term_view}
 use Rattle.hv_world.specs.declared.formula.Term as code_term
 use Rattle.hv_state.specs.Atoms.{IsPassedOver}
 use Rattle.hv_state.specs.Ever.{is_listed}
-use Rattle.hv_match.specs.inside.Puzzles.{Puzzle, GoesOn, bound, look, source_of, objects_of, child_at, CannotBeTrue, NeverWith, AreBelow, NothingWith, options, range_of, pick}
+use Rattle.hv_match.specs.inside.Puzzles.{Puzzle, GoesOn, bound, look, source_of, objects_of, child_at, CannotBeTrue, NeverWith, NothingWith, options, range_of, pick}
 use Rattle.hv_match.specs.inside.Search.{Search, ArePassed, NothingBegins}
 use Rattle.hv_match.proofs.FirstPlaces.{get_left}
 
@@ -69,70 +65,6 @@ written (x ∷ y ∷ z ∷ into) from few = absurd (omega (arith, few))
 
 pub numbers_written : (into : List ℕ) (n from : ℕ) → length into ≡ n → n < 3 → take (n + 1) (into ++ drop n (from ∷ from ∷ from ∷ [])) ≡ into ++ from ∷ []
 numbers_written into n from size few = subst (λ k. take (k + 1) (into ++ drop k (from ∷ from ∷ from ∷ [])) ≡ into ++ from ∷ []) size (written into from (omega (arith, size, few)))
-
--- ascending objects, from a number on
-module _ (range : List ObjectId) (number : ℕ) (ascend : IsStrictlyIncreasing (map object_number range)) where
-  far : (i j : ℕ) (d : ObjectId) → i < j → j < length range → (get_or range i d).0 < (get_or range j d).0
-  far i j d lt within =
-      let pairs : get_or (map object_number range) i 0 < get_or (map object_number range) j 0 = AllPairs-from_increasing (map object_number range) ascend i j 0 lt (omega (arith, within, length-map range object_number)) in
-      let a = get_or-map object_number range i d 0 (omega (arith, lt, within)) in
-      let b = get_or-map object_number range j d 0 within in
-      omega (arith, pairs, a, b)
-
-  rises : IsNonDecreasingBy (λ (o : ObjectId). o.0) (drop number range)
-  rises i j d le lt = by (cases_eq i j)
-    where
-      within : number + j < length range
-      within = let long = length-drop number range in omega (arith, lt, long)
-
-      by : (i ≡ j) ⊎ (i ≡ j → ⊥) → (get_or (drop number range) i d).0 ≤ (get_or (drop number range) j d).0
-      by (inl same) = let e : (get_or (drop number range) i d).0 ≡ (get_or (drop number range) j d).0 = ap (λ k. (get_or (drop number range) k d).0) same in omega (arith, e)
-      by (inr differ) =
-          let h : (get_or range (number + i) d).0 < (get_or range (number + j) d).0 = far (number + i) (number + j) d (omega (arith, le, differ)) within in
-          let a : (get_or (drop number range) i d).0 ≡ (get_or range (number + i) d).0 = ap (λ (o : ObjectId). o.0) (get_or-drop number range i d) in
-          let b : (get_or (drop number range) j d).0 ≡ (get_or range (number + j) d).0 = ap (λ (o : ObjectId). o.0) (get_or-drop number range j d) in
-          omega (arith, h, a, b)
-
-  window : take (length range - number) (drop number range) ≡ drop number range
-  window = take_all (length range - number) (drop number range) (let long = length-drop number range in omega (arith, long))
-
-  pub window_rises : IsNonDecreasingBy (λ (o : ObjectId). o.0) (take (length range - number) (drop number range))
-  window_rises = subst (λ (os : List ObjectId). IsNonDecreasingBy (λ (o : ObjectId). o.0) os) (sym window) rises
-
-  pub are_below : (until found : ℕ) → number < length range → found ≤ length (take (length range - number) (drop number range))
-      → ((k : ℕ) (d : ObjectId) → 0 ≤ k → k < found → nat_lt (get_or (take (length range - number) (drop number range)) k d).0 until ≡ true) → AreBelow (map object_number range) number until (number + found)
-  are_below until found in_range high low = (omega arith, each)
-    where
-      d : ObjectId
-      d = record { 0 = 0 }
-
-      each : (i : ℕ) → number ≤ i → i < number + found → (i < length (map object_number range)) × (slice_index (map object_number range) number ≤ slice_index (map object_number range) i) × (slice_index (map object_number range) i < until)
-      each i le lt = (omega (arith, within, many), omega (arith, here, there, order (cases_eq number i)), omega (arith, there, under))
-        where
-          many : length (map object_number range) ≡ length range
-          many = length-map range object_number
-
-          within : i < length range
-          within = let long = length-drop number range in let whole = ap length window in omega (arith, high, lt, le, long, whole)
-
-          here : get_or (map object_number range) number 0 ≡ (get_or range number d).0
-          here = get_or-map object_number range number d 0 in_range
-
-          there : get_or (map object_number range) i 0 ≡ (get_or range i d).0
-          there = get_or-map object_number range i d 0 within
-
-          order : (number ≡ i) ⊎ (number ≡ i → ⊥) → (get_or range number d).0 ≤ (get_or range i d).0
-          order (inl same) = let e : (get_or range number d).0 ≡ (get_or range i d).0 = ap (λ k. (get_or range k d).0) same in omega (arith, e)
-          order (inr differ) = let h = far number i d (omega (arith, le, differ)) within in omega (arith, h)
-
-          under : (get_or range i d).0 < until
-          under =
-              let k_lt : i - number < found = omega (arith, le, lt) in
-              let t = ltb-true _ _ (low (i - number) d (omega arith) k_lt) in
-              let e : (get_or (take (length range - number) (drop number range)) (i - number) d).0 ≡ (get_or range (number + (i - number)) d).0 = ap (λ (os : List ObjectId). (get_or os (i - number) d).0) window ∙ ap (λ (o : ObjectId). o.0) (get_or-drop number range (i - number) d) in
-              let back : number + (i - number) ≡ i = omega (arith, le) in
-              let f : (get_or range (number + (i - number)) d).0 ≡ (get_or range i d).0 = ap (λ k. (get_or range k d).0) back in
-              omega (arith, t, e, f)
 
 -- what a parameter that nothing binds may be chosen from
 nothing_at : {X : Type 0} (xs : List X) (n : ℕ) → length xs ≤ n → slice_get xs n ≡ None

@@ -7,7 +7,8 @@ use Rattle.hv_world.specs.Worlds.{World, Method}
 use Rattle.hv_match.specs.Counts.{factorial, product, AreSoMany, free, IsCount}
 use Rattle.hv_match.specs.inside.Counting.{rising}
 use Rattle.hv_match.specs.inside.Puzzles.{Puzzle, widths, ways}
-use Rattle.hv_match.specs.inside.Ranges.{IsRange, AreRanges, IsPuzzleOf}
+use Rattle.hv_world.specs.Ranges.{IsRange}
+use Rattle.hv_match.specs.inside.Ranges.{AreRanges, IsPuzzleOf}
 use Rattle.hv_match.proofs.CountLemmas.{one_number}
 
 range_size : (w : World) (r : List ℕ) (t n : ℕ) → IsRange w.typing r t → AreSoMany w t n → length r ≡ n

@@ -1,6 +1,5 @@
 -- What the code works on and keeps, as its proofs speak of it; no public clause stands on it.
 pub mod Numbers
-pub mod Lists
 pub mod Counting
 pub mod Search
 pub mod States

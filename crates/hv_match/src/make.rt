@@ -1,8 +1,7 @@
 //! What the search works on, made from a world and a node of a tree.
 
 ghost use Rattle.std.specs.Prelude.{◌≡◌, map, option_map, IfOk};
-ghost use Rattle.std.specs.List.Sorted.{IsStrictlyIncreasing};
-ghost use Rattle.hv_world.specs.Bindings.{object_number, ground_action_view};
+ghost use Rattle.hv_world.specs.Bindings.{ground_action_view};
 ghost use Rattle.hv_world.specs.Views.{term_view};
 ghost use Rattle.hv_world.specs.Worlds.{terms_of};
 ghost use Rattle.hv_world.specs.MethodViews.{method_view};
@@ -12,10 +11,9 @@ ghost use Rattle.hv_plan.specs.BuiltTrees.{tree_view};
 ghost use Rattle.hv_plan.specs.TreeViews.{child_view, node_view};
 ghost use Rattle.hv_match.specs.Candidates as candidates;
 ghost use Rattle.hv_match.specs.inside.PuzzleViews.{puzzle_view};
-ghost use Rattle.hv_match.specs.inside.Lists.{AreAscending};
 ghost use Rattle.hv_match.specs.inside.Checks.{tasks_of, tasks_at};
 ghost use Rattle.hv_match.specs.inside.Tables.{work_view};
-ghost use Rattle.hv_match.specs.inside.Ranges.{AreRangesOf, AreWorks, IsRange, as_subtask, IsTableOf};
+ghost use Rattle.hv_match.specs.inside.Ranges.{AreRangesOf, AreWorks, as_subtask, IsTableOf};
 
 use crate::child_rows::{child_rows_for, row_keys};
 use crate::counts::exact_count;
@@ -27,29 +25,20 @@ use crate::table::MethodTable;
 use hv_plan::{Child, Node, Tree};
 use hv_state::{EverTrue, needed_atoms};
 use hv_text::Memory;
-use hv_world::{GroundAction, Method, ObjectId, TaskName, Term, TypeId, World};
+use hv_world::{GroundAction, Method, Range, TaskName, Term, TypeId, World};
 use std::alloc::Global;
-
-// The objects of a type.
-fn range<'a>(world: &'a World<'_>, of: TypeId) -> &'a [ObjectId]
-    ensures ascending { IsStrictlyIncreasing (map object_number result.now) }
-    ensures range { IsRange (world_view world.now).typing (map object_number result.now) of.0 }
-{
-    world.objects_of(of)
-}
 
 /// The objects of each of these types.
 pub(crate) fn ranges<'a>(
     alloc: Global,
     world: &'a World<'_>,
     types: &[TypeId],
-) -> Result<Vec<&'a [ObjectId]>, Memory>
-    ensures ascending { IfOk result (λ v. AreAscending v.items) }
-    ensures ranges { IfOk result (λ v. AreRangesOf (world_view world.now) v.items types.now) }
+) -> Result<Vec<Range<'a>>, Memory>
+    ensures { IfOk result (λ v. AreRangesOf (world_view world.now) v.items types.now) }
 {
     let mut ranges = Vec::new(alloc);
     for of in types {
-        ranges.push(range(world, *of))?;
+        ranges.push(world.range_of(*of))?;
     }
     Ok(ranges)
 }

@@ -142,7 +142,7 @@ impl Puzzle<'_> {
     {
         let mut at = 0;
         while at < self.table.ranges.len() {
-            let range = self.table.ranges[at];
+            let range = self.table.ranges[at].objects();
             if range.is_empty() {
                 return true;
             }

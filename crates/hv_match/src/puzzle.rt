@@ -1,7 +1,7 @@
 //! The candidates of a node as a search has them: what it chooses from, and what it wants.
 
 ghost use Rattle.std.specs.Prelude.{◌≡◌, ◌<◌, ◌≤◌, ◌+◌, ◌^◌, nat_eq, length, map, option_map, [], true, false, IfSome, IsSome, Some, None, slice_get};
-ghost use Rattle.std.specs.List.Sorted.{IsStrictlyIncreasing};
+ghost use Rattle.hv_world.specs.Ranges.{range_view};
 ghost use Rattle.hv_world.specs.Bindings.{object_number, object_of};
 ghost use Rattle.hv_world.specs.Alike as alike;
 ghost use Rattle.hv_world.specs.Views.{name_view, term_view, subtask_view, constraint_view};
@@ -15,7 +15,7 @@ use crate::rule::Rule;
 use crate::sources::Source;
 use crate::table::MethodTable;
 use hv_state::EverTrue;
-use hv_world::{Constraint, ObjectId, Subtask, TaskName, Term};
+use hv_world::{Constraint, ObjectId, Range, Subtask, TaskName, Term};
 
 /// What a child does.
 #[derive(Clone, Copy)]
@@ -114,12 +114,11 @@ pub(crate) fn same_name(name: TaskName, other: TaskName) -> bool
     }
 }
 
-/// Whether an object is in an ascending list.
-pub(crate) fn is_in(object: usize, range: &[ObjectId]) -> bool
-    requires { IsStrictlyIncreasing (map object_number range.now) }
-    ensures { result ≡ puzzles.has object (map object_number range.now) }
+/// Whether an object is one of a range.
+pub(crate) fn is_in(object: usize, range: Range<'_>) -> bool
+    ensures { result ≡ puzzles.has object (range_view range.entry) }
 {
-    range.binary_search_by_key(&object, |other| other.0).is_ok()
+    range.has(object)
 }
 
 /// Whether a child that does this does what a subtask says.
@@ -343,7 +342,7 @@ impl Rule for Puzzle<'_> {
         match chosen.len().checked_sub(self.table.subtasks.len()) {
             None => self.child_choice(chosen.len(), number),
             Some(parameter) => {
-                let range = self.table.ranges[parameter];
+                let range = self.table.ranges[parameter].objects();
                 choice(self.bound(chosen, parameter), range, number)
             }
         }

@@ -1,29 +1,16 @@
 //! Objects of a parameter that need not be tried: an atom that the precondition needs is never true
 //! with them.
 
-ghost use Rattle.std.specs.Prelude.{◌≡◌, ◌<◌, ◌+◌, length, map, Some, None};
-ghost use Rattle.std.specs.List.Sorted.{IsStrictlyIncreasing};
-ghost use Rattle.hv_world.specs.Bindings.{object_number};
+ghost use Rattle.std.specs.Prelude.{◌≡◌, ◌<◌, ◌+◌, length, Some};
 ghost use Rattle.hv_world.specs.Views.{atom_view};
 ghost use Rattle.hv_state.specs.Ever.{ever_rows};
 ghost use Rattle.hv_match.specs.inside.Puzzles as puzzles;
-ghost use Rattle.hv_match.specs.inside.Puzzles.{AreBelow, NeverWith, NothingWith};
+ghost use Rattle.hv_match.specs.inside.Puzzles.{NeverWith, NothingWith};
 
 use crate::possible::MOST_TERMS;
 use crate::puzzle::Puzzle;
 use hv_state::{AtomView, EverTrue};
-use hv_world::{Atom, ObjectId, Term};
-
-// Up to which number, from another on, the objects of an ascending list are below an object.
-fn count_below(range: &[ObjectId], number: usize, until: usize) -> usize
-    requires { IsStrictlyIncreasing (map object_number range.now) }
-    ensures { AreBelow (map object_number range.now) number until result }
-{
-    if range.len() <= number {
-        return number;
-    }
-    number + range[number..].partition_point(|object| object.0 < until)
-}
+use hv_world::{Atom, Term};
 
 impl Puzzle<'_> {
     ghost use Rattle.hv_match.specs.inside.PuzzleViews.{puzzle_view, search_of};
@@ -72,18 +59,19 @@ impl Puzzle<'_> {
             (puzzles.range_of (puzzle_view self.now) parameter) number result }
     {
         let range = self.table.ranges[parameter];
+        let objects = range.objects();
         let Some(decided) = self.table.needed_by.get(chosen.len() + 1) else {
             return number;
         };
-        if range.len() <= number {
+        if objects.len() <= number {
             return number;
         }
         let atoms = &self.table.needed;
         for decided_number in decided {
             if *decided_number < atoms.len() {
                 let atom = atoms[*decided_number];
-                let until = self.next_object(ever, chosen, parameter, atom, range[number].0);
-                let upto = count_below(range, number, until);
+                let until = self.next_object(ever, chosen, parameter, atom, objects[number].0);
+                let upto = range.count_below(number, until);
                 if upto > number {
                     return upto;
                 }

@@ -2,18 +2,17 @@
 
 ghost use Rattle.std.specs.Prelude.{map, length};
 ghost use Rattle.hv_world.specs.Views.{subtask_view};
-ghost use Rattle.hv_match.specs.inside.Lists.{AreAscending};
 ghost use Rattle.hv_match.specs.inside.Tables.{AreKeys, AreSourcesOf};
 
 use crate::child_rows::RowKeys;
 use crate::sources::Source;
-use hv_world::{Atom, Constraint, ObjectId, Subtask, Term};
+use hv_world::{Atom, Constraint, Range, Subtask, Term};
 
 /// What the search keeps of a method, whichever node it decomposes.
 #[derive(Drop)]
 pub(crate) struct MethodTable<'w> {
     /// For each parameter the objects of its type.
-    pub(crate) ranges: Vec<&'w [ObjectId]>,
+    pub(crate) ranges: Vec<Range<'w>>,
     /// The terms of the task.
     pub(crate) task: &'w [Term],
     pub(crate) subtasks: &'w [Subtask],
@@ -32,7 +31,6 @@ pub(crate) struct MethodTable<'w> {
     pub(crate) needed_by: Vec<Vec<usize>>,
     /// The count, if 64 bits hold it.
     pub(crate) count: Option<u64>,
-    pub(crate) ghost ascending: { AreAscending ranges.items },
     pub(crate) ghost keyed: { AreKeys (map subtask_view subtasks.now) keys },
     pub(crate) ghost sourced: { AreSourcesOf (length ranges.items) task.now subtasks.now sources.items },
 }

@@ -3,5 +3,4 @@
 pub use Rattle.hv_world.proofs.TypeDecisions.{of_is_decided}
 pub use Rattle.hv_world.proofs.CycleLemmas.{before_is_decided}
 pub use Rattle.hv_world.proofs.OnceLemmas.{found_at}
-pub use Rattle.hv_world.proofs.TypeLemmas.{searched}
 pub use Rattle.hv_world.proofs.GroundingLemmas.{grounded_length}

@@ -13,6 +13,8 @@ pub mod OrderWalk
 pub mod RepeatLemmas
 pub mod TypeLemmas
 pub mod BaseLemmas
+pub mod LineLemmas
+pub mod RangeLemmas
 pub mod BaseSteps
 pub mod WithinLemmas
 pub mod NoFaults

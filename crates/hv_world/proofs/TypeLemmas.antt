@@ -491,14 +491,14 @@ module _ (n : ℕ) (objects : List ObjectId) (ascend : AscendsBelow (n + 1) (obj
       from m = let is_n : last.0 ≡ n = is_last m.0 (omega (arith, m.1, long)) m.2 in grind (arith, nat_tests)
 
 -- one pair of the code more in the lists
-pub grouped_more : {P : Type 0} (numbers : P → ℕ × ℕ) (pairs : List P) (i : ℕ) (p : P) (lists : List (Vec TypeId)) (a : ℕ) (v d : Vec TypeId) (b : TypeId)
-    → i < length pairs → numbers (get_or pairs i p) ≡ (a, b.0) → a < length lists → v.items ≡ (get_or lists a d).items ++ b ∷ []
-    → AreSeconds (map numbers (take i pairs)) (type_lists lists) → AreSeconds (map numbers (take (i + 1) pairs)) (type_lists (set lists a v))
-grouped_more numbers pairs i p lists a v d b lt e within grew h =
-    let more : map numbers (take (i + 1) pairs) ≡ map numbers (take i pairs) ++ (a, b.0) ∷ [] = map_more numbers pairs i p lt ∙ ap (λ x. map numbers (take i pairs) ++ x ∷ []) e in
-    let lists_more : type_lists (set lists a v) ≡ set (type_lists lists) a (list_of (type_lists lists) a ++ b.0 ∷ []) = pushed (λ t. t.0) lists a v d within b grew in
-    let long : length (type_lists lists) ≡ length lists = length-map lists (λ v. type_numbers v.items) in
-    rw (more, lists_more) (pair_more (map numbers (take i pairs)) (type_lists lists) a b.0 (omega (arith, long)) h)
+pub grouped_more : {P X : Type 0} (f : X → ℕ) (numbers : P → ℕ × ℕ) (pairs : List P) (i : ℕ) (p : P) (lists : List (Vec X)) (a : ℕ) (v d : Vec X) (b : X)
+    → i < length pairs → numbers (get_or pairs i p) ≡ (a, f b) → a < length lists → v.items ≡ (get_or lists a d).items ++ b ∷ []
+    → AreSeconds (map numbers (take i pairs)) (map (λ u. map f u.items) lists) → AreSeconds (map numbers (take (i + 1) pairs)) (map (λ u. map f u.items) (set lists a v))
+grouped_more f numbers pairs i p lists a v d b lt e within grew h =
+    let more : map numbers (take (i + 1) pairs) ≡ map numbers (take i pairs) ++ (a, f b) ∷ [] = map_more numbers pairs i p lt ∙ ap (λ x. map numbers (take i pairs) ++ x ∷ []) e in
+    let lists_more : map (λ u. map f u.items) (set lists a v) ≡ set (map (λ u. map f u.items) lists) a (list_of (map (λ u. map f u.items) lists) a ++ f b ∷ []) = pushed f lists a v d within b grew in
+    let long : length (map (λ u. map f u.items) lists) ≡ length lists = length-map lists (λ u. map f u.items) in
+    rw (more, lists_more) (pair_more (map numbers (take i pairs)) (map (λ u. map f u.items) lists) a (f b) (omega (arith, long)) h)
 
 -- the numbers of the pairs are in their range
 pub second_within : {P : Type 0} (numbers : P → ℕ × ℕ) (pairs : List P) (types : ℕ) → All (λ p. (numbers p).1 < types) pairs → (a b : ℕ) → Contains (map numbers pairs) (a, b) → b < types

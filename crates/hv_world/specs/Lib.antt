@@ -5,6 +5,7 @@ pub mod Codes
 pub mod Known
 pub mod Scopes
 pub mod Types
+pub mod Ranges
 pub mod Orders
 pub mod Cycles
 pub mod Networks

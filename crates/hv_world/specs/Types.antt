@@ -1,5 +1,5 @@
 -- Which objects are of which type.
-use Rattle.std.specs.Prelude.{◌≡◌, ℕ, ◌<◌, ◌⊎◌, List, map}
+use Rattle.std.specs.Prelude.{◌≡◌, ℕ, ◌<◌, ◌≤◌, ◌⊎◌, List, length, map, slice_index}
 use Rattle.std.specs.List.{All, Contains}
 use Rattle.hv_world.specs.declared.id.TypeId.{TypeId}
 use Rattle.hv_world.specs.declared.id.ObjectId.{ObjectId}
@@ -42,3 +42,8 @@ typing types objects parents declared =
 
 abbrev pub object_numbers : List ObjectId → List ℕ
 object_numbers = map (λ o. o.0)
+
+-- the objects of these numbers, from one on, are not below that of the first of them, and below another
+abbrev pub AreBelow : List ℕ → ℕ → ℕ → ℕ → Type 0
+AreBelow os from until upto =
+    (from ≤ upto) × ((i : ℕ) → from ≤ i → i < upto → (i < length os) × (slice_index os from ≤ slice_index os i) × (slice_index os i < until))

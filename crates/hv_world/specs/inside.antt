@@ -1,7 +1,10 @@
 -- How the code goes, step by step, for its proofs. No public clause means any of this.
 pub mod Tables
 pub mod TypeLists
+pub mod ListParts
 pub mod Bases
+pub mod Lines
+pub mod Layouts
 pub mod LabelViews
 pub mod OrderWalks
 pub mod OrderViews

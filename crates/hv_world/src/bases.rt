@@ -8,7 +8,7 @@ ghost use Rattle.hv_world.specs.inside.Bases.{IsGraph, IsOnlyAbove, AreContracte
 ghost use Rattle.hv_world.specs.inside.Bases as inside;
 
 use crate::id::{ObjectId, TypeId};
-use crate::types::{no_lists, parents_by_type};
+use crate::lists::{no_lists, parents_by_type};
 use hv_text::Memory;
 use std::alloc::Global;
 
@@ -66,7 +66,7 @@ fn only(types: &[TypeId]) -> Option<TypeId>
 
 impl Graph {
     // The graph of what is declared.
-    fn new(
+    pub(crate) fn new(
         alloc: Global,
         types: usize,
         _objects: usize,
@@ -87,7 +87,7 @@ impl Graph {
     }
 
     // The types directly above one.
-    fn above(&self, of: TypeId) -> &[TypeId]
+    pub(crate) fn above(&self, of: TypeId) -> &[TypeId]
         ensures { type_numbers result.now ≡ list_of (type_lists self.now.above.items) of.0 }
     {
         match self.above.get(of.0) {
@@ -97,7 +97,7 @@ impl Graph {
     }
 
     // The types directly below one.
-    fn below(&self, of: TypeId) -> &[TypeId]
+    pub(crate) fn below(&self, of: TypeId) -> &[TypeId]
         ensures { type_numbers result.now ≡ list_of (type_lists self.now.below.items) of.0 }
     {
         match self.below.get(of.0) {

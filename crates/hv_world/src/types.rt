@@ -1,15 +1,16 @@
 //! Which objects are of which type.
 
-ghost use Rattle.std.specs.Prelude.{◌≡◌, ◌<◌, ◌+◌, ◌↔◌, ℕ, [], length, map, IsTrue, IfOk, OnOk};
-ghost use Rattle.std.specs.List.{All, Contains};
-ghost use Rattle.std.specs.List.Sorted.{IsStrictlyIncreasing};
-ghost use Rattle.hv_world.specs.Types.{Typing, typing, Of, object_numbers};
-ghost use Rattle.hv_lists.specs.Lists.{Once};
-ghost use Rattle.hv_world.specs.inside.Bases.{AreShared};
-ghost use Rattle.hv_world.specs.inside.TypeLists.{list_of, type_numbers, type_lists, object_lists, AreSeconds, AscendsBelow, IsPut, IsPutAbove, AreMembersBelow};
+ghost use Rattle.std.specs.Prelude.{◌≡◌, ◌<◌, IfOk, IfSome};
+ghost use Rattle.std.specs.List.{All};
+ghost use Rattle.hv_world.specs.Types.{Typing, typing};
+ghost use Rattle.hv_world.specs.Ranges.{range_view, IsRange};
+ghost use Rattle.hv_world.specs.inside.Layouts.{Keeps};
+ghost use Rattle.hv_world.specs.inside.Lines.{AreNested};
 
-use crate::bases::{bases, contracted};
 use crate::id::{ObjectId, TypeId};
+use crate::lists::TypeLists;
+use crate::nested::Nested;
+use crate::range::Range;
 use hv_text::Memory;
 use std::alloc::Global;
 use std::marker::Model;
@@ -21,9 +22,14 @@ pub(crate) struct Types {
     objects: usize,
     parents: Vec<(TypeId, TypeId)>,
     declared: Vec<(ObjectId, TypeId)>,
-    // For each type the one whose list has its objects.
-    bases: Vec<TypeId>,
-    members: Vec<Vec<ObjectId>>,
+    layout: Layout,
+}
+
+/// How the objects of each type are kept.
+#[derive(Drop)]
+pub(crate) enum Layout {
+    Listed(TypeLists),
+    Nested(Nested),
 }
 
 impl Model for Types {
@@ -31,15 +37,13 @@ impl Model for Types {
 
     ghost view = { λ w. typing w.types w.objects w.parents.items w.declared.items };
 
-    ghost invariant = { λ w. AreShared
-        (typing w.types w.objects w.parents.items w.declared.items)
-        (type_numbers w.bases.items) (object_lists w.members.items) };
+    ghost invariant = { λ w. Keeps
+        (typing w.types w.objects w.parents.items w.declared.items) w.layout };
 }
 
 impl Types {
     /// From what is declared of so many types and objects: types with their parents, and objects
-    /// with their types. Types that have just the objects of one type below them share its list. For
-    /// each object and each list that it is in, it takes a step, and one for each list above that.
+    /// with their types.
     pub(crate) fn new(
         alloc: Global,
         types: usize,
@@ -52,170 +56,71 @@ impl Types {
         requires declared { All (λ p. (p.0.0 < objects) × (p.1.0 < types)) declared.items }
         ensures { IfOk result (λ w. w ≡ typing types objects parents.items declared.items) }
     {
-        let bases = bases(alloc, types, objects, &parents, &declared)?;
-        let pairs = contracted(alloc, &parents, &bases)?;
-        let members = members(alloc, types, objects, &pairs, &declared)?;
+        let layout = laid_out(alloc, types, objects, &parents, &declared)?;
         Ok(Types {
             types,
             objects,
             parents,
             declared,
-            bases,
-            members,
+            layout,
         })
     }
 
-    /// Whether an object is of a type: a binary search among the objects of the type. A number
-    /// that there is no object or type for is of none.
-    pub(crate) fn is_of(&self, object: ObjectId, of: TypeId) -> bool
-        ensures { IsTrue result ↔ Of self.now object.0 of.0 }
+    /// The objects of a type. None for a number that no type has.
+    pub(crate) fn range_of(&self, of: TypeId) -> Range<'_>
+        ensures { IsRange self.now (range_view result) of.0 }
     {
-        is_among(self.objects_of(of), object)
-    }
-
-    /// The objects of a type, each once, ascending. None for a number that no type has.
-    pub(crate) fn objects_of(&self, of: TypeId) -> &[ObjectId]
-        ensures exact { (o : ℕ) → Contains (object_numbers result.now) o ↔ Of self.now o of.0 }
-        ensures ascending { IsStrictlyIncreasing (object_numbers result.now) }
-        ensures once { Once (object_numbers result.now) }
-    {
-        match self.bases.get(of.0) {
-            Some(base) => &self.members[base.0],
-            None => &[],
+        match &self.layout {
+            Layout::Nested(nested) => nested.range_of(of),
+            Layout::Listed(lists) => lists.range_of(of),
         }
     }
 }
 
-// Whether an object is in an ascending list.
-fn is_among(objects: &[ObjectId], object: ObjectId) -> bool
-    requires { IsStrictlyIncreasing (object_numbers objects.now) }
-    ensures { IsTrue result ↔ Contains (object_numbers objects.now) object.0 }
-{
-    objects.binary_search_by_key(&object.0, |o| o.0).is_ok()
-}
+// Of so few types the objects are listed, whatever that takes.
+const FEW: usize = 64;
 
-/// An empty list for each number below `count`.
-pub(crate) fn no_lists<T: Drop>(alloc: Global, count: usize) -> Result<Vec<Vec<T>>, Memory>
-    ensures size { IfOk result (λ lists. length lists.items ≡ count) }
-    ensures empty { IfOk result (λ lists. All (λ v. v.items ≡ []) lists.items) }
-{
-    let mut lists = Vec::new(alloc);
-    for _ in 0..count {
-        lists.push(Vec::new(alloc))?;
-    }
-    Ok(lists)
-}
+// So many objects, each counted for itself in each list, may stand in the lists for each object.
+const MOST: usize = 16;
 
-/// The parents of each type.
-pub(crate) fn parents_by_type(
-    alloc: Global,
-    types: usize,
-    pairs: &[(TypeId, TypeId)],
-) -> Result<Vec<Vec<TypeId>>, Memory>
-    requires { All (λ p. p.0.0 < types) pairs.now }
-    ensures size { IfOk result (λ lists. length lists.items ≡ types) }
-    ensures lists { IfOk result
-        (λ lists. AreSeconds (map (λ p. (p.0.0, p.1.0)) pairs.now) (type_lists lists.items)) }
-{
-    let mut lists = no_lists(alloc, types)?;
-    for (child, parent) in pairs {
-        lists[child.0].push(*parent)?;
-    }
-    Ok(lists)
-}
-
-// The declared types of each object.
-fn types_by_object(
-    alloc: Global,
-    objects: usize,
-    pairs: &[(ObjectId, TypeId)],
-) -> Result<Vec<Vec<TypeId>>, Memory>
-    requires { All (λ p. p.0.0 < objects) pairs.now }
-    ensures size { IfOk result (λ lists. length lists.items ≡ objects) }
-    ensures lists { IfOk result
-        (λ lists. AreSeconds (map (λ p. (p.0.0, p.1.0)) pairs.now) (type_lists lists.items)) }
-{
-    let mut lists = no_lists(alloc, objects)?;
-    for (object, of) in pairs {
-        lists[object.0].push(*of)?;
-    }
-    Ok(lists)
-}
-
-// Whether an ascending list, in which nothing is behind the object, has it: at its end.
-fn is_at_end(objects: &[ObjectId], object: ObjectId) -> bool
-    requires { AscendsBelow (object.0 + 1) (object_numbers objects.now) }
-    ensures { IsTrue result ↔ Contains (object_numbers objects.now) object.0 }
-{
-    match objects.last() {
-        Some(last) => *last == object,
-        None => false,
-    }
-}
-
-// Puts an object at the end of an ascending list, unless it stands there. Says whether it put it.
-fn put(list: &mut Vec<ObjectId>, object: ObjectId) -> Result<bool, Memory>
-    requires { AscendsBelow (object.0 + 1) (object_numbers list.old.items) }
-    ensures { IfOk result
-        (λ b. IsPut object.0 (object_numbers list.old.items) b (object_numbers list.new.items)) }
-{
-    if is_at_end(list, object) {
-        return Ok(false);
-    }
-    list.push(object)?;
-    Ok(true)
-}
-
-// Puts an object into the lists of the waiting types and of all above them.
-fn put_above(
-    object: ObjectId,
-    waiting: &mut Vec<TypeId>,
-    parents: &[Vec<TypeId>],
-    members: &mut [Vec<ObjectId>],
-) -> Result<(), Memory>
-    requires size { length parents.now ≡ length members.old }
-    requires waiting { (t : ℕ) → Contains (type_numbers waiting.old.items) t
-        → t < length parents.now }
-    requires parents { (a b : ℕ) → Contains (list_of (type_lists parents.now) a) b
-        → b < length parents.now }
-    requires members { (t : ℕ) → AscendsBelow object.0 (list_of (object_lists members.old) t) }
-    ensures waiting { OnOk result (waiting.new.items ≡ []) }
-    ensures members { OnOk result
-        (IsPutAbove (type_lists parents.now) (type_numbers waiting.old.items) object.0
-        (object_lists members.old) (object_lists members.new)) }
-{
-    'climb: while let Some(at) = waiting.pop() {
-        if put(&mut members[at.0], object)? {
-            waiting.extend_from_slice(&parents[at.0])?;
-        }
-    }
-    Ok(())
-}
-
-// The objects of each type.
-fn members(
+// The objects of the types in one line, where they can be and lists of them would be long.
+fn long_nested(
     alloc: Global,
     types: usize,
     objects: usize,
     parents: &[(TypeId, TypeId)],
     declared: &[(ObjectId, TypeId)],
-) -> Result<Vec<Vec<ObjectId>>, Memory>
+) -> Result<Option<Nested>, Memory>
     requires object { 0 < types }
     requires parents { All (λ p. (p.0.0 < types) × (p.1.0 < types)) parents.now }
     requires declared { All (λ p. (p.0.0 < objects) × (p.1.0 < types)) declared.now }
-    ensures { IfOk result
-        (λ lists. AreMembersBelow objects (typing types objects parents.now declared.now)
-        (object_lists lists.items)) }
+    ensures { IfOk result (λ n. IfSome n (AreNested
+        (typing types objects parents.now declared.now))) }
 {
-    let above = parents_by_type(alloc, types, parents)?;
-    let direct = types_by_object(alloc, objects, declared)?;
-    let mut members = no_lists(alloc, types)?;
-    let mut waiting = Vec::new(alloc);
-    for (number, of) in direct.iter().enumerate() {
-        let object = ObjectId(number);
-        waiting.extend_from_slice(of)?;
-        put_above(object, &mut waiting, &above, &mut members)?;
-        put(&mut members[0], object)?;
+    if types <= FEW {
+        return Ok(None);
     }
-    Ok(members)
+    match Nested::new(alloc, types, objects, parents, declared)? {
+        Some(nested) if nested.count() > objects.saturating_mul(MOST) => Ok(Some(nested)),
+        _ => Ok(None),
+    }
+}
+
+// The objects of the types, in one line or in lists.
+fn laid_out(
+    alloc: Global,
+    types: usize,
+    objects: usize,
+    parents: &[(TypeId, TypeId)],
+    declared: &[(ObjectId, TypeId)],
+) -> Result<Layout, Memory>
+    requires object { 0 < types }
+    requires parents { All (λ p. (p.0.0 < types) × (p.1.0 < types)) parents.now }
+    requires declared { All (λ p. (p.0.0 < objects) × (p.1.0 < types)) declared.now }
+    ensures { IfOk result (Keeps (typing types objects parents.now declared.now)) }
+{
+    match long_nested(alloc, types, objects, parents, declared)? {
+        Some(nested) => Ok(Layout::Nested(nested)),
+        None => Ok(Layout::Listed(TypeLists::new(alloc, types, objects, parents, declared)?)),
+    }
 }

@@ -19,6 +19,7 @@ use crate::grounding::GroundAction;
 use crate::id::{ActionId, MethodId, ObjectId, PredicateId, TaskId, TaskName, TypeId};
 use crate::method::Method;
 use crate::names::Names;
+use crate::range::Range;
 use crate::task::Task;
 use crate::types::Types;
 use hv_text::{Name, Seeded};
@@ -60,25 +61,32 @@ impl<'s> World<'s> {
     ghost use Rattle.hv_world.specs.Types.{Of, object_numbers};
     ghost use Rattle.hv_lists.specs.Lists.{Once};
     ghost use Rattle.std.specs.List.{Contains};
-    ghost use Rattle.std.specs.List.Sorted.{IsStrictlyIncreasing};
+    ghost use Rattle.hv_world.specs.Ranges.{range_view, IsRange};
     ghost use Rattle.hv_world.specs.Worlds.{task_named, method_named};
     ghost use Rattle.hv_world.specs.WorldViews.{world_view};
+
+    /// The objects of a type, each once, and what tells of an object whether it is one of them. None
+    /// for a number that no type has.
+    pub fn range_of(&self, of: TypeId) -> Range<'_>
+        ensures { IsRange (world_view self.now).typing (range_view result) of.0 }
+    {
+        self.typing.range_of(of)
+    }
 
     /// Whether an object is of a type. A number that there is no object or type for is of none.
     pub fn is_of(&self, object: ObjectId, of: TypeId) -> bool
         ensures { IsTrue result ↔ Of (world_view self.now).typing object.0 of.0 }
     {
-        self.typing.is_of(object, of)
+        self.range_of(of).has(object.0)
     }
 
-    /// The objects of a type, each once, ascending. None for a number that no type has.
+    /// The objects of a type, each once. None for a number that no type has.
     pub fn objects_of(&self, of: TypeId) -> &[ObjectId]
         ensures exact { (o : ℕ)
             → Contains (object_numbers result.now) o ↔ Of (world_view self.now).typing o of.0 }
-        ensures ascending { IsStrictlyIncreasing (object_numbers result.now) }
         ensures once { Once (object_numbers result.now) }
     {
-        self.typing.objects_of(of)
+        self.range_of(of).objects()
     }
 
     /// The tasks that methods decompose, in the order of the text.

@@ -1,6 +1,7 @@
 -- What the puzzle of the search says.
 use Rattle.std.specs.Prelude.{map, length, option_map}
 use Rattle.hv_world.specs.Bindings.{object_number}
+use Rattle.hv_world.specs.Ranges.{range_view}
 use Rattle.hv_world.specs.Views.{term_view, subtask_view, constraint_view, atom_view}
 use Rattle.hv_state.specs.Ever.{ever_rows}
 use Rattle.hv_match.specs.inside.Puzzles.{Puzzle, options, is_good, levels}
@@ -10,7 +11,7 @@ use Rattle.hv_match.specs.declared.puzzle.Puzzle as code
 
 abbrev pub puzzle_view : code.Puzzle → Puzzle
 puzzle_view p = record {
-  ranges = map (λ r. map object_number r.now) p.table.now.ranges.items;
+  ranges = map range_view p.table.now.ranges.items;
   task = map term_view p.table.now.task.now;
   objects = map object_number p.objects.now;
   subtasks = map subtask_view p.table.now.subtasks.now;

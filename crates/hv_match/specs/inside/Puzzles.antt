@@ -256,10 +256,6 @@ CannotBeTrue p q a = (B : List ℕ) → GoesOn p q B → is_possible p.ever B a 
 abbrev pub NeverWith : Puzzle → List ℕ → ℕ → ℕ → ℕ → Atom → Type 0
 NeverWith p q v from upto a = (o : ℕ) → from ≤ o → o < upto → (B : List ℕ) → GoesOn p q B → slice_index B v ≡ o → is_possible p.ever B a ≡ false
 
--- the objects of these numbers, from one on, are not below that of the first of them, and below another
-abbrev pub AreBelow : List ℕ → ℕ → ℕ → ℕ → Type 0
-AreBelow os from until upto = (from ≤ upto) × ((i : ℕ) → from ≤ i → i < upto → (i < length os) × (slice_index os from ≤ slice_index os i) × (slice_index os i < until))
-
 -- nothing that is wanted begins with q and any of the objects of these numbers
 abbrev pub NothingWith : Search → List ℕ → List ℕ → ℕ → ℕ → Type 0
 NothingWith s q os from upto = (from ≤ upto) × ((i : ℕ) → from ≤ i → i < upto → (i < length os) × NothingBegins s (q ++ slice_index os i ∷ []))

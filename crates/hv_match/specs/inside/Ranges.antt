@@ -1,16 +1,15 @@
 -- How the tables and the puzzle of the search are made from a world, a node and its method.
-use Rattle.std.specs.Prelude.{◌≡◌, ◌↔◌, ℕ, List, map, Contains, Option, None, MatchOption, option_map}
+use Rattle.std.specs.Prelude.{◌≡◌, ℕ, List, map, Option, None, MatchOption, option_map}
 use Rattle.std.specs.Borrow.{Bor}
 use Rattle.std.specs.List.{AllZip}
-use Rattle.hv_lists.specs.Lists.{Once}
 use Rattle.hv_world.specs.Values.{object, Subtask, subtask}
-use Rattle.hv_world.specs.Types.{Typing, Of}
+use Rattle.hv_world.specs.Types.{Typing}
+use Rattle.hv_world.specs.Ranges.{IsRange, range_view}
 use Rattle.hv_world.specs.Worlds.{World, Method, terms_of}
-use Rattle.hv_world.specs.Bindings.{object_number}
 use Rattle.hv_world.specs.Views.{type_number, term_view, subtask_view, constraint_view, atom_view}
 use Rattle.hv_world.specs.MethodViews.{method_view}
 use Rattle.hv_world.specs.declared.method.Method as code_method
-use Rattle.hv_world.specs.declared.id.ObjectId.{ObjectId}
+use Rattle.hv_world.specs.declared.range.Range.{Range}
 use Rattle.hv_world.specs.declared.id.TypeId.{TypeId}
 use Rattle.hv_state.specs.Needed.{needed}
 use Rattle.hv_plan.specs.PlanTrees.{Node}
@@ -20,17 +19,12 @@ use Rattle.hv_match.specs.declared.table.MethodTable.{MethodTable}
 use Rattle.hv_match.specs.inside.Numbers.{in_64_bits}
 use Rattle.hv_match.specs.inside.Puzzles.{Work, Puzzle}
 
--- the objects of a type, each once
-pub record IsRange (w : Typing) (r : List ℕ) (t : ℕ) : Type 0 where
-  pub exact : (o : ℕ) → Contains r o ↔ Of w o t
-  pub once : Once r
-
 abbrev pub AreRanges : Typing → List (List ℕ) → List ℕ → Type 0
 AreRanges w rs ts = AllZip (IsRange w) rs ts
 
--- the same of the code's lists and types
-abbrev pub AreRangesOf : World → List (Bor (List ObjectId)) → List TypeId → Type 0
-AreRangesOf w rs ts = AreRanges w.typing (map (λ r. map object_number r.now) rs) (map type_number ts)
+-- the same of the code's ranges and types
+abbrev pub AreRangesOf : World → List Range → List TypeId → Type 0
+AreRangesOf w rs ts = AreRanges w.typing (map range_view rs) (map type_number ts)
 
 -- what a child does, as a subtask with objects for terms
 abbrev pub as_subtask : Work → Subtask
@@ -42,7 +36,7 @@ AreWorks works tasks = map (option_map as_subtask) works ≡ tasks
 
 -- the table of a method of a world
 pub record IsTableOf (w : World) (m : Method) (t : MethodTable) : Type 0 where
-  pub ranges : AreRanges w.typing (map (λ r. map object_number r.now) t.ranges.items) m.parameters
+  pub ranges : AreRanges w.typing (map range_view t.ranges.items) m.parameters
   pub task : map term_view t.task.now ≡ terms_of m.task
   pub subtasks : map subtask_view t.subtasks.now ≡ m.network.subtasks
   pub constraints : map constraint_view t.constraints.now ≡ m.network.constraints

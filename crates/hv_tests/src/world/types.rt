@@ -6,7 +6,7 @@ use hv_world::{ObjectId, TypeId, World};
 use std::alloc::Global;
 
 // Whether an object is of a type just where it is among the objects of the type.
-fn agree(world: &World<'static>, of: TypeId) -> bool {
+fn agree(world: &World<'_>, of: TypeId) -> bool {
     let objects = world.objects_of(of);
     for object in world.objects_of(TypeId(0)) {
         if world.is_of(*object, of) != objects.contains(object) {
@@ -162,4 +162,74 @@ fn are_of_types(alloc: Global) -> Option<bool> {
 #[test]
 fn other_numbers_have_nothing(rt: HostRuntime) {
     assert!(rt; are_of_types(rt.alloc()) == Some(true));
+}
+
+// So many types in a chain, the lowest first, each with an object of its own.
+const CHAIN: usize = 70;
+
+// Writes down the name of a type or an object: its kind and two letters.
+fn put_name(text: &mut Vec<u8>, kind: u8, number: usize) -> Option<()> {
+    text.push(kind).ok()?;
+    let tens = u8::try_from(number / 10).ok()?;
+    let ones = u8::try_from(number % 10).ok()?;
+    text.push(b'a'.wrapping_add(tens)).ok()?;
+    text.push(b'a'.wrapping_add(ones)).ok()
+}
+
+// Writes down that each of these is of the type so many above the one of its own number.
+fn put_pairs(text: &mut Vec<u8>, kind: u8, above: usize) -> Option<()> {
+    for number in 0..CHAIN {
+        put_name(text, kind, number)?;
+        text.extend_from_slice(b" - ").ok()?;
+        put_name(text, b't', number.saturating_add(above))?;
+        text.push(b' ').ok()?;
+    }
+    Some(())
+}
+
+// The domain of the chain, and the same with types of which the lowest has another parent too.
+fn chain_domain(alloc: Global, more: &[u8]) -> Option<Vec<u8>> {
+    let mut text = Vec::new(alloc);
+    text.extend_from_slice(b"(define (domain d) (:types ").ok()?;
+    put_pairs(&mut text, b't', 1)?;
+    text.extend_from_slice(more).ok()?;
+    text.extend_from_slice(b"))").ok()?;
+    Some(text)
+}
+
+fn chain_problem(alloc: Global) -> Option<Vec<u8>> {
+    let mut text = Vec::new(alloc);
+    text.extend_from_slice(b"(define (problem q) (:domain d) (:objects ")
+        .ok()?;
+    put_pairs(&mut text, b'o', 0)?;
+    text.extend_from_slice(b") (:htn) (:init))").ok()?;
+    Some(text)
+}
+
+// Whether each type of the chain has one object more than the one below it.
+fn is_chain(world: &World<'_>) -> bool {
+    for number in 1..=CHAIN {
+        let of = TypeId(number);
+        if world.objects_of(of).len() != number || !agree(world, of) {
+            return false;
+        }
+    }
+    true
+}
+
+fn makes_chain(alloc: Global, more: &[u8]) -> Option<bool> {
+    let domain = chain_domain(alloc, more)?;
+    let problem = chain_problem(alloc)?;
+    let world = world_of(alloc, &domain, &problem)?;
+    Some(is_chain(&world))
+}
+
+#[test]
+fn many_types_in_a_chain_have_all_objects_below(rt: HostRuntime) {
+    assert!(rt; makes_chain(rt.alloc(), b"") == Some(true));
+}
+
+#[test]
+fn many_types_may_have_two_parents(rt: HostRuntime) {
+    assert!(rt; makes_chain(rt.alloc(), b"taa - tca") == Some(true));
 }

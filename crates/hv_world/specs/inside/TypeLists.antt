@@ -1,6 +1,7 @@
 -- The lists that the types of a world keep, by number.
 use Rattle.std.specs.Prelude.{◌≡◌, ℕ, ◌<◌, ◌+◌, ◌++◌, ◌↔◌, ◌⊎◌, Bool, true, false, List, [], ◌∷◌, length, map, slice_index_or}
 use Rattle.std.specs.List.{All, AllPairs, Contains}
+use Rattle.std.specs.List.Sorted.{IsStrictlyIncreasing}
 use Rattle.std.specs.Global.{Vec}
 use Rattle.hv_world.specs.declared.id.TypeId.{TypeId}
 use Rattle.hv_world.specs.declared.id.ObjectId.{ObjectId}
@@ -35,6 +36,10 @@ ClimbsFrom lists starts t = (a : ℕ) × Contains starts a × Climbs lists a t
 -- the list ascends, and its numbers are below another
 abbrev pub AscendsBelow : ℕ → List ℕ → Type 0
 AscendsBelow n xs = AllPairs (λ x y. x < y) xs × All (λ x. x < n) xs
+
+-- each list ascends
+abbrev pub AllAscend : List (List ℕ) → Type 0
+AllAscend lists = (t : ℕ) → IsStrictlyIncreasing (list_of lists t)
 
 -- the number was put at the end of the list, or stood there
 abbrev pub IsPut : ℕ → List ℕ → Bool → List ℕ → Type 0

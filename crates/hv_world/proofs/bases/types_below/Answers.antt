@@ -16,7 +16,7 @@ loop-child-preserved c =
     let grew : c.push.new.self.items ≡ (get_or lists pair.1.0 c.index_mut.result.now).items ++ pair.0 ∷ [] =
     c.in_ok-push.ensures.items ∙ ap (λ v. v.items ++ pair.0 ∷ []) c.index_mut.ensures.value in (
       length-set lists pair.1.0 c.push.new.self ∙ c.loop-child.invariant.0,
-      grouped_more (λ p. (p.1.0, p.0.0)) pairs c.loop-child.child-index _ lists _ _ c.index_mut.result.now _ (omega arith) refl within grew c.loop-child.invariant.1,
+      grouped_more (λ t. t.0) (λ p. (p.1.0, p.0.0)) pairs c.loop-child.child-index _ lists _ _ c.index_mut.result.now _ (omega arith) refl within grew c.loop-child.invariant.1,
     )
 
 pub returns : goal.returns

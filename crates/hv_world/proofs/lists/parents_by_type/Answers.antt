@@ -1,0 +1,24 @@
+use Rattle.std.proofs.Common.{◌≡◌, ◌<◌, ◌++◌, ◌∷◌, [], arith, length, get_or, ap, ◌∙◌, refl, map, subst}
+use Rattle.std.proofs.lemmas.List.{length-set, take_all}
+use Rattle.hv_world.specs.inside.TypeLists.{type_lists, AreSeconds}
+use Rattle.hv_world.proofs.TypeLemmas.{group_none, all_empty, grouped_more}
+use Rattle.hv_world.proofs.lists.parents_by_type.Goals as goal
+
+pub loop-child-init : goal.loop-child-init
+loop-child-init c = (c.in_ok-lists.ensures.size, group_none _ (all_empty (λ t. t.0) c.in_ok-lists.lists.items c.in_ok-lists.ensures.empty))
+
+pub loop-child-preserved : goal.loop-child-preserved
+loop-child-preserved c =
+    let pairs = c.args.pairs.now in
+    let lists = c.loop-child.lists.items in
+    let pair = get_or pairs c.loop-child.child-index (record { 0 = 0 }, record { 0 = 0 }) in
+    let within : pair.0.0 < length lists = omega (arith, c.requires c.loop-child.child-index (record { 0 = 0 }, record { 0 = 0 }) (omega arith), c.loop-child.invariant.0) in
+    let grew : c.push.new.self.items ≡ (get_or lists pair.0.0 c.index_mut.result.now).items ++ pair.1 ∷ [] =
+    c.in_ok-push.ensures.items ∙ ap (λ v. v.items ++ pair.1 ∷ []) c.index_mut.ensures.value in (
+      length-set lists pair.0.0 c.push.new.self ∙ c.loop-child.invariant.0,
+      grouped_more (λ t. t.0) (λ p. (p.0.0, p.1.0)) pairs c.loop-child.child-index _ lists _ _ c.index_mut.result.now _ (omega arith) refl within grew c.loop-child.invariant.1,
+    )
+
+pub returns-clause-lists : goal.returns-clause-lists
+returns-clause-lists c =
+    subst (λ ps. AreSeconds (map (λ p. (p.0.0, p.1.0)) ps) (type_lists c.loop-child.lists.items)) (take_all c.loop-child.child-index c.args.pairs.now c.loop-child-test.false) c.loop-child.invariant.1
