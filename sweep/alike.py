@@ -85,14 +85,15 @@ def write(folder, texts):
             it.write(text)
 
 
-def main():
-    words = argparse.ArgumentParser(description=__doc__, formatter_class=argparse.RawDescriptionHelpFormatter)
+def compare(doc, make_texts, keep):
+    """Has two programs judge the texts that are made, and says how often their answers are the same."""
+    words = argparse.ArgumentParser(description=doc, formatter_class=argparse.RawDescriptionHelpFormatter)
     words.add_argument("program")
     words.add_argument("other")
     words.add_argument("--seed", type=int, default=1)
     words.add_argument("--first", type=int, default=0)
     words.add_argument("--count", type=int, default=1000)
-    words.add_argument("--keep", default="alike-kept")
+    words.add_argument("--keep", default=keep)
     given = words.parse_args()
     verdicts, kept = collections.Counter(), 0
     with tempfile.TemporaryDirectory() as folder:
@@ -111,4 +112,4 @@ def main():
 
 
 if __name__ == "__main__":
-    raise SystemExit(main())
+    raise SystemExit(compare(__doc__, make_texts, "alike-kept"))

@@ -2,17 +2,21 @@
 """Refuses each request for memory of a run in turn, and looks at how the program ends.
 
 A run whose request was refused must end as it does without, or with status 5 and its line on standard error, and nothing else
-written. So is each command looked at over every example and over every row of crates/hv_row_tests/data; and over a plan of contest
-size, where each of the first thousand requests is refused, and then each hundredth. The last line counts all runs.
+written. So is each command looked at over every example, over every row of crates/hv_row_tests/data and in a world of many types; and
+over a plan of contest size, where each of the first thousand requests is refused, and then each hundredth. The last line counts all
+runs.
 Wants gcc and the built program: sweep/run.py [PROGRAM]."""
 
 import collections
 import multiprocessing
 import os
+import random
 import re
 import subprocess
 import sys
 import tempfile
+
+import typed
 
 TOP = os.path.dirname(os.path.dirname(os.path.abspath(__file__)))
 PROGRAM = os.path.abspath(sys.argv[1] if len(sys.argv) > 1 else f"{TOP}/crates/hddlv/out/hddlv")
@@ -73,6 +77,13 @@ def rows_of(file, folder):
             yield f"row {name.decode()}", words
 
 
+def many_types(folder):
+    """The commands over a plan in a world of 150 types, each with a parent alone."""
+    texts = typed.make_texts(random.Random("3 107"))
+    for words in commands(folder, [write(f"{folder}/{name}", text.encode()) for name, text in zip(NAMES, texts)]):
+        yield "world of many types", words
+
+
 def contest(folder):
     """The commands over a plan of some thousands of actions."""
     subprocess.run([sys.executable, f"{TOP}/bench/judge_plans/make_plan.py", "deliveries", "4000", folder], check=True)
@@ -127,13 +138,14 @@ def sweep_all(jobs):
 def main():
     with tempfile.TemporaryDirectory() as folder:
         library = library_in(folder)
-        rooms = [f"{folder}/{name}" for name in ("contest", "examples", "rows")]
+        rooms = [f"{folder}/{name}" for name in ("contest", "examples", "types", "rows")]
         for room in rooms:
             os.mkdir(room)
         jobs = [Job(PROGRAM, name, words, library, True) for name, words in contest(rooms[0])]
         jobs += [Job(PROGRAM, name, words, library, False) for name, words in examples(rooms[1])]
+        jobs += [Job(PROGRAM, name, words, library, False) for name, words in many_types(rooms[2])]
         for file in sorted(os.listdir(ROWS)):
-            room = f"{rooms[2]}/{file}"
+            room = f"{rooms[3]}/{file}"
             os.mkdir(room)
             jobs += [Job(PROGRAM, name, words, library, False) for name, words in rows_of(f"{ROWS}/{file}", room)]
         failed = sweep_all(jobs)
