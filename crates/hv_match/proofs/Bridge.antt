@@ -21,7 +21,7 @@ use Rattle.hv_match.specs.inside.Parts.{parts}
 use Rattle.hv_match.specs.Candidates.{Does, Holds, IsCandidate}
 use Rattle.hv_state.specs.Needed.{needed}
 use Rattle.hv_match.specs.Possible.{are_possible}
-use Rattle.hv_match.specs.inside.Puzzles.{Work, work, Puzzle, child_at, same_bool, holds, all_hold, options, levels, is_good, Done, IsMatch}
+use Rattle.hv_match.specs.inside.Puzzles.{Work, work, Puzzle, child_at, same_bool, holds, all_hold, options, levels, is_good, Done, AreRows, IsMatch}
 use Rattle.hv_world.specs.Ranges.{IsRange}
 use Rattle.hv_match.specs.inside.Ranges.{AreRanges, as_subtask, IsPuzzleOf, IsTableOf}
 use Rattle.hv_match.specs.inside.PuzzleViews.{puzzle_view}
@@ -209,11 +209,11 @@ module _ (p : Puzzle) where
       let f : drop (length p.subtasks) r.0 ≡ B = ap (λ (z : List ℕ × List ℕ). z.1) r.2 in
       subst (λ N. IsMatch p N B) e (subst (λ C. IsMatch p (take (length p.subtasks) r.0) C) f m)
 
-  pub match_listed : (M B : List ℕ) → IsMatch p M B → Contains (map (parts (length p.subtasks)) (below (options p) (is_good p) (levels p) [] 0)) (M, B)
-  match_listed M B c =
+  pub match_listed : AreRows p → (M B : List ℕ) → IsMatch p M B → Contains (map (parts (length p.subtasks)) (below (options p) (is_good p) (levels p) [] 0)) (M, B)
+  match_listed rows M B c =
       let l = below (options p) (is_good p) (levels p) [] 0 in
       let size : length (M ++ B) ≡ levels p = omega (arith, length-append M B, same_length (Done p.children B) M p.subtasks c.done, same_length (λ (o : ℕ) (r : List ℕ). Contains r o) B p.ranges c.typed) in
-      let m : Contains l (M ++ B) = listing_from (options p) (is_good p) (levels p) (M ++ B) (record { whole = size; path = candidate_path p M B c; is_good = match_good p M B c }) in
+      let m : Contains l (M ++ B) = listing_from (options p) (is_good p) (levels p) (M ++ B) (record { whole = size; path = candidate_path p rows M B c; is_good = match_good p M B c }) in
       let q = match_parts p M B c in
       let e : parts (length p.subtasks) (M ++ B) ≡ (M, B) = rw (q.0, q.1) refl in
       subst (λ z. Contains (map (parts (length p.subtasks)) l) z) e (mem_map (parts (length p.subtasks)) l (M ++ B) m)
@@ -233,9 +233,9 @@ module _ (p : Puzzle) where
   once_parts n (q ∷ l) o =
       once_more (parts n q) (map (parts n) l) (λ m. let r = map_mem (parts n) l (parts n q) m in once_head q l o (subst (λ z. Contains l z) (same_whole n r.0 q r.2) r.1)) (once_parts n l (once_tail q l o))
 
-  pub listed_once : ((i : ℕ) → Once (get_or p.ranges i [])) → AllPairs ◌≢◌ (map (parts (length p.subtasks)) (below (options p) (is_good p) (levels p) [] 0))
-  listed_once o =
-      once_parts (length p.subtasks) (below (options p) (is_good p) (levels p) [] 0) (once_below (options p) (is_good p) (options_once p o) (levels p) [])
+  pub listed_once : AreRows p → ((i : ℕ) → Once (get_or p.ranges i [])) → AllPairs ◌≢◌ (map (parts (length p.subtasks)) (below (options p) (is_good p) (levels p) [] 0))
+  listed_once rows o =
+      once_parts (length p.subtasks) (below (options p) (is_good p) (levels p) [] 0) (once_below (options p) (is_good p) (options_once p rows o) (levels p) [])
 
 pub ranges_once : (w : Typing) (rs : List (List ℕ)) (ts : List ℕ) → AreRanges w rs ts → (i : ℕ) → Once (get_or rs i [])
 ranges_once w [] [] a i = once_none

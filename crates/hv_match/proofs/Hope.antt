@@ -1,11 +1,10 @@
 -- What may still lead to a match.
-use Rattle.std.proofs.Common.{◌≡◌, ℕ, zero, suc, ◌+◌, ◌<◌, ◌≤◌, Bool, true, false, not, ◌&&◌, List, [], ◌∷◌, ◌++◌, length, map, drop, get_or, slice_get, refl, sym, ap, ◌∙◌, arith, subst, if◌then◌else◌, Option, Some, None, ◌⊎◌, inl, inr, Contains}
+use Rattle.std.proofs.Common.{◌≡◌, ℕ, zero, suc, ◌+◌, ◌<◌, ◌≤◌, Bool, true, false, not, ◌&&◌, List, [], ◌∷◌, ◌++◌, length, map, drop, get_or, slice_get, refl, sym, ap, ◌∙◌, arith, subst, if◌then◌else◌, Option, Some, None, slice_index, All, ◌⊎◌, inl, inr, Contains}
 use Rattle.std.proofs.lemmas.List.{get_or_default}
-use Rattle.std.specs.Global.{Vec}
 use Rattle.std.specs.List.{AllZip}
-use Rattle.hv_lists.proofs.Contained.{none_in_empty}
-use Rattle.hv_lists.proofs.Pairs.{same_length}
+use Rattle.hv_lists.proofs.Contained.{contains_at, none_in_empty}
 use Rattle.hv_world.specs.Bindings.{object_of}
+use Rattle.hv_world.specs.Alike.{Key, key, keys, how_many, classes, class_sizes, class_of}
 use Rattle.hv_world.specs.Values.{Subtask, Atom}
 use Rattle.hv_world.specs.Views.{subtask_view, constraint_view}
 use Rattle.hv_world.specs.declared.formula.Subtask as code_subtask
@@ -13,14 +12,12 @@ use Rattle.hv_world.specs.declared.formula.Constraint as code_constraint
 use Rattle.hv_match.specs.Possible.{is_possible, are_possible}
 use Rattle.hv_match.specs.inside.Search.{below}
 use Rattle.hv_match.specs.inside.States.{rest}
-use Rattle.hv_match.specs.inside.Puzzles.{Work, Puzzle, options, places, values, is_good, child_at, children_for, may_do, places_where, bound, has, Done, IsMatch, Agrees, GoesOn, CannotDo, CannotHold, CannotBeTrue, holds, all_hold}
-use Rattle.hv_match.specs.inside.Tables.{subtask_key, number_of, size_for, AreKeys}
-use Rattle.hv_match.specs.declared.child_rows.RowKeys.{RowKeys}
+use Rattle.hv_match.specs.inside.Puzzles.{Work, Puzzle, options, places, values, is_good, child_at, bound, has, Done, AreRows, IsMatch, Agrees, GoesOn, CannotDo, CannotHold, CannotBeTrue, holds, all_hold}
+use Rattle.hv_match.specs.inside.Tables.{size_at}
 use Rattle.hv_match.proofs.Listing.{none_begins}
 use Rattle.hv_match.proofs.FirstPlaces.{agrees, get_left, get_taken}
 use Rattle.hv_match.proofs.Fitting.{good_match, mem_has}
-use Rattle.hv_match.proofs.MayDo.{places_there, done_may}
-use Rattle.hv_match.proofs.Rows.{number_at}
+use Rattle.hv_match.proofs.Rows.{size_of}
 use Rattle.hv_match.proofs.Scarce.{no_more}
 
 -- no match goes on from some choices
@@ -140,34 +137,23 @@ none_uneven pz uneven k = none_fits pz [] (λ q xs e m. uneven (sym m.all ∙ sa
 pub none_given : (pz : Puzzle) → ((B : List ℕ) → Agrees pz [] B → map (object_of B) pz.task ≡ pz.objects → ⊥) → (k : ℕ) → below (options pz) (is_good pz) k [] 0 ≡ []
 none_given pz clash k = none_fits pz [] (λ q xs e m. clash (values pz q) (goes_on pz [] q xs e m).agrees m.task) k
 
--- too few children for the subtasks with a key
-absent : (keys : List (Vec ℕ)) (ss : List Subtask) (is : List ℕ) (f : ℕ → ℕ) → map (λ s. number_of (subtask_key s) keys) ss ≡ map Some is → (j : ℕ) → slice_get ss j ≡ None → ◌≡◌ {A = ℕ} (elim (slice_get is j) [ None ↦ 0 | Some i ↦ f i ]) 0
-absent keys [] [] f e j h = refl
-absent keys [] (i ∷ is) f e j h = cc
-absent keys (s ∷ ss) [] f e j h = cc
-absent keys (s ∷ ss) (i ∷ is) f e zero h = cc
-absent keys (s ∷ ss) (i ∷ is) f e (suc j) h = let g : map (λ s. number_of (subtask_key s) keys) ss ≡ map Some is = cc in absent keys ss is f g j h
-
-as_many : (keys : List (Vec ℕ)) (ss : List Subtask) (is : List ℕ) → map (λ s. number_of (subtask_key s) keys) ss ≡ map Some is → length is ≡ length ss
-as_many keys [] [] e = refl
-as_many keys [] (i ∷ is) e = cc
-as_many keys (s ∷ ss) [] e = cc
-as_many keys (s ∷ ss) (i ∷ is) e = let g : map (λ s. number_of (subtask_key s) keys) ss ≡ map Some is = cc in ap suc (as_many keys ss is g)
-
-pub none_scarce : (pz : Puzzle) (ks : RowKeys) (j : ℕ) → AreKeys pz.subtasks ks → length (children_for pz j) < size_for ks j → (k : ℕ) → below (options pz) (is_good pz) k [] 0 ≡ []
-none_scarce pz ks j keys few k = none_fits pz [] (λ q xs e m. go q m (slice_get pz.subtasks j) refl few) k
+-- too few children for alike subtasks
+pub none_scarce : (pz : Puzzle) → AreRows pz → ((ks : List Key) → All (λ c. c.1 ≡ how_many c.0 ks) (classes ks)) → (j : ℕ) → length (pz.rows j) < size_at pz.subtasks j → (k : ℕ) → below (options pz) (is_good pz) k [] 0 ≡ []
+none_scarce pz rows sizes j few k = none_fits pz [] (λ q xs e m. go q m (slice_get pz.subtasks j) refl few) k
   where
-    none : (j : ℕ) → slice_get pz.subtasks j ≡ None → size_for ks j ≡ 0
-    none j e = absent ks.keys.keys pz.subtasks ks.row_of.items (λ i. get_or ks.sizes.items i 0) keys.numbers j e
+    of_class : (q : List ℕ) → IsMatch pz (places pz q) (values pz q) → (t : Subtask) → slice_get pz.subtasks j ≡ Some t → (o : Option ℕ) → class_of pz.subtasks t ≡ o
+        → length (pz.rows j) < (elim o [ None ↦ 0 | Some i ↦ slice_index (class_sizes pz.subtasks) i ]) → ⊥
+    of_class q m t e None f few = omega (arith, few)
+    of_class q m t e (Some i) f few =
+        let ks = keys pz.subtasks in
+        let size = size_of ks (key pz.subtasks t) (classes ks) i (sizes ks) f in
+        let most = no_more pz.subtasks pz.children (values pz q) (places pz q) t (pz.rows j) m.once m.done (rows j t e) in
+        omega (arith, few, size, most)
 
-    go : (q : List ℕ) → IsMatch pz (places pz q) (values pz q) → (s : Option Subtask) → slice_get pz.subtasks j ≡ s → length {A = ℕ} (elim s [ None ↦ [] | Some t ↦ places_where (may_do t) 0 pz.children ]) < size_for ks j → ⊥
-    go q m None e few = let z = none j e in omega (arith, few, z)
-    go q m (Some t) e few =
-        let r = number_at ks.keys.keys pz.subtasks ks.row_of.items keys.numbers j t e in
-        let size : size_for ks j ≡ get_or ks.sizes.items r.0 0 = ap (λ (o : Option ℕ). elim o [ None ↦ 0 | Some i ↦ get_or ks.sizes.items i 0 ]) r.1 in
-        let many : length ks.row_of.items ≡ length (places pz q) = as_many ks.keys.keys pz.subtasks ks.row_of.items keys.numbers ∙ sym (same_length (Done pz.children (values pz q)) (places pz q) pz.subtasks m.done) in
-        let most = no_more pz.children (values pz q) ks.keys.keys r.0 ks.row_of.items (places pz q) pz.subtasks t m.once m.done keys.numbers many r.2 in
-        omega (arith, few, size, most, keys.sizes r.0)
+    go : (q : List ℕ) → IsMatch pz (places pz q) (values pz q) → (s : Option Subtask) → slice_get pz.subtasks j ≡ s
+        → length (pz.rows j) < (elim (elim s [ None ↦ None | Some t ↦ class_of pz.subtasks t ]) [ None ↦ 0 | Some i ↦ slice_index (class_sizes pz.subtasks) i ]) → ⊥
+    go q m None e few = omega (arith, few)
+    go q m (Some t) e few = of_class q m t e (class_of pz.subtasks t) refl few
 
 -- a subtask that no child may do
 pub get_at : (ss : List code_subtask.Subtask) (j : ℕ) (d : code_subtask.Subtask) → j < length ss → slice_get (map subtask_view ss) j ≡ Some (subtask_view (get_or ss j d))
@@ -175,12 +161,8 @@ get_at [] j d h = absurd (omega arith)
 get_at (s ∷ ss) zero d h = refl
 get_at (s ∷ ss) (suc j) d h = get_at ss j d (omega arith)
 
-pub child_there : (pz : Puzzle) (j : ℕ) (s : Subtask) → slice_get pz.subtasks j ≡ Some s → (B : List ℕ) (x : ℕ) → Done pz.children B x s → Contains (children_for pz j) x
-child_there pz j s e B x does =
-    let z : 0 + x ≡ x = omega arith in
-    let may : may_do s (child_at pz.children x) ≡ true = ap (may_do s) does ∙ done_may s B in
-    let there = subst (Contains (places_where (may_do s) 0 pz.children)) z (places_there (may_do s) 0 pz.children x refl may) in
-    subst (λ (o : Option Subtask). Contains (elim o [ None ↦ [] | Some t ↦ places_where (may_do t) 0 pz.children ]) x) (sym e) there
+pub child_there : (pz : Puzzle) → AreRows pz → (j : ℕ) (s : Subtask) → slice_get pz.subtasks j ≡ Some s → (B : List ℕ) (x : ℕ) → Done pz.children B x s → Contains (pz.rows j) x
+child_there pz rows j s e B x does = (rows j s e).all s (contains_at pz.subtasks j s e) refl B x does
 
 pub one_more : (pz : Puzzle) (row : List ℕ) (ss : List code_subtask.Subtask) (j : ℕ) (d : code_subtask.Subtask) (n : ℕ) → ((i : ℕ) → i < n → CannotDo pz [] (get_or row i 0) (subtask_view (get_or ss j d)))
     → CannotDo pz [] (get_or row n 0) (subtask_view (get_or ss j d)) → (i : ℕ) → i < n + 1 → CannotDo pz [] (get_or row i 0) (subtask_view (get_or ss j d))
@@ -193,14 +175,14 @@ one_more pz row ss j d n before here i lt = go (less_or_same i n lt)
     go (inl less) = before i less
     go (inr same) = subst (λ m. CannotDo pz [] (get_or row m 0) (subtask_view (get_or ss j d))) same here
 
-pub none_may : (pz : Puzzle) (ss : List code_subtask.Subtask) → pz.subtasks ≡ map subtask_view ss → (j : ℕ) (d : code_subtask.Subtask) → j < length ss
-    → (row : List ℕ) → row ≡ children_for pz j → (n : ℕ) → length row ≤ n → ((i : ℕ) → i < n → CannotDo pz [] (get_or row i 0) (subtask_view (get_or ss j d))) → (k : ℕ) → below (options pz) (is_good pz) k [] 0 ≡ []
-none_may pz ss are j d low row is n all cannot k = none_fits pz [] (λ q xs e m.
+pub none_may : (pz : Puzzle) → AreRows pz → (ss : List code_subtask.Subtask) → pz.subtasks ≡ map subtask_view ss → (j : ℕ) (d : code_subtask.Subtask) → j < length ss
+    → (row : List ℕ) → row ≡ pz.rows j → (n : ℕ) → length row ≤ n → ((i : ℕ) → i < n → CannotDo pz [] (get_or row i 0) (subtask_view (get_or ss j d))) → (k : ℕ) → below (options pz) (is_good pz) k [] 0 ≡ []
+none_may pz rows ss are j d low row is n all cannot k = none_fits pz [] (λ q xs e m.
     let B = values pz q in
     let s = subtask_view (get_or ss j d) in
     let r = zip_read pz.children B (places pz q) ss j d (subst (λ z. AllZip (Done pz.children B) (places pz q) z) are m.done) low in
     let at : slice_get pz.subtasks j ≡ Some s = ap (λ z. slice_get z j) are ∙ get_at ss j d low in
-    let there : Contains row r.0 = subst (λ (l : List ℕ). Contains l r.0) (sym is) (child_there pz j s at B r.0 r.2) in
+    let there : Contains row r.0 = subst (λ (l : List ℕ). Contains l r.0) (sym is) (child_there pz rows j s at B r.0 r.2) in
     let same : get_or row there.0 0 ≡ r.0 = get_or_default row there.0 0 r.0 there.1 ∙ there.2 in
     let within : there.0 < n = omega (arith, there.1, all) in
     cannot there.0 within B (goes_on pz [] q xs e m).agrees (subst (λ x. Done pz.children B x s) (sym same) r.2)) k

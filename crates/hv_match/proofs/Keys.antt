@@ -6,10 +6,11 @@ use Rattle.hv_lists.proofs.Contained.{at_head, in_tail}
 use Rattle.hv_lists.proofs.Pairs.{same_length}
 use Rattle.hv_world.specs.Bindings.{object_of}
 use Rattle.hv_world.specs.Values.{Term, object, variable, Subtask, subtask}
-use Rattle.hv_world.specs.Alike.{Key, key_with, key, keys, instance, subtask_instance}
+use Rattle.hv_world.specs.Alike.{Key, key_with, key, keys, instance, subtask_instance, classes, number_in, class_of}
 use Rattle.hv_world.specs.Values.{compound}
 use Rattle.hv_match.specs.inside.Counting.{IsMatching}
 use Rattle.hv_match.specs.inside.Puzzles.{Work, Puzzle, child_at, Done, IsMatch}
+use Rattle.hv_match.specs.inside.Tables.{class_of_work}
 
 work_key : List Subtask → Option Work → Key
 work_key ss None = key_with (compound 0) []
@@ -22,6 +23,12 @@ pub instances_are : (B : List ℕ) (ts : List Term) → map object (map (object_
 instances_are B [] = refl
 instances_are B (object o ∷ ts) = ap (λ (l : List Term). object o ∷ l) (instances_are B ts)
 instances_are B (variable v ∷ ts) = ap (λ (l : List Term). object (slice_index B v) ∷ l) (instances_are B ts)
+
+-- what a child does that does a subtask under some objects is of the class of the subtask
+pub class_is : (ss : List Subtask) → ((t : Subtask) (g : ℕ → ℕ) → Contains ss t → key ss (subtask_instance g t) ≡ key ss t) → (cs : List (Option Work)) (B : List ℕ) (x : ℕ) (t : Subtask) → Contains ss t → Done cs B x t
+    → class_of_work ss (child_at cs x) ≡ class_of ss t
+class_is ss instances cs B x t there d =
+    ap (class_of_work ss) d ∙ ap (λ ts. class_of ss (subtask t.name ts)) (instances_are B t.terms) ∙ ap (λ k. number_in k (classes (keys ss))) (instances t (slice_index B) there)
 
 module _ (pz : Puzzle) (instances : (s : Subtask) (g : ℕ → ℕ) → Contains pz.subtasks s → key pz.subtasks (subtask_instance g s) ≡ key pz.subtasks s) where
   done_key : (B : List ℕ) (x : ℕ) (s : Subtask) → Contains pz.subtasks s → Done pz.children B x s → child_key pz x ≡ key pz.subtasks s

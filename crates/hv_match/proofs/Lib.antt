@@ -6,7 +6,7 @@ pub mod Turns
 pub mod Factors
 pub mod Bounds
 pub mod Keys
-pub mod MayDo
+pub mod PlacesWhere
 pub mod Rows
 pub mod FirstPlaces
 pub mod Paths

@@ -2,12 +2,11 @@
 use Rattle.std.proofs.Common.{◌≡◌, ℕ, zero, suc, ◌+◌, ◌-◌, ◌≤◌, true, List, [], ◌∷◌, ◌++◌, length, get_or, slice_get, refl, sym, ap, ◌∙◌, arith, subst, append_assoc, length-append, Option, Some, None, Contains}
 use Rattle.std.proofs.lemmas.List.{append-nil}
 use Rattle.std.specs.List.{AllZip}
-use Rattle.hv_lists.proofs.Contained.{at_head}
+use Rattle.hv_lists.proofs.Contained.{at_head, contains_at}
 use Rattle.hv_lists.proofs.Pairs.{same_length}
 use Rattle.hv_world.specs.Values.{Subtask}
 use Rattle.hv_match.specs.inside.Search.{IsPath}
-use Rattle.hv_match.specs.inside.Puzzles.{Work, Puzzle, child_at, bound, pick, may_do, places_where, options, Done, IsMatch}
-use Rattle.hv_match.proofs.MayDo.{places_there, done_may}
+use Rattle.hv_match.specs.inside.Puzzles.{Work, Puzzle, child_at, bound, pick, options, Done, AreRows, IsMatch}
 use Rattle.hv_match.proofs.FirstPlaces.{forced_bound}
 
 path_from : (f : List ℕ → List ℕ) (p xs : List ℕ) → ((ys : List ℕ) (x : ℕ) (zs : List ℕ) → xs ≡ ys ++ x ∷ zs → Contains (f (p ++ ys)) x) → IsPath f p xs
@@ -52,8 +51,8 @@ zip_split R [] x zs (t ∷ ts) a = a.0
 zip_split R (u ∷ us) x zs [] a = absurd a
 zip_split R (u ∷ us) x zs (t ∷ ts) a = zip_split R us x zs ts a.1
 
-pub candidate_path : (pz : Puzzle) (M B : List ℕ) → IsMatch pz M B → IsPath (options pz) [] (M ++ B)
-candidate_path pz M B c = path_from (options pz) [] (M ++ B) (λ ys x zs e. go ys x zs e (slice_get pz.subtasks (length ys)) refl)
+pub candidate_path : (pz : Puzzle) → AreRows pz → (M B : List ℕ) → IsMatch pz M B → IsPath (options pz) [] (M ++ B)
+candidate_path pz rows M B c = path_from (options pz) [] (M ++ B) (λ ys x zs e. go ys x zs e (slice_get pz.subtasks (length ys)) refl)
   where
     size : length M ≡ length pz.subtasks
     size = same_length (Done pz.children B) M pz.subtasks c.done
@@ -63,12 +62,8 @@ candidate_path pz M B c = path_from (options pz) [] (M ++ B) (λ ys x zs e. go y
     param us x zs e i j (Some o) b = let f : o ≡ get_or B i 0 = forced_bound pz M B us i o c b in let k : get_or B i 0 ≡ x = rw (e, j) (at_split us x zs) in at_head o [] x (sym (f ∙ k))
 
     go : (ys : List ℕ) (x : ℕ) (zs : List ℕ) → M ++ B ≡ ys ++ x ∷ zs → (o : Option Subtask) → slice_get pz.subtasks (length ys) ≡ o →
-        Contains (elim o [ Some s ↦ places_where (may_do s) 0 pz.children | None ↦ pick (bound pz ys (length ys - length pz.subtasks)) (get_or pz.ranges (length ys - length pz.subtasks) []) ]) x
-    go ys x zs e (Some s) b =
-        let d = done_at pz.children B M B ys x zs pz.subtasks s c.done e b in
-        let n : may_do s (child_at pz.children x) ≡ true = ap (may_do s) d ∙ done_may s B in
-        let z : 0 + x ≡ x = omega arith in
-        subst (λ y. Contains (places_where (may_do s) 0 pz.children) y) z (places_there (may_do s) 0 pz.children x refl n)
+        Contains (elim o [ Some s ↦ pz.rows (length ys) | None ↦ pick (bound pz ys (length ys - length pz.subtasks)) (get_or pz.ranges (length ys - length pz.subtasks) []) ]) x
+    go ys x zs e (Some s) b = (rows (length ys) s b).all s (contains_at pz.subtasks (length ys) s b) refl B x (done_at pz.children B M B ys x zs pz.subtasks s c.done e b)
     go ys x zs e None b =
         let ge : length pz.subtasks ≤ length ys = past_all pz.subtasks (length ys) b in
         let r = split_right M B ys x zs e (omega (arith, size)) in

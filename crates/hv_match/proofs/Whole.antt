@@ -9,8 +9,7 @@ use Rattle.hv_world.specs.Values.{Subtask}
 use Rattle.hv_world.specs.Alike.{is_free, Key, key, keys, subtask_instance}
 use Rattle.hv_lists.specs.Lists.{Once}
 use Rattle.hv_match.specs.inside.Search.{IsWanted, below}
-use Rattle.hv_match.specs.inside.Puzzles.{Puzzle, bound, pick, may_do, places_where, options, IsMatch, widths, ways}
-use Rattle.hv_match.proofs.MayDo.{places_once}
+use Rattle.hv_match.specs.inside.Puzzles.{Puzzle, bound, pick, options, AreRows, IsMatch, widths, ways}
 use Rattle.hv_match.proofs.FirstPlaces.{free_unbound, bound_some}
 use Rattle.hv_match.specs.Counts.{product}
 use Rattle.hv_match.specs.inside.Counting.{first_alike, rising, tower, IsMatching}
@@ -18,13 +17,13 @@ use Rattle.hv_match.proofs.Members.{at_most, once_none}
 use Rattle.hv_match.proofs.Bounds.{bounded, few_matches}
 use Rattle.hv_match.proofs.Keys.{child_key, matching}
 
-pub options_once : (pz : Puzzle) → ((i : ℕ) → Once (get_or pz.ranges i [])) → (p : List ℕ) → Once (options pz p)
-options_once pz o p = go (slice_get pz.subtasks (length p)) (bound pz p (length p - length pz.subtasks))
+pub options_once : (pz : Puzzle) → AreRows pz → ((i : ℕ) → Once (get_or pz.ranges i [])) → (p : List ℕ) → Once (options pz p)
+options_once pz rows o p = go (slice_get pz.subtasks (length p)) refl (bound pz p (length p - length pz.subtasks))
   where
-    go : (b : Option Subtask) (r : Option ℕ) → Once (elim b [ Some s ↦ places_where (may_do s) 0 pz.children | None ↦ pick r (get_or pz.ranges (length p - length pz.subtasks) []) ])
-    go (Some s) r = places_once (may_do s) 0 pz.children
-    go None None = o (length p - length pz.subtasks)
-    go None (Some x) = once_more x [] (λ m. none_in_empty x m) once_none
+    go : (b : Option Subtask) → slice_get pz.subtasks (length p) ≡ b → (r : Option ℕ) → Once (elim b [ Some s ↦ pz.rows (length p) | None ↦ pick r (get_or pz.ranges (length p - length pz.subtasks) []) ])
+    go (Some s) e r = (rows (length p) s e).once
+    go None e None = o (length p - length pz.subtasks)
+    go None e (Some x) = once_more x [] (λ m. none_in_empty x m) once_none
 
 no_more : (ss : List Subtask) (i : ℕ) → length ss ≤ i → slice_get ss i ≡ None
 no_more [] i h = refl
@@ -33,7 +32,7 @@ no_more (s ∷ ss) (suc i) h = no_more ss i (omega arith)
 
 object_options : (pz : Puzzle) (q : List ℕ) → length pz.subtasks ≤ length q → options pz q ≡ pick (bound pz q (length q - length pz.subtasks)) (get_or pz.ranges (length q - length pz.subtasks) [])
 object_options pz q h =
-    ap (λ (o : Option Subtask). elim o [ Some s ↦ places_where (may_do s) 0 pz.children | None ↦ pick (bound pz q (length q - length pz.subtasks)) (get_or pz.ranges (length q - length pz.subtasks) []) ]) (no_more pz.subtasks (length q) h)
+    ap (λ (o : Option Subtask). elim o [ Some s ↦ pz.rows (length q) | None ↦ pick (bound pz q (length q - length pz.subtasks)) (get_or pz.ranges (length q - length pz.subtasks) []) ]) (no_more pz.subtasks (length q) h)
 
 take_past : (n : ℕ) (p : List ℕ) (y : ℕ) (t : List ℕ) → length p < n → (u : List ℕ) × (take n (p ++ y ∷ t) ≡ p ++ y ∷ u)
 take_past zero p y t h = absurd (omega arith)
@@ -83,7 +82,7 @@ lt-ltb' a b h = grind (arith, nat_tests)
 ge-ltb' : (a b : ℕ) → b ≤ a → nat_lt a b ≡ false
 ge-ltb' a b h = grind (arith, nat_tests)
 
-module _ (pz : Puzzle) (instances : (s : Subtask) (g : ℕ → ℕ) → Contains pz.subtasks s → key pz.subtasks (subtask_instance g s) ≡ key pz.subtasks s) (o : (i : ℕ) → Once (get_or pz.ranges i [])) (good : List ℕ → Bool)
+module _ (pz : Puzzle) (instances : (s : Subtask) (g : ℕ → ℕ) → Contains pz.subtasks s → key pz.subtasks (subtask_instance g s) ≡ key pz.subtasks s) (rows : AreRows pz) (o : (i : ℕ) → Once (get_or pz.ranges i [])) (good : List ℕ → Bool)
     (right : (q : List ℕ) → good q ≡ true → IsMatch pz (take (length pz.subtasks) q) (drop (length pz.subtasks) q)) where
   factor : ℕ → ℕ
   factor l = if nat_lt l (length pz.subtasks) then first_alike (drop l (keys pz.subtasks)) else get_or (widths pz 0 pz.ranges) (l - length pz.subtasks) 0
@@ -132,7 +131,7 @@ module _ (pz : Puzzle) (instances : (s : Subtask) (g : ℕ → ℕ) → Contains
   pub at_most_count : length (below (options pz) good (length pz.subtasks + length pz.ranges) [] 0) ≤ ways pz
   unfolding factor
   at_most_count =
-      let b = bounded (options pz) good (length pz.subtasks + length pz.ranges) factor (options_once pz o) few (length pz.subtasks + length pz.ranges) [] (omega arith) tt in
+      let b = bounded (options pz) good (length pz.subtasks + length pz.ranges) factor (options_once pz rows o) few (length pz.subtasks + length pz.ranges) [] (omega arith) tt in
       let s = tower_split factor 0 (length pz.subtasks) (length pz.ranges) in
       let kl : length (keys pz.subtasks) ≡ length pz.subtasks = length-map pz.subtasks (key pz.subtasks) in
       let t : tower factor 0 (length (keys pz.subtasks)) ≡ rising (keys pz.subtasks) = tower_keys factor 0 (keys pz.subtasks) (λ j h. let z : 0 + j ≡ j = omega arith in let l = lt-ltb' j (length pz.subtasks) (omega (arith, kl, h)) in rw (z, l) refl) in

@@ -1,8 +1,8 @@
 -- How the children of a node of a plan's tree can stand for the subtasks of its method.
 use Rattle.std.specs.Prelude.{◌≡◌, ◌↔◌, ◌<◌, ℕ, true, List, [], ◌∷◌, ◌++◌, map, length, take, slice_get, slice_index, Option, Some, None, option_map, option_and_then, IsSome, MatchOption, All, Contains, Bool, IsTrue, MatchBool}
 use Rattle.std.specs.List.{AllZip}
-use Rattle.hv_world.specs.Values.{object, Subtask, subtask, Constraint, compound, primitive}
-use Rattle.hv_world.specs.Alike.{instance, subtask_instance}
+use Rattle.hv_world.specs.Values.{object, Subtask, Constraint, compound, primitive}
+use Rattle.hv_world.specs.Alike.{instance, subtask_instance, with_objects}
 use Rattle.hv_world.specs.Bindings.{GroundAction, object_number}
 use Rattle.hv_lists.specs.Lists.{Once}
 use Rattle.hv_world.specs.Worlds.{World, Method, terms_of}
@@ -19,10 +19,10 @@ use Rattle.hv_match.specs.Possible.{are_possible}
 
 -- what an action and a node do: a subtask with objects for terms
 abbrev pub action_task : GroundAction → Subtask
-action_task a = subtask (primitive a.action) (map object a.objects)
+action_task a = with_objects (primitive a.action) a.objects
 
 abbrev pub node_task : Node → Option Subtask
-node_task n = option_map (λ k. subtask (compound k) (map object n.objects)) n.task
+node_task n = option_map (λ k. with_objects (compound k) n.objects) n.task
 
 -- what a child does, where the tree has it
 abbrev pub child_task : PlanTree → Item → Option Subtask

@@ -6,28 +6,28 @@ ghost use Rattle.hv_world.specs.Views.{term_view};
 ghost use Rattle.hv_match.specs.inside.Search.{NothingBegins};
 ghost use Rattle.hv_match.specs.inside.Puzzles.{IsForetold};
 
-use crate::child_rows::RowKeys;
+use crate::child_rows::class_size;
 use crate::puzzle::{Puzzle, object_at};
 use crate::sources::{Source, write_terms};
 use hv_text::Memory;
-use hv_world::{Subtask, Term};
+use hv_world::{Network, Term};
 use std::alloc::Global;
 
-/// For each parameter its place in the last subtask that has it and alone has its key. The table is
-/// empty where each subtask alone has its key, so that no child has a rival. Only the time of the
-/// search hangs on it.
+/// For each parameter its place in the last subtask that has it and is alone in its class. The table
+/// is empty where each subtask is alone in its class, so that no child has a rival. Only the time of
+/// the search hangs on it.
 pub(crate) fn tellers(
     alloc: Global,
     parameters: usize,
-    subtasks: &[Subtask],
-    keys: &RowKeys,
+    network: &Network,
 ) -> Result<Vec<Option<Source>>, Memory> {
-    if !keys.has_rivals() {
+    let subtasks = network.subtasks();
+    if network.class_sizes().len() == subtasks.len() {
         return Ok(Vec::new(alloc));
     }
     let mut tellers = vec![in alloc; None; parameters]?;
     for (number, subtask) in subtasks.iter().enumerate() {
-        if keys.size(number) == 1 {
+        if class_size(network, number) == 1 {
             write_terms(&mut tellers, Some(number), &subtask.terms);
         }
     }

@@ -15,7 +15,7 @@ ghost use Rattle.hv_match.specs.inside.Checks.{tasks_of, tasks_at};
 ghost use Rattle.hv_match.specs.inside.Tables.{work_view};
 ghost use Rattle.hv_match.specs.inside.Ranges.{AreRangesOf, AreWorks, as_subtask, IsTableOf};
 
-use crate::child_rows::{child_rows_for, row_keys};
+use crate::child_rows::child_rows;
 use crate::counts::exact_count;
 use crate::decided::{decided, decided_atoms};
 use crate::foretold::tellers;
@@ -121,11 +121,11 @@ pub(crate) fn method_table<'w>(
 {
     let ranges = ranges(alloc, world, method.parameters())?;
     let task = terms(method);
-    let subtasks = method.network().subtasks();
-    let constraints = method.network().constraints();
-    let keys = row_keys(alloc, subtasks)?;
+    let network = method.network();
+    let subtasks = network.subtasks();
+    let constraints = network.constraints();
     let sources = sources(alloc, ranges.len(), task, subtasks)?;
-    let tellers = tellers(alloc, ranges.len(), subtasks, &keys)?;
+    let tellers = tellers(alloc, ranges.len(), network)?;
     let decided = decided(alloc, subtasks.len(), &sources, constraints)?;
     let needed = needed_atoms(alloc, method.precondition())?;
     let needed_by = decided_atoms(alloc, subtasks.len(), &sources, &needed)?;
@@ -133,9 +133,9 @@ pub(crate) fn method_table<'w>(
     Ok(MethodTable {
         ranges,
         task,
+        network,
         subtasks,
         constraints,
-        keys,
         decided,
         sources,
         tellers,
@@ -164,7 +164,7 @@ pub(crate) fn puzzle<'a>(
     if u32::try_from(children.len()).is_err() {
         return Err(Memory);
     }
-    let places = child_rows_for(alloc, &table.keys, table.subtasks, &children)?;
+    let places = child_rows(alloc, table.network, &children)?;
     Ok(Puzzle {
         table,
         objects: node.objects(),

@@ -5,8 +5,9 @@ ghost use Rattle.hv_world.specs.Views.{term_view, constraint_view};
 ghost use Rattle.hv_match.specs.inside.Search.{NothingBegins};
 ghost use Rattle.hv_match.specs.inside.Puzzles.{CannotHold, IsChosen, IsKnown, IsValue};
 
+use crate::child_rows::class_size;
 use crate::puzzle::{Puzzle, agree, is_in};
-use hv_world::{Constraint, Term};
+use hv_world::{Constraint, Term, classes_are_counted};
 
 // Where the subtasks are fewer, the search is as fast as a look at each of them; where they are
 // more, such a look may take as long as the search.
@@ -151,12 +152,13 @@ impl Puzzle<'_> {
         false
     }
 
-    // Whether the subtasks with the key of one are more than the children that may do it.
+    // Whether the subtasks of the class of one are more than the children that are tried for it.
     fn is_scarce(&self, subtask: usize) -> bool
         requires { subtask < length self.now.table.now.subtasks.now }
         ensures { result ≡ true → NothingBegins (search_of self.now) [] }
     {
-        self.places.row(subtask).len() < self.table.keys.size(subtask)
+        classes_are_counted();
+        self.places.row(subtask).len() < class_size(self.table.network, subtask)
     }
 
     // Whether no child may do a subtask, by what the task says.
@@ -174,7 +176,7 @@ impl Puzzle<'_> {
         true
     }
 
-    // Whether some subtasks with one key are more than the children that may do them.
+    // Whether some alike subtasks are more than the children that are tried for them.
     fn is_any_scarce(&self) -> bool
         ensures { result ≡ true → NothingBegins (search_of self.now) [] }
     {

@@ -30,12 +30,13 @@ pub(crate) struct Puzzle<'a> {
     pub(crate) table: &'a MethodTable<'a>,
     pub(crate) objects: &'a [ObjectId],
     pub(crate) children: Vec<Option<Work<'a>>>,
-    /// For each subtask the places of the children that may do it.
+    /// For each subtask the places of the children that are tried for it.
     pub(crate) places: ChildRows<'a>,
     /// The atoms that are ever true where the node may begin, where it counts when they are.
     pub(crate) ever: Option<EverTrue<'a>>,
     pub(crate) ghost short: { length children.items < 2 ^ 32 },
-    pub(crate) ghost placed: { ArePlaces table.now.subtasks.now children.items places },
+    pub(crate) ghost placed: { ArePlaces (map subtask_view table.now.subtasks.now) children.items
+        places },
 }
 
 /// The object at a position.
@@ -310,11 +311,10 @@ fn row_choice(row: &[usize], number: usize) -> Option<usize>
 impl Puzzle<'_> {
     ghost use Rattle.hv_match.specs.inside.PuzzleViews.{puzzle_view, search_of};
 
-    // The place of a number among those of the children that may do a subtask.
+    // The place of a number among those of the children that are tried for a subtask.
     fn child_choice(&self, subtask: usize, number: usize) -> Option<usize>
         requires { subtask < length self.now.table.now.subtasks.now }
-        ensures choice { IsChoice (puzzles.children_for (puzzle_view self.now) subtask) number
-            result }
+        ensures choice { IsChoice ((puzzle_view self.now).rows subtask) number result }
         ensures small { IsSome result → number + 1 < 2 ^ 64 }
         ensures within { IfSome result (λ x. x < length self.now.children.items) }
     {

@@ -1,12 +1,12 @@
 //! What the search keeps of a method.
 
-ghost use Rattle.std.specs.Prelude.{map, length};
+ghost use Rattle.std.specs.Prelude.{◌≡◌, map, length};
+ghost use Rattle.hv_world.specs.NetworkViews.{network_view};
 ghost use Rattle.hv_world.specs.Views.{subtask_view};
-ghost use Rattle.hv_match.specs.inside.Tables.{AreKeys, AreSourcesOf};
+ghost use Rattle.hv_match.specs.inside.Tables.{AreSourcesOf};
 
-use crate::child_rows::RowKeys;
 use crate::sources::Source;
-use hv_world::{Atom, Constraint, Range, Subtask, Term};
+use hv_world::{Atom, Constraint, Network, Range, Subtask, Term};
 
 /// What the search keeps of a method, whichever node it decomposes.
 #[derive(Drop)]
@@ -15,13 +15,13 @@ pub(crate) struct MethodTable<'w> {
     pub(crate) ranges: Vec<Range<'w>>,
     /// The terms of the task.
     pub(crate) task: &'w [Term],
+    pub(crate) network: &'w Network,
+    /// Those of the network.
     pub(crate) subtasks: &'w [Subtask],
     pub(crate) constraints: &'w [Constraint],
-    /// For each subtask the key of the children that may do it.
-    pub(crate) keys: RowKeys,
     /// For each parameter the place from which it has its object.
     pub(crate) sources: Vec<Option<Source>>,
-    /// For each parameter a place in a subtask that alone has its key, if some do not.
+    /// For each parameter a place in a subtask that is alone in its class, if some are not.
     pub(crate) tellers: Vec<Option<Source>>,
     /// For each number of choices the numbers of the constraints that so many decide.
     pub(crate) decided: Vec<Vec<usize>>,
@@ -31,6 +31,6 @@ pub(crate) struct MethodTable<'w> {
     pub(crate) needed_by: Vec<Vec<usize>>,
     /// The count, if 64 bits hold it.
     pub(crate) count: Option<u64>,
-    pub(crate) ghost keyed: { AreKeys (map subtask_view subtasks.now) keys },
+    pub(crate) ghost listed: { map subtask_view subtasks.now ≡ (network_view network.now).subtasks },
     pub(crate) ghost sourced: { AreSourcesOf (length ranges.items) task.now subtasks.now sources.items },
 }

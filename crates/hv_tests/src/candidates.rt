@@ -216,15 +216,44 @@ const ONE_GIVEN_TO_ANOTHER: &[u8] = b"==>\n\
     6 give o5 o4\n7 give o1 o5\n8 give o3 o5\n9 give o5 o2\n\
     root 1 2 3 4 5 6 7 8 9\n<==";
 
+// Subtasks of one name that are told apart by their second object alone.
+const GIVE_TO_NINE: &[u8] = b"(define (problem nine)\n\
+    (:domain giving)\n\
+    (:objects o1 o2 o3 o4 o5 o6 o7 o8 o9)\n\
+    (:htn :parameters (?x) :subtasks (and\n\
+    (give ?x o1) (give ?x o2) (give ?x o3) (give ?x o4) (give ?x o5)\n\
+    (give ?x o6) (give ?x o7) (give ?x o8) (give ?x o9)))\n\
+    (:init))";
+
+const GIVEN_TO_NINE: &[u8] = b"==>\n\
+    1 give o5 o3\n2 give o5 o2\n3 give o5 o9\n4 give o5 o1\n5 give o5 o8\n\
+    6 give o5 o4\n7 give o5 o5\n8 give o5 o6\n9 give o5 o7\n\
+    root 1 2 3 4 5 6 7 8 9\n<==";
+
+// One of the children gives another's.
+const GIVEN_BY_TWO: &[u8] = b"==>\n\
+    1 give o5 o3\n2 give o5 o2\n3 give o5 o9\n4 give o5 o1\n5 give o4 o8\n\
+    6 give o5 o4\n7 give o5 o5\n8 give o5 o6\n9 give o5 o7\n\
+    root 1 2 3 4 5 6 7 8 9\n<==";
+
+// Two of them give to one, and none to another.
+const GIVEN_TO_EIGHT: &[u8] = b"==>\n\
+    1 give o5 o3\n2 give o5 o2\n3 give o5 o9\n4 give o5 o1\n5 give o5 o8\n\
+    6 give o5 o4\n7 give o5 o5\n8 give o5 o7\n9 give o5 o7\n\
+    root 1 2 3 4 5 6 7 8 9\n<==";
+
 #[test]
 fn candidates_are_as_many_as_the_examples_say(rt: HostRuntime) {
-    let questions: [(Question, u64, usize); 12] = [
+    let questions: [(Question, u64, usize); 15] = [
         ((TRANSPORT, ONE, PLAN1, Some(10)), 2, 1),
         ((TRANSPORT, ONE, PLAN1, None), 1, 1),
         ((TRANSPORT, THREE_TASKS, THREE_DONE, None), 1, 1),
         ((GIVING, GIVE_NINE, NINE_GIVEN, None), 362_880, 1),
         ((GIVING, GIVE_NINE, ONE_GIVEN_TWICE, None), 362_880, 0),
         ((GIVING, GIVE_NINE, ONE_GIVEN_TO_ANOTHER, None), 362_880, 0),
+        ((GIVING, GIVE_TO_NINE, GIVEN_TO_NINE, None), 1, 1),
+        ((GIVING, GIVE_TO_NINE, GIVEN_BY_TWO, None), 1, 0),
+        ((GIVING, GIVE_TO_NINE, GIVEN_TO_EIGHT, None), 1, 0),
         ((WIDE, THREE, LINE_5, Some(5)), 9, 9),
         ((WIDE, THREE, LINE_5, None), 1, 1),
         ((MANY, MUCH, MANY_DONE, Some(20)), 1_307_674_368_000, 1),

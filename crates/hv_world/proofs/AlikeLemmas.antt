@@ -97,11 +97,11 @@ row_kept ss s n row row' e says marks k =
 pub row_made : (ss : List Subtask) (s : Subtask) (n : TaskName) (row : List Bool) → same_name s.name n ≡ true → RowSays ss n None
     → ((k : ℕ) → is_marked row k ≡ has_object s.terms k) → RowSays (ss ++ s ∷ []) n (Some row)
 row_made ss s n row e says marks k =
-    marks k ∙ sym (ap (λ b. b && has_object s.terms k) (says k)) ∙ ap (λ b. is_fixed ss n k && (if b then has_object s.terms k else true)) (sym e) ∙ sym (fixed_more ss s n k)
+    marks k ∙ ap (λ b. b && has_object s.terms k) (says k) ∙ ap (λ b. is_fixed ss n k && (if b then has_object s.terms k else true)) (sym e) ∙ sym (fixed_more ss s n k)
 
 -- a row after a subtask of another name
 pub row_stays : (ss : List Subtask) (s : Subtask) (n : TaskName) (r : Option (List Bool)) → same_name s.name n ≡ false → RowSays ss n r → RowSays (ss ++ s ∷ []) n r
-row_stays ss s n None e says = λ k. fixed_more ss s n k ∙ ap (λ b. is_fixed ss n k && (if b then has_object s.terms k else true)) e ∙ and_true (is_fixed ss n k) ∙ says k
+row_stays ss s n None e says = λ k. says k ∙ sym (fixed_more ss s n k ∙ ap (λ b. is_fixed ss n k && (if b then has_object s.terms k else true)) e ∙ and_true (is_fixed ss n k))
 row_stays ss s n (Some row) e says = λ k. says k ∙ sym (and_true (is_fixed ss n k)) ∙ ap (λ b. is_fixed ss n k && (if b then has_object s.terms k else true)) (sym e) ∙ sym (fixed_more ss s n k)
 
 pub lookup_same : {K X : Type 0} (t u : K → Bool) → ((x : K) → t x ≡ u x) → (es : List (K × X)) → lookup t es ≡ lookup u es

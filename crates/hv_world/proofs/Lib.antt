@@ -1,5 +1,6 @@
 mod AlikeLemmas
 pub mod AlikeLaws
+mod ClassLemmas
 pub mod CheckLemmas
 pub mod CycleLemmas
 pub mod FaultLemmas

@@ -1,5 +1,5 @@
 -- The classes of alike subtasks of a network, and its free parameters.
-use Rattle.std.specs.Prelude.{◌≡◌, ℕ, zero, suc, ◌+◌, Bool, true, false, not, ◌&&◌, if◌then◌else◌, nat_eq, List, [], ◌∷◌, map, filter, Option, None, Some, is_some, IsSome, Contains}
+use Rattle.std.specs.Prelude.{◌≡◌, ℕ, zero, suc, ◌+◌, Bool, true, false, not, ◌&&◌, if◌then◌else◌, nat_eq, List, [], ◌∷◌, map, filter, slice_get, Option, None, Some, option_map, is_some, IsSome, Contains}
 use Rattle.std.specs.List.{range_with_len}
 use Rattle.std.specs.Str.{bytes_eq}
 use Rattle.hv_world.specs.Values.{Term, object, variable, TaskName, compound, primitive, Subtask, subtask}
@@ -88,6 +88,23 @@ classes (k ∷ ks) = (k, how_many k (k ∷ ks)) ∷ without k (classes ks)
 -- the sizes of the classes, in order of first sight
 abbrev pub class_sizes : List Subtask → List ℕ
 class_sizes ss = map (λ c. c.1) (classes (keys ss))
+
+-- the number of the class with this key, the first of them with number 0
+abbrev pub number_in : Key → List (Key × ℕ) → Option ℕ
+number_in k [] = None
+number_in k (c ∷ cs) = if same_key k c.0 then Some 0 else option_map suc (number_in k cs)
+
+-- the number of the class of a subtask, in the order in which the classes are first seen
+abbrev pub class_of : List Subtask → Subtask → Option ℕ
+class_of ss s = number_in (key ss s) (classes (keys ss))
+
+-- the same of the subtask of a number
+abbrev pub class_at : List Subtask → ℕ → Option ℕ
+class_at ss j = elim (slice_get ss j) [ None ↦ None | Some s ↦ class_of ss s ]
+
+-- a subtask of this name with these objects for its terms
+abbrev pub with_objects : TaskName → List ℕ → Subtask
+with_objects n os = subtask n (map object os)
 
 -- a parameter that is an argument neither of the task nor of a subtask
 pub record IsFree (xs : List Term) (ss : List Subtask) (i : ℕ) : Type 0 where

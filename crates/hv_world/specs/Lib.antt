@@ -17,7 +17,6 @@ pub mod Bindings
 pub mod Groundings
 pub mod Effects
 pub mod Alike
-pub mod Seeds
 pub mod Views
 pub mod NetworkViews
 pub mod MethodViews

@@ -1,15 +1,16 @@
 //! The classes of alike subtasks of a network, and its free parameters.
 
-ghost use Rattle.std.specs.Prelude.{◌≡◌, ◌↔◌, ℕ, true, List, ◌++◌, ◌&&◌, ◌+◌, ◌<◌, ◌^◌, not, [], ◌∷◌, map, filter, length, Contains, All, AllPairs, ◌≢◌, IfOk, OnOk};
+ghost use Rattle.std.specs.Prelude.{◌≡◌, ◌↔◌, ℕ, true, List, ◌++◌, ◌&&◌, ◌+◌, ◌<◌, ◌^◌, not, [], ◌∷◌, map, filter, length, slice_get, Contains, All, AllPairs, ◌≢◌, Some, IfOk, OnOk};
 ghost use Rattle.std.specs.List.{range_with_len};
 ghost use Rattle.hv_world.specs.Alike as alike;
 ghost use Rattle.hv_world.specs.Alike.{is_object};
-ghost use Rattle.hv_world.specs.inside.Kept.{is_marked, kept_marks, RowsSay, counts_in, counted, key_view};
+ghost use Rattle.hv_world.specs.inside.Kept.{is_marked, kept_marks, RowsSay, counts_in, counted, key_view, AreClasses};
 ghost use Rattle.hv_world.specs.Values as value;
-ghost use Rattle.hv_world.specs.Views.{term_view, subtask_view};
+ghost use Rattle.hv_world.specs.Bindings.{object_number};
+ghost use Rattle.hv_world.specs.Views.{name_view, term_view, subtask_view};
 
 use crate::formula::{Subtask, Term};
-use crate::id::TaskName;
+use crate::id::{ObjectId, TaskName};
 use crate::seed::seed_of_subtasks;
 use hv_text::{Memory, Seeded};
 use indexmap::IndexMap;
@@ -156,38 +157,118 @@ fn key_of(
     })
 }
 
-// Counts one subtask more of a class.
-fn count(sizes: &mut IndexMap<Key, usize, Seeded>, key: Key) -> Result<(), Memory>
+// The objects at the marked positions, where all terms are objects.
+fn marked_ids(alloc: Global, marks: &[bool], ids: &[ObjectId]) -> Result<Vec<usize>, Memory>
+    ensures { IfOk result (λ v. v.items ≡ alike.fixed_objects (is_marked marks.now) 0
+        (map value.object (map object_number ids.now))) }
+{
+    let mut objects = Vec::new(alloc);
+    for (position, id) in ids.iter().enumerate() {
+        if is_marked(marks, position) {
+            objects.push(id.0)?;
+        }
+    }
+    Ok(objects)
+}
+
+// Counts one subtask more of a class, and gives the number of the class.
+fn count(sizes: &mut IndexMap<Key, usize, Seeded>, key: Key) -> Result<usize, Memory>
     requires small { All (λ c. c.1 + 1 < 2 ^ 64) (counts_in sizes.old) }
-    ensures { OnOk result (counts_in sizes.new ≡ counted (key_view key) (counts_in sizes.old)) }
+    ensures counted { OnOk result
+        (counts_in sizes.new ≡ counted (key_view key) (counts_in sizes.old)) }
+    ensures number { IfOk result
+        (λ n. alike.number_in (key_view key) (counts_in sizes.new) ≡ Some n) }
 {
     let size = sizes.get(&key).copied().unwrap_or(0);
-    sizes.insert(key, size + 1)?;
-    Ok(())
+    let (number, _) = sizes.insert_full(key, size + 1)?;
+    Ok(number)
 }
 
 // The sizes alone.
 fn sizes_in(alloc: Global, counts: &IndexMap<Key, usize, Seeded>) -> Result<Vec<usize>, Memory>
     ensures { IfOk result (λ v. v.items ≡ map (λ c. c.1) (counts_in counts.now)) }
 {
-    let mut sizes = Vec::new(alloc);
+    let mut sizes = Vec::with_capacity(alloc, counts.len())?;
     for size in counts.values() {
         sizes.push(*size)?;
     }
     Ok(sizes)
 }
 
-/// The sizes of the classes of alike subtasks, in the order in which a class is first seen.
-pub(crate) fn class_sizes(alloc: Global, subtasks: &[Subtask]) -> Result<Vec<usize>, Memory>
-    ensures { IfOk result (λ v. v.items ≡ alike.class_sizes (map subtask_view subtasks.now)) }
+// The number at a place.
+fn number_at(numbers: &[usize], place: usize) -> Option<usize>
+    ensures { result ≡ slice_get numbers.now place }
 {
-    let rows = fixed_positions(alloc, subtasks)?;
-    let mut counts = IndexMap::with_hasher(alloc, seed_of_subtasks(subtasks));
-    for subtask in subtasks {
-        let key = key_of(alloc, &rows, subtask)?;
-        count(&mut counts, key)?;
+    numbers.get(place).copied()
+}
+
+/// The classes of alike subtasks, in the order in which a class is first seen.
+#[derive(Drop)]
+pub(crate) struct Classes {
+    // For each name the marks of its fixed positions.
+    fixed: IndexMap<TaskName, Vec<bool>, Seeded>,
+    // For each class how many subtasks are of it.
+    counts: IndexMap<Key, usize, Seeded>,
+    // The same, in one list.
+    sizes: Vec<usize>,
+    // For each subtask the number of its class.
+    numbers: Vec<usize>,
+}
+
+impl Classes {
+    /// The classes of these subtasks.
+    pub(crate) fn new(alloc: Global, subtasks: &[Subtask]) -> Result<Classes, Memory>
+        ensures { IfOk result (AreClasses (map subtask_view subtasks.now)) }
+    {
+        let fixed = fixed_positions(alloc, subtasks)?;
+        let mut counts = IndexMap::with_hasher(alloc, seed_of_subtasks(subtasks));
+        let mut numbers = Vec::with_capacity(alloc, subtasks.len())?;
+        for subtask in subtasks {
+            let key = key_of(alloc, &fixed, subtask)?;
+            let number = count(&mut counts, key)?;
+            numbers.push(number)?;
+        }
+        let sizes = sizes_in(alloc, &counts)?;
+        Ok(Classes {
+            fixed,
+            counts,
+            sizes,
+            numbers,
+        })
     }
-    sizes_in(alloc, &counts)
+
+    /// How many subtasks are of each class.
+    pub(crate) fn sizes(&self) -> &[usize]
+        ensures { result.now ≡ self.now.sizes.items }
+    {
+        &self.sizes
+    }
+
+    /// The number of the class of the subtask of a number.
+    pub(crate) fn of(&self, subtask: usize) -> Option<usize>
+        ensures { (ss : List value.Subtask) → AreClasses ss self.now
+            → result ≡ alike.class_at ss subtask }
+    {
+        number_at(&self.numbers, subtask)
+    }
+
+    /// The number of the class of what has this name and these objects, if some subtask is of it.
+    pub(crate) fn find(
+        &self,
+        alloc: Global,
+        name: TaskName,
+        ids: &[ObjectId],
+    ) -> Result<Option<usize>, Memory>
+        ensures { IfOk result (λ r. (ss : List value.Subtask) → AreClasses ss self.now
+            → r ≡ alike.class_of ss (alike.with_objects (name_view name)
+            (map object_number ids.now))) }
+    {
+        let Some(marks) = self.fixed.get(&name) else {
+            return Ok(None);
+        };
+        let objects = marked_ids(alloc, marks, ids)?;
+        Ok(self.counts.get_index_of(&Key { name, objects }))
+    }
 }
 
 // Takes the mark off the parameter that the term is, if it is one.

@@ -50,6 +50,5 @@ pub use method::Method;
 pub use network::Network;
 pub use order::Order;
 pub use range::Range;
-pub use seed::seed_of_subtasks;
 pub use task::Task;
 pub use world::World;

@@ -3,9 +3,11 @@
 ghost use Rattle.std.specs.Prelude.{◌≡◌, map, IfOk};
 ghost use Rattle.hv_world.specs.Alike as alike;
 ghost use Rattle.hv_world.specs.Views.{subtask_view, constraint_view};
+ghost use Rattle.hv_world.specs.inside.Kept.{AreClasses};
 
-use crate::alike::class_sizes;
+use crate::alike::Classes;
 use crate::formula::{Constraint, Subtask};
+use crate::id::{ObjectId, TaskName};
 use crate::order::Order;
 use hv_text::Memory;
 use std::alloc::Global;
@@ -16,13 +18,15 @@ pub struct Network {
     subtasks: Vec<Subtask>,
     order: Order,
     constraints: Vec<Constraint>,
-    class_sizes: Vec<usize>,
-    ghost sized: { class_sizes.items ≡ alike.class_sizes (map subtask_view subtasks.items) },
+    classes: Classes,
+    ghost classed: { AreClasses (map subtask_view subtasks.items) classes },
 }
 
 impl Network {
     ghost use Rattle.hv_world.specs.Worlds.{network};
     ghost use Rattle.hv_world.specs.NetworkViews.{network_view};
+    ghost use Rattle.hv_world.specs.Bindings.{object_number};
+    ghost use Rattle.hv_world.specs.Views.{name_view};
 
     /// From its parts.
     pub(crate) fn new(
@@ -36,12 +40,12 @@ impl Network {
             ≡ network (map subtask_view subtasks.items) order
             (map constraint_view constraints.items)) }
     {
-        let class_sizes = class_sizes(alloc, &subtasks)?;
+        let classes = Classes::new(alloc, &subtasks)?;
         Ok(Network {
             subtasks,
             order,
             constraints,
-            class_sizes,
+            classes,
         })
     }
 
@@ -70,6 +74,27 @@ impl Network {
     pub fn class_sizes(&self) -> &[usize]
         ensures { result.now ≡ alike.class_sizes (network_view self.now).subtasks }
     {
-        &self.class_sizes
+        self.classes.sizes()
+    }
+
+    /// The number of the class of the subtask of a number, if there is such a subtask.
+    pub fn class_at(&self, subtask: usize) -> Option<usize>
+        ensures { result ≡ alike.class_at (network_view self.now).subtasks subtask }
+    {
+        self.classes.of(subtask)
+    }
+
+    /// The number of the class of what has this name and these objects, if some subtask is of that
+    /// class. Err only for want of memory.
+    pub fn class_for(
+        &self,
+        alloc: Global,
+        name: TaskName,
+        objects: &[ObjectId],
+    ) -> Result<Option<usize>, Memory>
+        ensures { IfOk result (λ r. r ≡ alike.class_of (network_view self.now).subtasks
+            (alike.with_objects (name_view name) (map object_number objects.now))) }
+    {
+        self.classes.find(alloc, name, objects)
     }
 }

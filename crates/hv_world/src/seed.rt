@@ -8,9 +8,8 @@ ghost use Rattle.hv_text.specs.Seeds.{start_of};
 ghost use Rattle.hv_syntax.specs.Views.{word_view, typed_view, variable_view};
 ghost use Rattle.hv_world.specs.Names.{names};
 ghost use Rattle.hv_world.specs.Known.{variables};
-ghost use Rattle.hv_world.specs.Seeds.{term_writes, subtask_writes};
 ghost use Rattle.hv_world.specs.Views.{term_view, subtask_view};
-ghost use Rattle.hv_world.specs.inside.Seeds.{with_taken_in, written_names};
+ghost use Rattle.hv_world.specs.inside.Seeds.{with_taken_in, written_names, term_writes, subtask_writes};
 ghost use Rattle.hv_world.specs.inside.Tables.{names_in};
 
 use crate::formula::{Subtask, Term};
@@ -93,7 +92,7 @@ fn with_terms(start: Seeded, terms: &[Term]) -> Seeded
 
 /// The hasher of a table whose keys are names and objects of these subtasks: its start has taken in
 /// all of them.
-pub fn seed_of_subtasks(subtasks: &[Subtask]) -> Seeded
+pub(crate) fn seed_of_subtasks(subtasks: &[Subtask]) -> Seeded
     ensures { start_of result
         ≡ fold sip.write sip.initial (flat_map subtask_writes (map subtask_view subtasks.now)) }
 {

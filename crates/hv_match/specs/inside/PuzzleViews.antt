@@ -6,7 +6,7 @@ use Rattle.hv_world.specs.Views.{term_view, subtask_view, constraint_view, atom_
 use Rattle.hv_state.specs.Ever.{ever_rows}
 use Rattle.hv_match.specs.inside.Puzzles.{Puzzle, options, is_good, levels}
 use Rattle.hv_match.specs.inside.Search.{Search}
-use Rattle.hv_match.specs.inside.Tables.{work_view}
+use Rattle.hv_match.specs.inside.Tables.{work_view, row_for}
 use Rattle.hv_match.specs.declared.puzzle.Puzzle as code
 
 abbrev pub puzzle_view : code.Puzzle → Puzzle
@@ -17,6 +17,7 @@ puzzle_view p = record {
   subtasks = map subtask_view p.table.now.subtasks.now;
   constraints = map constraint_view p.table.now.constraints.now;
   children = map (option_map work_view) p.children.items;
+  rows = row_for p.places;
   atoms = map (λ a. atom_view a.now) p.table.now.needed.items;
   ever = option_map ever_rows p.ever;
 }

@@ -3,7 +3,7 @@ use Rattle.std.specs.Prelude.{◌≡◌, ◌<◌, ◌≤◌, ◌*◌, ℕ, ◌+�
 use Rattle.std.specs.List.{AllZip}
 use Rattle.hv_world.specs.Values.{Term, object, variable, TaskName, Subtask, Constraint, Atom}
 use Rattle.hv_world.specs.Bindings.{object_of}
-use Rattle.hv_world.specs.Alike.{same_name, is_variable, is_free, keys, is_object}
+use Rattle.hv_world.specs.Alike.{same_name, is_variable, is_free, key, keys}
 use Rattle.hv_lists.specs.Lists.{Once}
 use Rattle.hv_match.specs.Possible.{is_possible, are_possible}
 use Rattle.hv_match.specs.Counts.{product}
@@ -19,8 +19,8 @@ abbrev pub work : TaskName → List ℕ → Work
 work n os = record { name = n; objects = os }
 
 -- the objects that each parameter may have, the terms of the task and the objects that stand for them, the subtasks, the
--- constraints, what the children do, the atoms that the precondition needs, and the rows of atoms that are ever true, where
--- these count
+-- constraints, what the children do, for the subtask of a number the places of the children that are tried for it, the atoms
+-- that the precondition needs, and the rows of atoms that are ever true, where these count
 pub record Puzzle : Type 0 where
   pub ranges : List (List ℕ)
   pub task : List Term
@@ -28,6 +28,7 @@ pub record Puzzle : Type 0 where
   pub subtasks : List Subtask
   pub constraints : List Constraint
   pub children : List (Option Work)
+  pub rows : ℕ → List ℕ
   pub atoms : List Atom
   pub ever : Option (List (List ℕ))
 
@@ -73,47 +74,20 @@ pick None os = os
 abbrev pub range_of : Puzzle → ℕ → List ℕ
 range_of p i = slice_index_or p.ranges i []
 
--- whether all terms are objects
-abbrev pub is_ground : List Term → Bool
-is_ground [] = true
-is_ground (t ∷ ts) = is_object t && is_ground ts
-
 -- the objects are those of the terms under B
 abbrev pub same_values : List ℕ → List Term → List ℕ → Bool
 same_values B [] [] = true
 same_values B (t ∷ ts) (o ∷ os) = nat_eq (object_of B t) o && same_values B ts os
 same_values B _ _ = false
 
--- the first of these terms that is an object, by its position, where that of the first of them is k, and its number
-abbrev pub first_fixed : ℕ → List Term → Option (ℕ × ℕ)
-first_fixed k [] = None
-first_fixed k (object o ∷ ts) = Some (k, o)
-first_fixed k (variable v ∷ ts) = first_fixed (k + 1) ts
-
--- the object stands at the position, if one is asked for
-abbrev pub stands_there : Option (ℕ × ℕ) → List ℕ → Bool
-stands_there None os = true
-stands_there (Some f) os = elim (slice_get os f.0) [ None ↦ false | Some o ↦ nat_eq o f.1 ]
-
--- whether a child may do a subtask, by its name, and, where all terms of the subtask are objects, by its objects, or
--- else by that of its objects that the first such term tells
-abbrev pub may_do : Subtask → Option Work → Bool
-may_do s None = false
-may_do s (Some c) =
-    same_name c.name s.name && (if is_ground s.terms then same_values [] s.terms c.objects else stands_there (first_fixed 0 s.terms) c.objects)
-
 -- the places of the children that pass a test, the first of the children at place k
 abbrev pub places_where : (Option Work → Bool) → ℕ → List (Option Work) → List ℕ
 places_where test k [] = []
 places_where test k (c ∷ cs) = if test c then k ∷ places_where test (k + 1) cs else places_where test (k + 1) cs
 
--- the places of the children that may do the subtask of a number
-abbrev pub children_for : Puzzle → ℕ → List ℕ
-children_for p j = elim (slice_get p.subtasks j) [ None ↦ [] | Some s ↦ places_where (may_do s) 0 p.children ]
-
 abbrev pub options : Puzzle → List ℕ → List ℕ
 options p q = elim (slice_get p.subtasks (length q)) [
-  | Some s ↦ places_where (may_do s) 0 p.children
+  | Some s ↦ p.rows (length q)
   | None ↦ pick (bound p q (length q - length p.subtasks)) (range_of p (length q - length p.subtasks))
 ]
 
@@ -180,6 +154,20 @@ is_good p q = nat_eq (length p.subtasks) (length p.children) && fits p (places p
 -- the child at place x does what the subtask says under B
 abbrev pub Done : List (Option Work) → List ℕ → ℕ → Subtask → Type 0
 Done cs B x s = child_at cs x ≡ Some (work s.name (map (object_of B) s.terms))
+
+-- A row that will do for a subtask: places of children, each once, and among them that of each child that does a subtask
+-- alike to it, under whatever objects
+pub record IsRow (ss : List Subtask) (cs : List (Option Work)) (s : Subtask) (row : List ℕ) : Type 0 where
+  pub once : Once row
+  pub within : (x : ℕ) → Contains row x → x < length cs
+  pub all : (t : Subtask) → Contains ss t → key ss t ≡ key ss s → (B : List ℕ) (x : ℕ) → Done cs B x t → Contains row x
+
+-- each subtask has such a row
+abbrev pub AreRowsOf : List Subtask → List (Option Work) → (ℕ → List ℕ) → Type 0
+AreRowsOf ss cs rows = (j : ℕ) (s : Subtask) → slice_get ss j ≡ Some s → IsRow ss cs s (rows j)
+
+abbrev pub AreRows : Puzzle → Type 0
+AreRows p = AreRowsOf p.subtasks p.children p.rows
 
 -- what the tests are for
 pub record IsMatch (p : Puzzle) (M B : List ℕ) : Type 0 where

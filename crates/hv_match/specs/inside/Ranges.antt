@@ -2,7 +2,8 @@
 use Rattle.std.specs.Prelude.{◌≡◌, ℕ, List, map, Option, None, MatchOption, option_map}
 use Rattle.std.specs.Borrow.{Bor}
 use Rattle.std.specs.List.{AllZip}
-use Rattle.hv_world.specs.Values.{object, Subtask, subtask}
+use Rattle.hv_world.specs.Values.{Subtask}
+use Rattle.hv_world.specs.Alike.{with_objects}
 use Rattle.hv_world.specs.Types.{Typing}
 use Rattle.hv_world.specs.Ranges.{IsRange, range_view}
 use Rattle.hv_world.specs.Worlds.{World, Method, terms_of}
@@ -28,7 +29,7 @@ AreRangesOf w rs ts = AreRanges w.typing (map range_view rs) (map type_number ts
 
 -- what a child does, as a subtask with objects for terms
 abbrev pub as_subtask : Work → Subtask
-as_subtask c = subtask c.name (map object c.objects)
+as_subtask c = with_objects c.name c.objects
 
 -- these are what children do
 abbrev pub AreWorks : List (Option Work) → List (Option Subtask) → Type 0

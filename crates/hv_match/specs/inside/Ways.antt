@@ -6,14 +6,14 @@ use Rattle.hv_world.specs.Worlds.{World, Method}
 use Rattle.hv_match.specs.Counts.{factorial, product, IsCount}
 use Rattle.hv_match.specs.inside.Counting.{rising}
 use Rattle.hv_lists.specs.Lists.{Once}
-use Rattle.hv_match.specs.inside.Puzzles.{Puzzle, options, levels, places, values, IsMatch, ways}
+use Rattle.hv_match.specs.inside.Puzzles.{Puzzle, options, levels, places, values, AreRows, IsMatch, ways}
 use Rattle.hv_match.specs.inside.Ranges.{IsPuzzleOf}
 use Rattle.hv_match.specs.inside.Search.{below}
 
 -- where what is wanted are matches, a search finds no more than the ways that there may be
 abbrev pub WaysAreEnough : Type 0
 WaysAreEnough =
-    (p : Puzzle) → ((i : ℕ) → Once (slice_index_or p.ranges i []))
+    (p : Puzzle) → AreRows p → ((i : ℕ) → Once (slice_index_or p.ranges i []))
     → (good : List ℕ → Bool) → ((q : List ℕ) → good q ≡ true → IsMatch p (places p q) (values p q))
     → length (below (options p) good (levels p) [] 0) ≤ ways p
 

@@ -1,7 +1,7 @@
 //! What a world works out of networks: alike subtasks, free parameters and orders.
 
 use crate::worlds::world_of;
-use hv_world::Order;
+use hv_world::{ActionId, Network, ObjectId, Order, TaskName};
 use std::alloc::Global;
 
 const DOMAIN: &[u8] = b"(define (domain d) (:constants o1 o2 o4 o5)\n\
@@ -51,6 +51,54 @@ fn alike_subtasks_are_counted(rt: HostRuntime) {
     for (problem, sizes) in CLASSES {
         assert!(rt; has_classes(rt.alloc(), problem, sizes) == Some(true));
     }
+}
+
+// The classes of the subtasks of the last of these networks, and that there is no subtask more.
+const CLASSES_AT: [Option<usize>; 6] = [Some(0), Some(0), Some(1), Some(2), Some(2), None];
+
+// Actions of two objects, and of which class of that network what does them is.
+const CLASSES_FOR: [(usize, [usize; 2], Option<usize>); 6] = [
+    // c o1 o4, c o2 o1 and c o5 o5
+    (2, [0, 2], Some(0)),
+    (2, [1, 0], Some(1)),
+    (2, [3, 3], None),
+    // d o4 o5 and d o4 o4
+    (3, [2, 3], Some(2)),
+    (3, [2, 2], None),
+    // an action that no subtask names
+    (4, [0, 3], None),
+];
+
+fn are_at(network: &Network) -> bool {
+    for (subtask, class) in CLASSES_AT.iter().enumerate() {
+        if network.class_at(subtask) != *class {
+            return false;
+        }
+    }
+    true
+}
+
+fn are_for(alloc: Global, network: &Network) -> Option<bool> {
+    for (action, [left, right], class) in CLASSES_FOR {
+        let name = TaskName::Primitive(ActionId(action));
+        let objects = [ObjectId(left), ObjectId(right)];
+        if network.class_for(alloc, name, &objects).ok()? != class {
+            return Some(false);
+        }
+    }
+    Some(true)
+}
+
+fn are_told(alloc: Global) -> Option<bool> {
+    let (problem, _) = CLASSES[4];
+    let world = world_of(alloc, DOMAIN, problem)?;
+    let network = world.top().network();
+    Some(are_at(network) && are_for(alloc, network)?)
+}
+
+#[test]
+fn classes_of_subtasks_and_children_are_told(rt: HostRuntime) {
+    assert!(rt; are_told(rt.alloc()) == Some(true));
 }
 
 // Whether parameters 2 and 4 of the method are free.

@@ -4,10 +4,11 @@ use Rattle.indexmap.specs.IndexMap.{IndexMap, get}
 use Rattle.std.specs.Hash as fed
 use Rattle.hv_world.specs.declared.id.TaskName as code
 use Rattle.hv_world.specs.declared.alike.Key as code_key
+use Rattle.hv_world.specs.declared.alike.Classes.{Classes}
 use Rattle.hv_world.specs.Values.{Term, Subtask, TaskName}
 use Rattle.hv_world.specs.Views.{name_view}
-use Rattle.hv_world.specs.Seeds.{name_writes}
-use Rattle.hv_world.specs.Alike.{Key, key_with, same_name, same_key, has_object, is_fixed}
+use Rattle.hv_world.specs.inside.Seeds.{name_writes}
+use Rattle.hv_world.specs.Alike.{Key, key_with, same_name, same_key, has_object, is_fixed, keys, classes, class_sizes, class_of}
 
 -- what a name feeds to a hasher
 abbrev pub name_bytes : code.TaskName → fed.HashWrites
@@ -22,10 +23,14 @@ abbrev pub kept_marks : List Term → ℕ → List Bool → List Bool
 kept_marks xs k [] = []
 kept_marks xs k (b ∷ bs) = (b && has_object xs k) ∷ kept_marks xs (k + 1) bs
 
--- the row of a name says which positions are fixed; with no row all are
+-- whether a position is marked; with no row all are
+abbrev pub is_marked_in : Option (List Bool) → ℕ → Bool
+is_marked_in None k = true
+is_marked_in (Some row) k = is_marked row k
+
+-- the row of a name says which positions are fixed
 abbrev pub RowSays : List Subtask → TaskName → Option (List Bool) → Type 0
-RowSays ss n None = (k : ℕ) → is_fixed ss n k ≡ true
-RowSays ss n (Some row) = (k : ℕ) → is_marked row k ≡ is_fixed ss n k
+RowSays ss n row = (k : ℕ) → is_marked_in row k ≡ is_fixed ss n k
 
 abbrev pub key_view : code_key.Key → Key
 key_view k = key_with (name_view k.name) k.objects.items
@@ -45,3 +50,14 @@ RowsSay ss m = (n : code.TaskName) → RowSays ss (name_view n) (option_map (λ 
 -- each class so far by its key, with its size
 abbrev pub counts_in : {S : Type 0} → IndexMap code_key.Key ℕ S → List (Key × ℕ)
 counts_in m = map (λ e. (key_view e.0, e.1)) m.entries
+
+-- the numbers of the classes of subtasks
+abbrev pub AreNumbers : List Subtask → List ℕ → Type 0
+AreNumbers ss is = map (class_of ss) ss ≡ map Some is
+
+-- what is kept of the classes of subtasks
+pub record AreClasses (ss : List Subtask) (c : Classes) : Type 0 where
+  pub fixed : RowsSay ss c.fixed
+  pub counts : counts_in c.counts ≡ classes (keys ss)
+  pub sizes : c.sizes.items ≡ class_sizes ss
+  pub numbers : AreNumbers ss c.numbers.items

@@ -27,6 +27,6 @@ returns c = λ ss says there.
           ∙ fixed_objects_same (is_marked marks) (is_fixed ss (name_view name)) fixed 0 xs)
       | in-None w ↦
           let all : P None = subst (λ o. P (option_map (λ v. v.items) (option_copied o))) w.in-None.is row in
-          let end = fixed_has ss (subtask_view c.args.subtask.now) (length xs) there (all (length xs)) in
+          let end = fixed_has ss (subtask_view c.args.subtask.now) (length xs) there (sym (all (length xs))) in
           absurd (let clash : false ≡ true = sym (none_at_end xs) ∙ end in cc)
     ]

@@ -2,7 +2,7 @@ use Rattle.std.proofs.Common.{◌≡◌, drop, fold, map}
 use Rattle.std.specs.List.{flat_map}
 use Rattle.std.specs.Hash.DefaultHasher as sip
 use Rattle.hv_text.specs.Seeds.{start_of}
-use Rattle.hv_world.specs.Seeds.{subtask_writes}
+use Rattle.hv_world.specs.inside.Seeds.{subtask_writes}
 use Rattle.hv_world.specs.Views.{subtask_view}
 use Rattle.hv_world.proofs.seed.seed_of_subtasks.Given as goal
 

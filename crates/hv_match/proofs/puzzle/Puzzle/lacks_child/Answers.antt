@@ -1,10 +1,8 @@
 use Rattle.std.proofs.Common.{◌≡◌, ◌∙◌, length, refl, arith}
 use Rattle.std.proofs.lemmas.List.{length-map}
 use Rattle.hv_world.specs.Views.{subtask_view}
-use Rattle.hv_match.specs.inside.Puzzles.{children_for}
 use Rattle.hv_match.specs.inside.PuzzleViews.{puzzle_view}
 use Rattle.hv_match.proofs.Hope.{none_may, one_more}
-use Rattle.hv_match.proofs.Rows.{row_is}
 use Rattle.hv_match.proofs.puzzle.Puzzle.lacks_child.Goals as goal
 
 pub returns : goal.returns
@@ -12,9 +10,7 @@ returns c = λ e k.
     (let p = puzzle_view c.args.self.now in
     let ss = c.args.self.now.table.now.subtasks.now in
     let j = c.args.subtask in
-    let size : length p.subtasks ≡ length ss = length-map ss subtask_view in
-    let are : c.row-row.result.now ≡ children_for p j = c.row-row.ensures ∙ row_is p.subtasks p.children c.args.self.now.places j c.args.self.now.placed (omega (arith, c.requires, size)) in
-    none_may p ss refl j _ c.requires c.row-row.result.now are _ c.loop-place-test.false c.loop-place.invariant k)
+    none_may p c.args.self.now.placed ss refl j _ c.requires c.row-row.result.now c.row-row.ensures _ c.loop-place-test.false c.loop-place.invariant k)
 
 pub loop-place-preserved : goal.loop-place-preserved
 loop-place-preserved c =

@@ -3,11 +3,10 @@ use Rattle.std.proofs.lemmas.List.{length-map}
 use Rattle.hv_world.specs.Values.{variable}
 use Rattle.hv_world.specs.Views.{subtask_view, term_view}
 use Rattle.hv_world.specs.declared.formula.Term.{Term}
-use Rattle.hv_match.specs.inside.Puzzles.{children_for, objects_of}
+use Rattle.hv_match.specs.inside.Puzzles.{objects_of}
 use Rattle.hv_match.specs.inside.PuzzleViews.{puzzle_view}
 use Rattle.hv_match.specs.inside.Tables.{work_view}
 use Rattle.hv_match.proofs.Foretelling.{foretells, if_told}
-use Rattle.hv_match.proofs.Rows.{row_is}
 use Rattle.hv_match.proofs.puzzle.Puzzle.told_by.Goals as goal
 
 pub returns-in-Some : goal.returns-in-Some
@@ -15,11 +14,9 @@ returns-in-Some c =
     let p = puzzle_view c.args.self.now in
     let ss = c.args.self.now.table.now.subtasks.now in
     let j = c.args.subtask in
-    let size : length p.subtasks ≡ length ss = length-map ss subtask_view in
-    let are : c.row-row.result.now ≡ children_for p j = c.row-row.ensures ∙ row_is p.subtasks p.children c.args.self.now.places j c.args.self.now.placed (omega (arith, c.requires, size)) in
     let at = c.stands_at.ensures c.if-not-stands_at.false in
     let child = sym c.child.ensures ∙ ap (option_map work_view) c.in-Some.is in
     if_told p c.args.parameter c.object_at.result (λ n e.
-    foretells p ss refl j _ c.requires c.row-row.result.now are c.if-row-ne1.false c.args.position c.args.parameter n
+    foretells p c.args.self.now.placed ss refl j _ c.requires c.row-row.result.now c.row-row.ensures c.if-row-ne1.false c.args.position c.args.parameter n
     (subst (λ (ts : List Term). slice_get (map term_view ts) c.args.position ≡ Some (variable c.args.parameter)) c.deref.ensures.value at)
     (ap (λ x. slice_get (objects_of x) c.args.position) child ∙ sym c.object_at.ensures ∙ e))
