@@ -72,7 +72,7 @@ module _ (ss : List Subtask) (cs : List (Option Work)) (s : Subtask) where
   -- that of the children of its class
   pub class_row : ((t : Subtask) (g : ℕ → ℕ) → Contains ss t → key ss (subtask_instance g t) ≡ key ss t) → (i : ℕ) → class_of ss s ≡ Some i → IsRow ss cs s (places_where (is_of_class ss i) 0 cs)
   class_row instances i e = row_of (is_of_class ss i) refl (λ t there same B x d.
-    ap (is_number i) (class_is ss instances cs B x t there d ∙ ap (λ k. number_in k (classes (keys ss))) same ∙ e) ∙ eq-eqb i i refl)
+      ap (is_number i) (class_is ss instances cs B x t there d ∙ ap (λ k. number_in k (classes (keys ss))) same ∙ e) ∙ eq-eqb i i refl)
 
 pub named_rows : (n : Bor Network) (cs : List (Option Work)) (ls : List (List ℕ)) → ls ≡ map (λ s. places_where (has_name s.name) 0 cs) (network_view n.now).subtasks →
     AreRowsOf (network_view n.now).subtasks cs (row_for (record { network = n; rows = ls; is_by_subtask = true }))

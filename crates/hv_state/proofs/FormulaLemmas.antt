@@ -1,11 +1,15 @@
 -- What the formulas of the code say.
 use Rattle.std.proofs.Common.{◌≡◌, ◌<◌, ◌+◌, ℕ, zero, suc, List, [], ◌∷◌, length, map, get_or, arith, ap, rules}
 use Rattle.std.specs.Global.{Vec, Box}
-use Rattle.hv_world.specs.declared.formula.Formula.{Formula, And, Or, Forall, Exists, the_lemmas}
+use Rattle.hv_world.specs.declared.formula.Atom.{Atom}
+use Rattle.hv_world.specs.declared.formula.Formula.{Formula, Holds, And, Or, Forall, Exists, the_lemmas}
 use Rattle.hv_world.specs.declared.id.TypeId.{TypeId}
-use Rattle.hv_world.specs.Values.{and, or, forall, exists, formulas_of}
-use Rattle.hv_world.specs.Views.{formula_view, type_number}
+use Rattle.hv_world.specs.Values.{holds, and, or, forall, exists, formulas_of}
+use Rattle.hv_world.specs.Views.{atom_view, formula_view, type_number}
 use Rattle.hv_state.proofs.Levels.{levels, most_levels}
+
+pub view-Holds : (a : Atom) → formula_view (Holds a) ≡ holds (atom_view a)
+view-Holds a = search (rules, the_lemmas)
 
 pub view-And : (fs : Vec Formula) → formula_view (And fs) ≡ and (formulas_of (map formula_view fs.items))
 view-And fs = search (rules, the_lemmas)

@@ -1,4 +1,4 @@
-use Rattle.std.proofs.Common.{◌<◌, ◌+◌, ◌-◌, ◌++◌, ◌∷◌, [], length, take, drop, map, get_or, sym, subst, ap, arith, rules, ◌∙◌}
+use Rattle.std.proofs.Common.{◌≡◌, ◌<◌, ◌+◌, ◌-◌, ◌++◌, ◌∷◌, [], length, take, drop, map, get_or, sym, subst, ap, arith, rules, ◌∙◌}
 use Rattle.hv_world.specs.Bindings.{GroundAtom, objects_in}
 use Rattle.hv_world.specs.declared.id.ObjectId.{ObjectId}
 use Rattle.hv_world.specs.WorldViews.{world_view}
@@ -8,12 +8,19 @@ use Rattle.hv_state.specs.Truth.{ForSome}
 use Rattle.hv_state.specs.Changes.{Mentions, SomeMention}
 use Rattle.hv_state.specs.inside.Histories.{IsNext}
 use Rattle.hv_state.proofs.Levels.{levels, most_levels}
-use Rattle.hv_state.proofs.FormulaLemmas.{view-Forall, view-Exists, part_below}
+use Rattle.hv_state.proofs.FormulaLemmas.{view-Holds, view-Forall, view-Exists, part_below}
 use Rattle.hv_state.proofs.Chosen.{front}
 use Rattle.hv_state.proofs.LackLemmas.{for_some_mention_still}
 use Rattle.hv_state.proofs.SomeLemmas.{SomeOf, some_objects, for_these, one_for_all}
 use Rattle.hv_state.proofs.NextLemmas.{next_like, next_still, next_push, next_all, next_soon, mentioned_parts}
 use Rattle.hv_state.proofs.next.+next_change.Goals as goal
+
+pub next_change-returns-in-Holds : goal.next_change-returns-in-Holds
+next_change-returns-in-Holds t c =
+    let w = (world_view c.args.world.now).typing in
+    let env = objects_in c.args.binding.now in
+    let Q = λ (M : GroundAtom → Type 0). IsNext c.args.changes.now c.args.k c.args.end M c.next.result in
+    subst (λ f. Q (λ g. Mentions w g f env)) (sym (ap formula_view c.in-Holds.is ∙ view-Holds c.in-Holds.atom)) (subst (λ a. Q (λ g. a ≡ g)) c.resolved.ensures c.next.ensures)
 
 pub next_change-returns-in-Forall : goal.next_change-returns-in-Forall
 next_change-returns-in-Forall t c =

@@ -20,10 +20,10 @@ loop-subtask-preserved c =
     let one_more : counts_in c.count.new.sizes ≡ counted k (counts_in l.counts) = c.in_ok-number.ensures.counted ∙ ap (λ j. counted j (counts_in l.counts)) is in
     let found : number_in k (counts_in c.count.new.sizes) ≡ Some c.in_ok-number.number = ap (λ j. number_in j (counts_in c.count.new.sizes)) (sym is) ∙ c.in_ok-number.ensures.number in (
       one_more ∙ ap (counted k) l.invariant.0
-      ∙ sym (classes_more (map (key all) ss) k) ∙ ap classes (sym (map-append (key all) ss (subtask_view s ∷ []))) ∙ ap (λ zs. classes (map (key all) zs)) (sym more),
+          ∙ sym (classes_more (map (key all) ss) k) ∙ ap classes (sym (map-append (key all) ss (subtask_view s ∷ []))) ∙ ap (λ zs. classes (map (key all) zs)) (sym more),
       ap (map (λ s. number_in (key all s) (counts_in c.count.new.sizes))) more
-      ∙ numbers_more (key all) (counts_in l.counts) (counts_in c.count.new.sizes) (λ j i e. ap (number_in j) one_more ∙ counted_keeps j k (counts_in l.counts) i e) ss l.numbers.items (subtask_view s) c.in_ok-number.number l.invariant.1 found
-      ∙ ap (map Some) (sym c.in_ok-push.ensures.items),
+          ∙ numbers_more (key all) (counts_in l.counts) (counts_in c.count.new.sizes) (λ j i e. ap (number_in j) one_more ∙ counted_keeps j k (counts_in l.counts) i e) ss l.numbers.items (subtask_view s) c.in_ok-number.number l.invariant.1 found
+          ∙ ap (map Some) (sym c.in_ok-push.ensures.items),
     )
 
 pub returns : goal.returns
