@@ -3,6 +3,7 @@ use Rattle.std.proofs.Common.{◌≡◌, ℕ, zero, suc, ◌+◌, ◌<◌, ◌�
 use Rattle.std.proofs.lemmas.List.{get_or_default}
 use Rattle.std.specs.List.{AllZip}
 use Rattle.hv_lists.proofs.Contained.{contains_at, none_in_empty}
+use Rattle.hv_lists.proofs.Pairs.{same_length}
 use Rattle.hv_world.specs.Bindings.{object_of}
 use Rattle.hv_world.specs.Alike.{Key, key, keys, how_many, classes, class_sizes, class_of}
 use Rattle.hv_world.specs.Values.{Subtask, Atom}
@@ -16,7 +17,7 @@ use Rattle.hv_match.specs.inside.Puzzles.{Work, Puzzle, options, places, values,
 use Rattle.hv_match.specs.inside.Tables.{size_at}
 use Rattle.hv_match.proofs.Listing.{none_begins}
 use Rattle.hv_match.proofs.FirstPlaces.{agrees, get_left, get_taken}
-use Rattle.hv_match.proofs.Fitting.{good_match, mem_has}
+use Rattle.hv_match.proofs.Fitting.{good_match, has_mem, mem_has}
 use Rattle.hv_match.proofs.Rows.{size_of}
 use Rattle.hv_match.proofs.Scarce.{no_more}
 
@@ -138,11 +139,19 @@ pub none_given : (pz : Puzzle) → ((B : List ℕ) → Agrees pz [] B → map (o
 none_given pz clash k = none_fits pz [] (λ q xs e m. clash (values pz q) (goes_on pz [] q xs e m).agrees m.task) k
 
 -- too few children for alike subtasks
+abbrev class_in : List Subtask → Option Subtask → Option ℕ
+class_in ss None = None
+class_in ss (Some t) = class_of ss t
+
+abbrev size_in : List Subtask → Option ℕ → ℕ
+size_in ss None = 0
+size_in ss (Some i) = slice_index (class_sizes ss) i
+
 pub none_scarce : (pz : Puzzle) → AreRows pz → ((ks : List Key) → All (λ c. c.1 ≡ how_many c.0 ks) (classes ks)) → (j : ℕ) → length (pz.rows j) < size_at pz.subtasks j → (k : ℕ) → below (options pz) (is_good pz) k [] 0 ≡ []
 none_scarce pz rows sizes j few k = none_fits pz [] (λ q xs e m. go q m (slice_get pz.subtasks j) refl few) k
   where
     of_class : (q : List ℕ) → IsMatch pz (places pz q) (values pz q) → (t : Subtask) → slice_get pz.subtasks j ≡ Some t → (o : Option ℕ) → class_of pz.subtasks t ≡ o
-        → length (pz.rows j) < (elim o [ None ↦ 0 | Some i ↦ slice_index (class_sizes pz.subtasks) i ]) → ⊥
+        → length (pz.rows j) < size_in pz.subtasks o → ⊥
     of_class q m t e None f few = omega (arith, few)
     of_class q m t e (Some i) f few =
         let ks = keys pz.subtasks in
@@ -151,7 +160,7 @@ none_scarce pz rows sizes j few k = none_fits pz [] (λ q xs e m. go q m (slice_
         omega (arith, few, size, most)
 
     go : (q : List ℕ) → IsMatch pz (places pz q) (values pz q) → (s : Option Subtask) → slice_get pz.subtasks j ≡ s
-        → length (pz.rows j) < (elim (elim s [ None ↦ None | Some t ↦ class_of pz.subtasks t ]) [ None ↦ 0 | Some i ↦ slice_index (class_sizes pz.subtasks) i ]) → ⊥
+        → length (pz.rows j) < size_in pz.subtasks (class_in pz.subtasks s) → ⊥
     go q m None e few = omega (arith, few)
     go q m (Some t) e few = of_class q m t e (class_of pz.subtasks t) refl few
 
@@ -162,7 +171,7 @@ get_at (s ∷ ss) zero d h = refl
 get_at (s ∷ ss) (suc j) d h = get_at ss j d (omega arith)
 
 pub child_there : (pz : Puzzle) → AreRows pz → (j : ℕ) (s : Subtask) → slice_get pz.subtasks j ≡ Some s → (B : List ℕ) (x : ℕ) → Done pz.children B x s → Contains (pz.rows j) x
-child_there pz rows j s e B x does = (rows j s e).all s (contains_at pz.subtasks j s e) refl B x does
+child_there pz rows j s e B x does = has_mem x (pz.rows j) ((rows j s e).all s (contains_at pz.subtasks j s e) refl B x does)
 
 pub one_more : (pz : Puzzle) (row : List ℕ) (ss : List code_subtask.Subtask) (j : ℕ) (d : code_subtask.Subtask) (n : ℕ) → ((i : ℕ) → i < n → CannotDo pz [] (get_or row i 0) (subtask_view (get_or ss j d)))
     → CannotDo pz [] (get_or row n 0) (subtask_view (get_or ss j d)) → (i : ℕ) → i < n + 1 → CannotDo pz [] (get_or row i 0) (subtask_view (get_or ss j d))

@@ -42,15 +42,15 @@ count_at w t v n table P e at by = go (node_method w n) refl at
     go (Some m) f at = (at.count.0, rw (e, f) at.count.1, by at.count.0 at.count.2)
 
 -- the table of a number is that of the method of the number
-pub table_is : (w : World) (ms : List Method) (ts : List MethodTable) (i : ℕ) (o : Option (Bor MethodTable)) → AllZip (IsTableOf w) ms ts
-    → option_map (λ t. t.now) o ≡ slice_get ts i → MatchOption o (slice_get ms i ≡ None) (λ t. MatchOption (slice_get ms i) ⊥ (λ m. IsTableOf w m t.now))
-table_is w [] [] i None a e = refl
-table_is w [] [] i (Some t) a e = cc
-table_is w [] (u ∷ ts) i o a e = absurd a
-table_is w (m ∷ ms) [] i o a e = absurd a
-table_is w (m ∷ ms) (u ∷ ts) zero None a e = cc
-table_is w (m ∷ ms) (u ∷ ts) zero (Some t) a e = let f : u ≡ t.now = cc in subst (λ z. IsTableOf w m z) f a.0
-table_is w (m ∷ ms) (u ∷ ts) (suc i) o a e = table_is w ms ts i o a.1 e
+pub table_is : {M T : Type 0} (R : M → T → Type 0) (ms : List M) (ts : List T) (i : ℕ) (o : Option (Bor T)) → AllZip R ms ts
+    → option_map (λ t. t.now) o ≡ slice_get ts i → MatchOption o (slice_get ms i ≡ None) (λ t. MatchOption (slice_get ms i) ⊥ (λ m. R m t.now))
+table_is R [] [] i None a e = refl
+table_is R [] [] i (Some t) a e = cc
+table_is R [] (u ∷ ts) i o a e = absurd a
+table_is R (m ∷ ms) [] i o a e = absurd a
+table_is R (m ∷ ms) (u ∷ ts) zero None a e = cc
+table_is R (m ∷ ms) (u ∷ ts) zero (Some t) a e = let f : u ≡ t.now = cc in subst (λ z. R m z) f a.0
+table_is R (m ∷ ms) (u ∷ ts) (suc i) o a e = table_is R ms ts i o a.1 e
 
 -- one method more, and its table
 pub more_tables : (w : World) (ms : List code_method.Method) (i : ℕ) (d : code_method.Method) (ts : List MethodTable) (t : MethodTable) → i < length ms
@@ -65,4 +65,4 @@ top_table w n top ts e are = rw e are.initial
 -- the table of a number is that of a node that has the method of the number
 pub numbered_table : (w : World) (n : Node) (k : ℕ) (top : MethodTable) (ts : List MethodTable) (o : Option (Bor MethodTable)) → n.method ≡ Some k → AreTablesOf w top ts
     → option_map (λ t. t.now) o ≡ slice_get ts k → HasTable w n o
-numbered_table w n k top ts o e are h = rw e (table_is w w.methods ts k o are.methods h)
+numbered_table w n k top ts o e are h = rw e (table_is (IsTableOf w) w.methods ts k o are.methods h)

@@ -8,6 +8,7 @@ use Rattle.hv_world.specs.Values.{Subtask}
 use Rattle.hv_match.specs.inside.Search.{IsPath}
 use Rattle.hv_match.specs.inside.Puzzles.{Work, Puzzle, child_at, bound, pick, options, Done, AreRows, IsMatch}
 use Rattle.hv_match.proofs.FirstPlaces.{forced_bound}
+use Rattle.hv_match.proofs.Fitting.{has_mem}
 
 path_from : (f : List ℕ → List ℕ) (p xs : List ℕ) → ((ys : List ℕ) (x : ℕ) (zs : List ℕ) → xs ≡ ys ++ x ∷ zs → Contains (f (p ++ ys)) x) → IsPath f p xs
 path_from f p [] h = tt
@@ -63,7 +64,7 @@ candidate_path pz rows M B c = path_from (options pz) [] (M ++ B) (λ ys x zs e.
 
     go : (ys : List ℕ) (x : ℕ) (zs : List ℕ) → M ++ B ≡ ys ++ x ∷ zs → (o : Option Subtask) → slice_get pz.subtasks (length ys) ≡ o →
         Contains (elim o [ Some s ↦ pz.rows (length ys) | None ↦ pick (bound pz ys (length ys - length pz.subtasks)) (get_or pz.ranges (length ys - length pz.subtasks) []) ]) x
-    go ys x zs e (Some s) b = (rows (length ys) s b).all s (contains_at pz.subtasks (length ys) s b) refl B x (done_at pz.children B M B ys x zs pz.subtasks s c.done e b)
+    go ys x zs e (Some s) b = has_mem x (pz.rows (length ys)) ((rows (length ys) s b).all s (contains_at pz.subtasks (length ys) s b) refl B x (done_at pz.children B M B ys x zs pz.subtasks s c.done e b))
     go ys x zs e None b =
         let ge : length pz.subtasks ≤ length ys = past_all pz.subtasks (length ys) b in
         let r = split_right M B ys x zs e (omega (arith, size)) in

@@ -1,19 +1,11 @@
 -- The places of the children that pass a test.
-use Rattle.std.proofs.Common.{rules, ◌≡◌, ℕ, zero, suc, ◌+◌, ◌<◌, ◌≤◌, Bool, true, false, List, [], ◌∷◌, ◌++◌, length, map, nat_eq, eq-eqb, refl, sym, ap, ◌∙◌, append_assoc, arith, if◌then◌else◌, drop, slice_get, Option, Some, None, MatchOption, IfSome, Contains}
+use Rattle.std.proofs.Common.{◌≡◌, ℕ, zero, suc, ◌+◌, ◌<◌, ◌≤◌, Bool, true, false, List, [], ◌∷◌, ◌++◌, length, refl, sym, ap, ◌∙◌, append_assoc, arith, if◌then◌else◌, drop, Option, Some, None, MatchOption, IfSome, Contains}
 use Rattle.std.proofs.lemmas.List.{append-nil}
 use Rattle.hv_lists.proofs.Contained.{at_head, in_tail, none_in_empty}
 use Rattle.hv_lists.proofs.EachOnce.{once_more}
-use Rattle.hv_lists.proofs.Bools.{and_both}
-use Rattle.hv_world.specs.Bindings.{object_of}
-use Rattle.hv_world.specs.Alike.{same_name}
-use Rattle.hv_world.specs.Values.{Term, object, variable, Subtask}
-use Rattle.hv_world.specs.Views.{term_view}
-use Rattle.hv_world.specs.declared.formula.Term.TheVariants as code
-use Rattle.hv_world.specs.declared.id.ObjectId.{ObjectId}
 use Rattle.hv_lists.specs.Lists.{Once}
-use Rattle.hv_match.specs.inside.Puzzles.{Work, work, child_at, is_ground, first_fixed, stands_there, same_values, may_do, places_where}
+use Rattle.hv_match.specs.inside.Puzzles.{Work, child_at, places_where}
 use Rattle.hv_match.proofs.Members.{once_none}
-use Rattle.hv_match.proofs.Factors.{name_itself}
 use Rattle.hv_match.proofs.Turns.{mem_drop}
 
 module _ (test : Option Work → Bool) where

@@ -1,5 +1,5 @@
 -- The rows of places.
-use Rattle.std.proofs.Common.{◌≡◌, ◌≢◌, ℕ, zero, suc, ◌+◌, ◌<◌, Bool, true, false, List, [], ◌∷◌, ◌++◌, length, map, take, drop, set, get_or, slice_get, slice_index, refl, sym, subst, ap, ◌∙◌, arith, if◌then◌else◌, nat_eq, eq-eqb, eqb-true, Option, Some, None, option_map, get_or-set_same, get_or-set_other, inl, inr, vec_len, Contains, All}
+use Rattle.std.proofs.Common.{◌≡◌, ◌≢◌, ℕ, zero, suc, ◌+◌, ◌<◌, ◌≤◌, ◌⊎◌, Bool, true, false, List, [], ◌∷◌, ◌++◌, length, map, take, drop, set, get_or, slice_get, slice_index, refl, sym, subst, ap, ◌∙◌, arith, if◌then◌else◌, nat_eq, eq-eqb, eqb-true, Option, Some, None, option_map, get_or-set_same, get_or-set_other, inl, inr, vec_len, Contains, All}
 use Rattle.std.proofs.lemmas.List.{append-nil, length-map, map-set, take_all, drop_all}
 use Rattle.std.specs.Borrow.{Bor}
 use Rattle.std.specs.Global.{Vec}
@@ -13,6 +13,7 @@ use Rattle.hv_match.specs.inside.Puzzles.{Work, child_at, places_where, Done, Is
 use Rattle.hv_match.specs.inside.Tables.{has_name, is_number, is_of_class, row_at, AreClassRows, HasPut, row_for}
 use Rattle.hv_match.specs.declared.child_rows.ChildRows.{ChildRows}
 use Rattle.hv_match.proofs.Factors.{key_is, key_same, name_itself}
+use Rattle.hv_match.proofs.Fitting.{mem_has}
 use Rattle.hv_match.proofs.Keys.{class_is}
 use Rattle.hv_match.proofs.PlacesWhere.{places_end, places_within, places_once, places_there}
 
@@ -41,12 +42,12 @@ number_within k (c ∷ cs) i e = go (same_key k c.0) e (number_within k cs)
 
 has_number : (k : Key) (n : ℕ) (cs : List (Key × ℕ)) → Contains cs (k, n) → (i : ℕ) × (number_in k cs ≡ Some i)
 has_number k n [] m = absurd (none_in_empty (k, n) m)
-has_number k n (c ∷ cs) m = go (same_key k c.0) refl (contains_cases c cs (k, n) m)
+has_number k n (c ∷ cs) m = go (same_key k c.0) refl (contains_cases c cs (k, n) m) (has_number k n cs)
   where
-    go : (b : Bool) → same_key k c.0 ≡ b → ((k, n) ≡ c) ⊎ Contains cs (k, n) → (i : ℕ) × ((if b then Some 0 else option_map suc (number_in k cs)) ≡ Some i)
-    go true s h = (0, refl)
-    go false s (inl e) = let t : same_key k c.0 ≡ true = ap (λ (d : Key × ℕ). same_key k d.0) (sym e) ∙ key_same k in cc
-    go false s (inr h) = let r = has_number k n cs h in (suc r.0, ap (option_map suc) r.1)
+    go : (b : Bool) → same_key k c.0 ≡ b → ((k, n) ≡ c) ⊎ Contains cs (k, n) → (Contains cs (k, n) → (i : ℕ) × (number_in k cs ≡ Some i)) → (i : ℕ) × ((if b then Some 0 else option_map suc (number_in k cs)) ≡ Some i)
+    go true s h r = (0, refl)
+    go false s (inl e) r = let t : same_key k c.0 ≡ true = ap (λ (d : Key × ℕ). same_key k d.0) (sym e) ∙ key_same k in cc
+    go false s (inr h) r = let f = r h in (suc f.0, ap (option_map suc) f.1)
 
 -- rows that will do
 
@@ -62,7 +63,7 @@ module _ (ss : List Subtask) (cs : List (Option Work)) (s : Subtask) where
     within = λ x m. omega (arith, (places_within test 0 cs x m).1);
     all = λ t there same B x d.
         (let z : 0 + x ≡ x = omega arith in
-        subst (Contains (places_where test 0 cs)) z (places_there test 0 cs x none (passes t there same B x d)));
+        mem_has x (places_where test 0 cs) (subst (Contains (places_where test 0 cs)) z (places_there test 0 cs x none (passes t there same B x d))));
   }
 
   -- that of the children of its name

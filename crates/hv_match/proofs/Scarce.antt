@@ -10,6 +10,7 @@ use Rattle.hv_world.specs.Values.{Subtask}
 use Rattle.hv_world.specs.Alike.{Key, key, keys, same_key, how_many}
 use Rattle.hv_match.specs.inside.Puzzles.{Work, child_at, Done, IsRow}
 use Rattle.hv_match.proofs.Factors.{key_is}
+use Rattle.hv_match.proofs.Fitting.{has_mem}
 use Rattle.hv_match.proofs.Members.{once_none, at_most}
 
 -- the children of the subtasks with a key
@@ -71,5 +72,5 @@ pub no_more : (ss : List Subtask) (cs : List (Option Work)) (B M : List ℕ) (t 
 no_more ss cs B M t row once a is =
     let k = key ss t in
     let many : length (keys ss) ≡ length M = length-map ss (key ss) ∙ sym (same_length (Done cs B) M ss a) in
-    let most = at_most (picked k (keys ss) M) row (picked_once k (keys ss) M once) (λ x m. let r = picked_does (key ss) cs B k M ss a x m in is.all r.0 r.1 r.2 B x r.3) in
+    let most = at_most (picked k (keys ss) M) row (picked_once k (keys ss) M once) (λ x m. let r = picked_does (key ss) cs B k M ss a x m in has_mem x row (is.all r.0 r.1 r.2 B x r.3)) in
     omega (arith, most, picked_many k (keys ss) M many)

@@ -160,7 +160,7 @@ Done cs B x s = child_at cs x ≡ Some (work s.name (map (object_of B) s.terms))
 pub record IsRow (ss : List Subtask) (cs : List (Option Work)) (s : Subtask) (row : List ℕ) : Type 0 where
   pub once : Once row
   pub within : (x : ℕ) → Contains row x → x < length cs
-  pub all : (t : Subtask) → Contains ss t → key ss t ≡ key ss s → (B : List ℕ) (x : ℕ) → Done cs B x t → Contains row x
+  pub all : (t : Subtask) → Contains ss t → key ss t ≡ key ss s → (B : List ℕ) (x : ℕ) → Done cs B x t → has x row ≡ true
 
 -- each subtask has such a row
 abbrev pub AreRowsOf : List Subtask → List (Option Work) → (ℕ → List ℕ) → Type 0

@@ -10,7 +10,7 @@ use Rattle.hv_match.proofs.child_rows.rows_by_class.Goals as goal
 pub loop-place-init : goal.loop-place-init
 loop-place-init c =
     let rows = c.in_ok-rows.rows in (
-      omega (arith, rows.ok.0, c.in_ok-rows.ensures.len, c.len.ensures, ap length c.class_sizes.ensures),
+      omega (arith, rows.ok.0, c.in_ok-rows.ensures.len, ap length c.class_sizes.ensures),
       λ i lt. all_empty c.new.result rows.items c.in_ok-rows.ensures.items c.new.ensures.items i,
     )
 

@@ -1,4 +1,4 @@
-use Rattle.std.proofs.Common.{◌<◌, length, ap, arith, ltb-true}
+use Rattle.std.proofs.Common.{◌<◌, ◌∙◌, sym, length, ap, arith, ltb-true}
 use Rattle.hv_match.specs.inside.PuzzleViews.{puzzle_view}
 use Rattle.hv_match.specs.inside.Tables.{size_at}
 use Rattle.hv_match.proofs.Hope.{none_scarce}
