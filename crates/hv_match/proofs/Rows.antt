@@ -4,14 +4,14 @@ use Rattle.std.proofs.lemmas.List.{append-nil, length-map, map-set, take_all, dr
 use Rattle.std.specs.Borrow.{Bor}
 use Rattle.std.specs.Global.{Vec}
 use Rattle.std.specs.List.{AllClonesOf, AllZip}
-use Rattle.hv_lists.proofs.Contained.{contains_at, contains_cases, mem_map, none_in_empty}
+use Rattle.hv_lists.proofs.Contained.{at_head, contains_at, contains_cases, in_tail, mem_map, none_in_empty}
 use Rattle.hv_world.specs.Values.{Subtask}
 use Rattle.hv_world.specs.Alike.{Key, key, keys, same_name, same_key, how_many, classes, class_sizes, number_in, class_of, class_at, subtask_instance}
 use Rattle.hv_world.specs.NetworkViews.{network_view}
 use Rattle.hv_world.specs.declared.network.Network.{Network}
 use Rattle.hv_match.specs.inside.Puzzles.{Work, child_at, places_where, Done, IsRow, AreRowsOf}
-use Rattle.hv_match.specs.inside.Tables.{has_name, is_number, is_of_class, row_at, AreClassRows, HasPut, row_for}
-use Rattle.hv_match.specs.declared.child_rows.ChildRows.{ChildRows}
+use Rattle.hv_match.specs.inside.Tables.{has_name, is_number, is_of_class, row_at, AreClassRows, HasPut, places, row_for}
+use Rattle.hv_match.specs.declared.child_rows.ChildRows.TheVariants as kinds
 use Rattle.hv_match.proofs.Factors.{key_is, key_same, name_itself}
 use Rattle.hv_match.proofs.Fitting.{mem_has}
 use Rattle.hv_match.proofs.Keys.{class_is}
@@ -75,9 +75,36 @@ module _ (ss : List Subtask) (cs : List (Option Work)) (s : Subtask) where
   class_row instances i e = row_of (is_of_class ss i) refl (λ t there same B x d.
       ap (is_number i) (class_is ss instances cs B x t there d ∙ ap (λ k. number_in k (classes (keys ss))) same ∙ e) ∙ eq-eqb i i refl)
 
-pub named_rows : (n : Bor Network) (cs : List (Option Work)) (ls : List (List ℕ)) → ls ≡ map (λ s. places_where (has_name s.name) 0 cs) (network_view n.now).subtasks →
-    AreRowsOf (network_view n.now).subtasks cs (row_for (record { network = n; rows = ls; is_by_subtask = true }))
-named_rows n cs ls same j s h = subst (IsRow (network_view n.now).subtasks cs s) (sym (ap (λ (l : List (List ℕ)). get_or l j []) same ∙ go (network_view n.now).subtasks j h)) (named_row (network_view n.now).subtasks cs s)
+-- those of all children, where they are few
+child_below : (cs : List (Option Work)) (x : ℕ) (w : Work) → child_at cs x ≡ Some w → x < length cs
+child_below [] x w e = cc
+child_below (c ∷ cs) zero w e = omega arith
+child_below (c ∷ cs) (suc x) w e = omega (arith, child_below cs x w e)
+
+each_place : (k : ℕ) (cs : List (Option Work)) (x : ℕ) → x < length cs → Contains (places_where (λ c. true) k cs) (k + x)
+each_place k [] x h = absurd (omega arith)
+each_place k (c ∷ cs) zero h = let z : k + 0 ≡ k = omega arith in rw z (at_head k (places_where (λ c. true) (k + 1) cs) k refl)
+each_place k (c ∷ cs) (suc x) h = let z : k + suc x ≡ k + 1 + x = omega arith in rw z (in_tail k (places_where (λ c. true) (k + 1) cs) (k + 1 + x) (each_place (k + 1) cs x (omega (arith, h))))
+
+first_places : (cs : List (Option Work)) → length cs ≤ 4 → take (length cs) places ≡ places_where (λ c. true) 0 cs
+first_places [] h = refl
+first_places (a ∷ []) h = refl
+first_places (a ∷ b ∷ []) h = refl
+first_places (a ∷ b ∷ c ∷ []) h = refl
+first_places (a ∷ b ∷ c ∷ d ∷ []) h = refl
+first_places (a ∷ b ∷ c ∷ d ∷ e ∷ cs) h = absurd (omega (arith, h))
+
+pub all_rows : (ss : List Subtask) (cs : List (Option Work)) → length cs ≤ 4 → AreRowsOf ss cs (row_for (kinds.All (length cs)))
+all_rows ss cs few j s h = subst (IsRow ss cs s) (sym (first_places cs few)) (record {
+  once = places_once (λ c. true) 0 cs;
+  within = λ x m. omega (arith, (places_within (λ c. true) 0 cs x m).1);
+  all = λ t there same B x d.
+      (let z : 0 + x ≡ x = omega arith in
+      mem_has x (places_where (λ c. true) 0 cs) (subst (Contains (places_where (λ c. true) 0 cs)) z (each_place 0 cs x (child_below cs x _ d))));
+})
+
+pub named_rows : (ss : List Subtask) (cs : List (Option Work)) (ls : List (List ℕ)) → ls ≡ map (λ s. places_where (has_name s.name) 0 cs) ss → AreRowsOf ss cs (row_for (kinds.Named ls))
+named_rows ss cs ls same j s h = subst (IsRow ss cs s) (sym (ap (λ (l : List (List ℕ)). get_or l j []) same ∙ go ss j h)) (named_row ss cs s)
   where
     go : (ss : List Subtask) (j : ℕ) → slice_get ss j ≡ Some s → get_or (map (λ s. places_where (has_name s.name) 0 cs) ss) j [] ≡ places_where (has_name s.name) 0 cs
     go [] j h = cc
@@ -88,14 +115,14 @@ pub class_rows : (n : Bor Network) (cs : List (Option Work)) (rows : List (Vec �
     → ((t : Subtask) (g : ℕ → ℕ) → Contains (network_view n.now).subtasks t → key (network_view n.now).subtasks (subtask_instance g t) ≡ key (network_view n.now).subtasks t)
     → ((ks : List Key) (k : Key) → Contains ks k → Contains (classes ks) (k, how_many k ks))
     → AreClassRows (network_view n.now).subtasks cs rows → ls ≡ map (λ v. v.items) rows
-    → AreRowsOf (network_view n.now).subtasks cs (row_for (record { network = n; rows = ls; is_by_subtask = false }))
+    → AreRowsOf (network_view n.now).subtasks cs (row_for (kinds.Alike n ls))
 class_rows n cs rows ls instances each are same j s h =
     let ss = (network_view n.now).subtasks in
     let k = key ss s in
     let c = has_number k (how_many k (keys ss)) (classes (keys ss)) (each (keys ss) k (mem_map (key ss) ss s (contains_at ss j s h))) in
     let at : class_at ss j ≡ Some c.0 = ap (λ (o : Option Subtask). elim o [ None ↦ None | Some t ↦ class_of ss t ]) h ∙ c.1 in
     let within : c.0 < length (class_sizes ss) = omega (arith, number_within k (classes (keys ss)) c.0 c.1, length-map (classes (keys ss)) (λ (c : Key × ℕ). c.1)) in
-    let row : row_for (record { network = n; rows = ls; is_by_subtask = false }) j ≡ places_where (is_of_class ss c.0) 0 cs =
+    let row : row_for (kinds.Alike n ls) j ≡ places_where (is_of_class ss c.0) 0 cs =
     ap (λ (o : Option ℕ). elim o [ None ↦ [] | Some i ↦ get_or ls i [] ]) at ∙ ap (λ (l : List (List ℕ)). get_or l c.0 []) same ∙ are c.0 within in
     subst (IsRow ss cs s) (sym row) (class_row ss cs s instances c.0 c.1)
 

@@ -1,6 +1,6 @@
 //! The places of the children that are tried for the subtasks.
 
-ghost use Rattle.std.specs.Prelude.{◌≡◌, ◌++◌, length, map, option_map, IfOk, OnOk};
+ghost use Rattle.std.specs.Prelude.{◌≡◌, ◌++◌, length, map, option_map, take, IfOk, OnOk};
 ghost use Rattle.hv_world.specs.NetworkViews.{network_view};
 ghost use Rattle.hv_world.specs.Views.{name_view};
 ghost use Rattle.hv_match.specs.inside.Tables as tables;
@@ -10,6 +10,9 @@ use crate::puzzle::{Work, same_name};
 use hv_text::{Lists, Memory};
 use hv_world::{Network, Subtask, TaskName, classes_are_counted, instances_keep_their_key};
 use std::alloc::Global;
+
+// Of so few children all are tried for each subtask: no row is kept.
+const PLACES: [usize; 4] = [0, 1, 2, 3];
 
 // For each of so few subtasks all children are looked at, and nothing is hashed.
 const FEW: usize = 8;
@@ -24,14 +27,15 @@ pub(crate) fn class_size(network: &Network, subtask: usize) -> usize
     }
 }
 
-/// Rows of places, for each subtask those of the children of its name, or else for each class of
-/// alike subtasks those of the children that are of it.
+/// For each subtask the places of the children that are tried for it.
 #[derive(Drop)]
-pub(crate) struct ChildRows<'a> {
-    network: &'a Network,
-    rows: Lists<usize>,
-    // Whether there is a row for each subtask.
-    is_by_subtask: bool,
+pub(crate) enum ChildRows<'a> {
+    /// Those of all children, which are so many.
+    All(usize),
+    /// For each subtask those of the children of its name.
+    Named(Lists<usize>),
+    /// For each class of alike subtasks those of the children that are of it.
+    Alike(&'a Network, Lists<usize>),
 }
 
 impl ChildRows<'_> {
@@ -39,14 +43,29 @@ impl ChildRows<'_> {
     pub(crate) fn row(&self, subtask: usize) -> &[usize]
         ensures { result.now ≡ tables.row_for self.now subtask }
     {
-        if self.is_by_subtask {
-            return self.rows.at(subtask);
-        }
-        match self.network.class_at(subtask) {
-            Some(class) => self.rows.at(class),
-            None => &[],
+        match self {
+            ChildRows::All(count) => first_places(*count),
+            ChildRows::Named(rows) => rows.at(subtask),
+            ChildRows::Alike(network, rows) => alike_row(network, rows, subtask),
         }
     }
+}
+
+// The row of the class of the subtask of a number.
+fn alike_row<'a>(network: &Network, rows: &'a Lists<usize>, subtask: usize) -> &'a [usize]
+    ensures { result.now ≡ tables.alike_row (network_view network.now).subtasks rows.now subtask }
+{
+    match network.class_at(subtask) {
+        Some(class) => rows.at(class),
+        None => &[],
+    }
+}
+
+// So many places, or as many as are all tried.
+fn first_places(count: usize) -> &'static [usize]
+    ensures { result.now ≡ take count tables.places }
+{
+    &PLACES[..count.min(PLACES.len())]
 }
 
 // Whether a child does what has the name.
@@ -159,11 +178,7 @@ fn by_name<'a>(
     ensures { IfOk result (ArePlaces (network_view network.now).subtasks children.now) }
 {
     let rows = rows_by_name(alloc, network.subtasks(), children)?;
-    Ok(ChildRows {
-        network,
-        rows,
-        is_by_subtask: true,
-    })
+    Ok(ChildRows::Named(rows))
 }
 
 // Rows for each class.
@@ -178,11 +193,7 @@ fn by_class<'a>(
     classes_are_counted();
     let rows = rows_by_class(alloc, network, children)?;
     let rows = in_one(alloc, &rows)?;
-    Ok(ChildRows {
-        network,
-        rows,
-        is_by_subtask: false,
-    })
+    Ok(ChildRows::Alike(network, rows))
 }
 
 /// The places of the children that are tried for each subtask of a network.
@@ -193,6 +204,9 @@ pub(crate) fn child_rows<'a>(
 ) -> Result<ChildRows<'a>, Memory>
     ensures { IfOk result (ArePlaces (network_view network.now).subtasks children.now) }
 {
+    if children.len() <= PLACES.len() {
+        return Ok(ChildRows::All(children.len()));
+    }
     if network.subtasks().len() <= FEW {
         by_name(alloc, network, children)
     } else {

@@ -1,5 +1,5 @@
 -- What the tables of the search say.
-use Rattle.std.specs.Prelude.{◌≡◌, ◌<◌, ◌++◌, ℕ, nat_eq, slice_index, Bool, false, List, [], ◌∷◌, map, length, Option, None, Some, option_map, slice_index_or, if◌then◌else◌}
+use Rattle.std.specs.Prelude.{◌≡◌, ◌<◌, ◌++◌, ℕ, nat_eq, slice_index, Bool, false, List, [], ◌∷◌, map, length, take, Option, None, Some, option_map, slice_index_or, if◌then◌else◌}
 use Rattle.std.specs.Global.{Vec}
 use Rattle.hv_world.specs.Bindings.{object_number}
 use Rattle.hv_world.specs.Values.{Term, TaskName, Subtask}
@@ -11,6 +11,7 @@ use Rattle.hv_world.specs.declared.formula.Term as code_term
 use Rattle.hv_match.specs.inside.Puzzles.{Work, work, places_where, first_in, first_of, source_of, AreRowsOf}
 use Rattle.hv_match.specs.declared.puzzle.Work as code_work
 use Rattle.hv_match.specs.declared.child_rows.ChildRows.{ChildRows}
+use Rattle.hv_match.specs.declared.child_rows.ChildRows.TheVariants as kinds
 use Rattle.hv_match.specs.declared.sources.Source.{Source}
 
 abbrev pub work_view : code_work.Work → Work
@@ -63,11 +64,19 @@ AreNamedRows ss cs rows = rows ≡ map (λ s. places_named s.name cs) (map subta
 abbrev pub size_at : List Subtask → ℕ → ℕ
 size_at ss j = elim (class_at ss j) [ None ↦ 0 | Some i ↦ slice_index (class_sizes ss) i ]
 
+-- the places of as many children as are all tried
+abbrev pub places : List ℕ
+places = 0 ∷ 1 ∷ 2 ∷ 3 ∷ []
+
+-- the row of the class of the subtask of a number
+abbrev pub alike_row : List Subtask → List (List ℕ) → ℕ → List ℕ
+alike_row ss rows j = elim (class_at ss j) [ None ↦ [] | Some i ↦ slice_index_or rows i [] ]
+
 -- the row of the subtask of a number
 abbrev pub row_for : ChildRows → ℕ → List ℕ
-row_for p j =
-    if p.is_by_subtask then slice_index_or p.rows j []
-    else elim (class_at (network_view p.network.now).subtasks j) [ None ↦ [] | Some i ↦ slice_index_or p.rows i [] ]
+row_for (kinds.All n) j = take n places
+row_for (kinds.Named rows) j = slice_index_or rows j []
+row_for (kinds.Alike n rows) j = alike_row (network_view n.now).subtasks rows j
 
 -- each subtask has a row
 abbrev pub ArePlaces : List Subtask → List (Option code_work.Work) → ChildRows → Type 0
