@@ -133,6 +133,7 @@ fn marked_objects(alloc: Global, marks: &[bool], terms: &[Term]) -> Result<Vec<u
             _ => {}
         }
     }
+    objects.shrink_to_fit();
     Ok(objects)
 }
 
@@ -228,6 +229,7 @@ impl Classes {
             let number = count(&mut counts, key)?;
             numbers.push(number)?;
         }
+        counts.shrink_to_fit();
         let sizes = sizes_in(alloc, &counts)?;
         Ok(Classes {
             fixed,

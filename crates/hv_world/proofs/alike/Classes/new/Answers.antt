@@ -1,7 +1,7 @@
 use Rattle.std.proofs.Common.{◌≡◌, Some, [], ◌∷◌, ◌++◌, map, take, sym, ap, ◌∙◌, length, ◌<◌, arith, rules}
 use Rattle.std.proofs.lemmas.List.{map-append}
 use Rattle.hv_world.specs.Alike.{key, classes, number_in}
-use Rattle.hv_world.specs.inside.Kept.{counted, counts_in}
+use Rattle.hv_world.specs.inside.Kept.{counted, counts_in, key_view}
 use Rattle.hv_world.specs.Views.{subtask_view}
 use Rattle.hv_world.proofs.AlikeLemmas.{take_more, take_whole, seen_there, classes_more, room_left, taken_within}
 use Rattle.hv_world.proofs.ClassLemmas.{counted_keeps, numbers_more}
@@ -32,10 +32,11 @@ returns c =
     let all = map subtask_view c.args.subtasks.now in
     let whole = take_whole l.subtask-index c.args.subtasks.now c.loop-subtask-test.false in
     let counts : counts_in l.counts ≡ classes (map (key all) all) = l.invariant.0 ∙ ap (λ xs. classes (map (key all) (map subtask_view xs))) whole in
+    let kept : counts_in c.shrink_to_fit.new.self ≡ classes (map (key all) all) = ap (λ es. map (λ e. (key_view e.0, e.1)) es) c.shrink_to_fit.ensures.entries ∙ counts in
     record {
       fixed = c.in_ok-fixed.ensures;
-      counts = counts;
-      sizes = c.in_ok-sizes.ensures ∙ ap (map (λ c. c.1)) counts;
+      counts = kept;
+      sizes = c.in_ok-sizes.ensures ∙ ap (map (λ c. c.1)) kept;
       numbers = ap (λ cs. map (λ s. number_in (key all s) cs) all) (sym counts) ∙ ap (λ xs. map (λ s. number_in (key all s) (counts_in l.counts)) (map subtask_view xs)) (sym whole) ∙ l.invariant.1;
     }
 
