@@ -10,7 +10,8 @@ use Rattle.hv_order.specs.Finishes.{ActionFits}
 use Rattle.hv_order.specs.inside.Children.{child_at, ChildFits, IsLatestStart}
 use Rattle.hv_order.specs.inside.Arrangements.{Arrangement, arrangement_of}
 use Rattle.hv_order.specs.inside.Facts.{Facts, AreFits, IsFirstTrue, IsFirstStretch, FitsWith}
-use Rattle.hv_order.specs.inside.Trials.{direct_of, HasFinish, IsTrialOf, IsTrialAs, IsUnderCap}
+use Rattle.hv_order.specs.inside.Arrangements.{listed_before}
+use Rattle.hv_order.specs.inside.Trials.{HasFinish, IsTrialOf, IsTrialAs, IsUnderCap}
 use Rattle.hv_order.specs.inside.Frames.{IsArranged, IsTrying}
 use Rattle.hv_order.specs.declared.trial.Trial.{Trial}
 use Rattle.hv_order.specs.declared.trial.Stretch.{Stretch}
@@ -87,7 +88,7 @@ module _ (q : Facts) (fits : AreFits q.fits) (s : ℕ) (c : Arranged) (arranged 
     zeros = t.finishes.items;
     room = room;
     trial = record { room = refl; begun = rw (at_is, last_is) is.begun; alike = λ i lt. absurd (omega (arith, placed)); rest = λ o h. rw (placed, latest) at h };
-    gives = λ o lays. rw cap_is (by_index r o is (laid_is_least Is (q.before arrangement) FitOf arranged.strict (λ j. child_climbs q.fits fits (child_at c.children.items j)) (λ j. child_earlier q.fits fits (child_at c.children.items j)) cap (HasFinish q cap c.children.items) (λ j a r k h. h) (direct_of c.sequencing.value.direct.items) arranged.directs r.first is.within t.finishes.items c.sequencing.value.order.items o (λ j k. rw room k) arranged.order (rw (cap_is, at_is) at lays)));
+    gives = λ o lays. rw cap_is (by_index r o is (laid_is_least Is (q.before arrangement) FitOf arranged.strict (λ j. child_climbs q.fits fits (child_at c.children.items j)) (λ j. child_earlier q.fits fits (child_at c.children.items j)) cap (HasFinish q cap c.children.items) (λ j a r k h. h) (listed_before c.sequencing.value.direct) arranged.directs r.first is.within t.finishes.items c.sequencing.value.order.items o (λ j k. rw room k) arranged.order (rw (cap_is, at_is) at lays)));
   }
 
 -- a list of zeros has nothing above zero
@@ -99,7 +100,7 @@ zeros_under (suc n) (suc i) = zeros_under n i
 -- the layout goes on
 pub still_trying :
     (q : Facts) (s : ℕ) (c : Arranged) (t u : Trial) → IsTrying q s c t
-    → IsTrialAs q c.children.items c.sequencing.value.order.items c.sequencing.value.direct.items t u
+    → IsTrialAs q c.children.items c.sequencing.value.order.items c.sequencing.value.direct t u
     → IsUnderCap q u → length u.finishes.items ≡ length c.children.items → u.at ≡ t.at → u.last ≤ t.last
     → u.cap ≡ t.cap → IsTrying q s c u
 still_trying q s c t u is on under room at_is shorter cap_is = record {
@@ -109,7 +110,7 @@ still_trying q s c t u is on under room at_is shorter cap_is = record {
   zeros = is.zeros;
   room = room;
   trial =
-      let there : (k : ℕ) → k ≡ t.cap → IsTrialOf q k c.children.items c.sequencing.value.order.items c.sequencing.value.direct.items is.zeros u =
+      let there : (k : ℕ) → k ≡ t.cap → IsTrialOf q k c.children.items c.sequencing.value.order.items c.sequencing.value.direct is.zeros u =
       λ k e. rw e (on is.zeros is.trial) in
       there u.cap cap_is;
   gives = λ o lays. rw cap_is (is.gives o (rw (cap_is, at_is) at lays));

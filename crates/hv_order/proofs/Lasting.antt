@@ -10,7 +10,8 @@ use Rattle.hv_order.specs.inside.Layouts.{Lays, PlacedTogether, IsInOrder, AreDi
 use Rattle.hv_order.specs.inside.Children.{child_at, ChildFits}
 use Rattle.hv_order.specs.inside.Arrangements.{Arrangement, arrangement_of}
 use Rattle.hv_order.specs.inside.Facts.{Facts, AreFits, FitsWith}
-use Rattle.hv_order.specs.inside.Trials.{direct_of, finish_of, HasFinish, IsAlike, IsTrialOf, IsTrialAs, IsWhole, ComesTo}
+use Rattle.hv_order.specs.inside.Arrangements.{listed_before}
+use Rattle.hv_order.specs.inside.Trials.{finish_of, HasFinish, IsAlike, IsTrialOf, IsTrialAs, IsWhole, ComesTo}
 use Rattle.hv_order.specs.inside.Frames.{IsArranged, IsTrying, IsLeastWith, IsLeastOf, AreLeastOf, IsWonBy, Won, IsBest}
 use Rattle.hv_order.specs.declared.trial.Trial.{Trial}
 use Rattle.hv_order.specs.declared.trial.Best.{Best}
@@ -78,13 +79,13 @@ module _ (q : Facts) (fits : AreFits q.fits) (s : ℕ) (c : Arranged) (arranged 
   Row j from o = HasFinish q t.cap c.children.items j from o
 
   -- what the whole layout behind an index gives
-  together : (at f : ℕ) → at ≤ t.cap → Lays Row (direct_of c.sequencing.value.direct.items) at is.zeros at c.sequencing.value.order.items (Some f) → length is.zeros ≡ length c.children.items → PlacedTogether Is (q.before arrangement) FitOf at f × (at ≤ f)
+  together : (at f : ℕ) → at ≤ t.cap → Lays Row (listed_before c.sequencing.value.direct) at is.zeros at c.sequencing.value.order.items (Some f) → length is.zeros ≡ length c.children.items → PlacedTogether Is (q.before arrangement) FitOf at f × (at ≤ f)
   together at f early lays room =
-      let least : IsLeast (λ g. PlacedTogether Is (q.before arrangement) FitOf at g × (at ≤ g)) t.cap (Some f) = laid_is_least Is (q.before arrangement) FitOf arranged.strict (λ j. child_climbs q.fits fits (child_at c.children.items j)) (λ j. child_earlier q.fits fits (child_at c.children.items j)) t.cap Row (λ j a r k h. h) (direct_of c.sequencing.value.direct.items) arranged.directs at early is.zeros c.sequencing.value.order.items (Some f) (λ j k. rw room k) arranged.order lays in
+      let least : IsLeast (λ g. PlacedTogether Is (q.before arrangement) FitOf at g × (at ≤ g)) t.cap (Some f) = laid_is_least Is (q.before arrangement) FitOf arranged.strict (λ j. child_climbs q.fits fits (child_at c.children.items j)) (λ j. child_earlier q.fits fits (child_at c.children.items j)) t.cap Row (λ j a r k h. h) (listed_before c.sequencing.value.direct) arranged.directs at early is.zeros c.sequencing.value.order.items (Some f) (λ j k. rw room k) arranged.order lays in
       least.reached
 
   -- a whole layout gives its finish from each start up to which it stays alike
-  lasts : (u : Trial) (b : Best) → IsTrialOf q t.cap c.children.items c.sequencing.value.order.items c.sequencing.value.direct.items is.zeros u → u.at ≡ t.at → u.last ≤ t.last → length c.sequencing.value.order.items ≤ u.placed → b.last ≡ min u.last b.finish → Lays Row (direct_of c.sequencing.value.direct.items) t.at is.zeros t.at c.sequencing.value.order.items (Some b.finish) → IsWonBy q s arrangement b
+  lasts : (u : Trial) (b : Best) → IsTrialOf q t.cap c.children.items c.sequencing.value.order.items c.sequencing.value.direct is.zeros u → u.at ≡ t.at → u.last ≤ t.last → length c.sequencing.value.order.items ≤ u.placed → b.last ≡ min u.last b.finish → Lays Row (listed_before c.sequencing.value.direct) t.at is.zeros t.at c.sequencing.value.order.items (Some b.finish) → IsWonBy q s arrangement b
   lasts u b trial at_is shorter whole last_is lays =
       let under = is.under in
       let cap_at = under.at in
@@ -96,7 +97,7 @@ module _ (q : Facts) (fits : AreFits q.fits) (s : ℕ) (c : Arranged) (arranged 
       let begun : t.at ≤ u.last = rw at_is at trial.begun in
       let later : t.at ≤ b.last = omega arith in
       let end : b.last ≤ b.finish = omega arith in
-      let shift = serves_later Is FitOf (λ j. child_climbs q.fits fits (child_at c.children.items j)) t.cap Row (λ j a r k h. h) (direct_of c.sequencing.value.direct.items) t.at b.last later held c.sequencing.value.order.items [] is.zeros t.at b.finish (λ i m. absurd (none_in_empty i m)) (λ j m. (arranged.order.only j m, rw room (arranged.order.only j m))) (all_known Is (q.before arrangement) arranged.strict (direct_of c.sequencing.value.direct.items) arranged.directs c.sequencing.value.order.items [] arranged.order.in_order arranged.order.distinct arranged.order.only (λ j k. inl (arranged.order.has j k)) (λ j m l. none_in_empty j l)) end lays in
+      let shift = serves_later Is FitOf (λ j. child_climbs q.fits fits (child_at c.children.items j)) t.cap Row (λ j a r k h. h) (listed_before c.sequencing.value.direct) t.at b.last later held c.sequencing.value.order.items [] is.zeros t.at b.finish (λ i m. absurd (none_in_empty i m)) (λ j m. (arranged.order.only j m, rw room (arranged.order.only j m))) (all_known Is (q.before arrangement) arranged.strict (listed_before c.sequencing.value.direct) arranged.directs c.sequencing.value.order.items [] arranged.order.in_order arranged.order.distinct arranged.order.only (λ j k. inl (arranged.order.has j k)) (λ j m l. none_in_empty j l)) end lays in
       let late : max b.last t.at ≡ b.last = omega arith in
       let there = together b.last b.finish (omega arith) (rw late at shift) room in
       let a = is.late in
@@ -106,7 +107,7 @@ module _ (q : Facts) (fits : AreFits q.fits) (s : ℕ) (c : Arranged) (arranged 
         fits = record { at = b.last; late = omega arith; early = there.1; holds = is.holds b.last later (omega arith); together = there.0 };
       }
     where
-      held : (j : ℕ) → Is j → direct_of c.sequencing.value.direct.items j ≡ [] → (r : Option ℕ) → Row j t.at r → Row j b.last r
+      held : (j : ℕ) → Is j → listed_before c.sequencing.value.direct j ≡ [] → (r : Option ℕ) → Row j t.at r → Row j b.last r
       held j k none r row =
           let p = place_of c.sequencing.value.order.items j (arranged.order.has j k) in
           let w = p.within in
@@ -120,7 +121,7 @@ module _ (q : Facts) (fits : AreFits q.fits) (s : ℕ) (c : Arranged) (arranged 
           rw same (alike b.last (omega arith) (omega arith))
 
   -- so the best of a candidate is its own
-  pub won_by_layout : (u : Trial) (o : Option Best) → IsTrialAs q c.children.items c.sequencing.value.order.items c.sequencing.value.direct.items t u → u.at ≡ t.at → u.last ≤ t.last → ComesTo q c.children.items c.sequencing.value.order.items c.sequencing.value.direct.items t o → IsWhole c.sequencing.value.order.items u o → Won q s arrangement o
+  pub won_by_layout : (u : Trial) (o : Option Best) → IsTrialAs q c.children.items c.sequencing.value.order.items c.sequencing.value.direct t u → u.at ≡ t.at → u.last ≤ t.last → ComesTo q c.children.items c.sequencing.value.order.items c.sequencing.value.direct t o → IsWhole c.sequencing.value.order.items u o → Won q s arrangement o
   won_by_layout u None on at_is shorter comes whole b e = absurd (let k : None ≡ Some b = e in cc)
   won_by_layout u (Some d) on at_is shorter comes whole b e =
       let k : d ≡ b = (let r : Some d ≡ Some b = e in cc) in

@@ -13,7 +13,7 @@ use Rattle.hv_match.specs.Candidates.{IsCandidate, child_tasks, node_method}
 use Rattle.hv_state.specs.Needed.{needed}
 use Rattle.hv_match.specs.Possible.{are_possible}
 use Rattle.hv_order.specs.Settings.{Setting, last, HoldsAt}
-use Rattle.hv_order.specs.inside.Arrangements.{Arrangement, lists_of, listed_before}
+use Rattle.hv_order.specs.inside.Arrangements.{Arrangement, listed_before}
 use Rattle.hv_order.specs.inside.Children.{child_at}
 use Rattle.hv_order.specs.inside.Choosing.{Gives}
 use Rattle.hv_order.specs.inside.Facts.{FitsWith}
@@ -73,7 +73,7 @@ module _ (q : Setting) (is : IsSetting q) (v start : ℕ) (begun : start ≤ las
         children = places_are M;
         order = row_allowed lists.method.network.order sound.arrangeable (length (map (child_at l.children.now) M)) l.sequencing.value.order.items len lists.sequencing.order;
         as_many = lists.sequencing.direct.as_many ∙ len;
-        direct = λ j lt. direct_allowed lists.method.network.order sound.arrangeable (length (map (child_at l.children.now) M)) j (listed_before (lists_of l.sequencing.value.direct.items) j) len (lists.sequencing.direct.direct j (subst (λ n. j < n) (sym len) lt));
+        direct = λ j lt. direct_allowed lists.method.network.order sound.arrangeable (length (map (child_at l.children.now) M)) j (listed_before l.sequencing.value.direct j) len (lists.sequencing.direct.direct j (subst (λ n. j < n) (sym len) lt));
       }
 
   -- each that is listed is a candidate

@@ -5,7 +5,7 @@ use Rattle.std.proofs.lemmas.List.{map-append, take-map}
 use Rattle.std.proofs.lemmas.List.Elements.{filter-append, Contains-append_left}
 use Rattle.hv_lists.proofs.Contained.{at_head, in_tail}
 use Rattle.hv_plan.specs.declared.tree.Child.{Child}
-use Rattle.hv_order.specs.inside.Arrangements.{Arrangement, lists_of}
+use Rattle.hv_order.specs.inside.Arrangements.{Arrangement}
 use Rattle.hv_order.specs.inside.Children.{child_at}
 use Rattle.hv_order.specs.inside.Listers.{arranged_by}
 use Rattle.hv_order.specs.inside.Spans.{is_in_order, IsMisplaced, IsBlocked, IsPlacing, ArePlacings}
@@ -30,7 +30,7 @@ module _ (s : Spans) (v : ℕ) (kids : List Child) (sequencing : Sequencing) whe
   -- begin as it does
   pub passed :
       (n : ℕ) (M B : List ℕ) (mid gone rest : List (List ℕ × List ℕ)) (last : ℕ) → ArePlacings n ((M, B) ∷ mid)
-      → IsMisplaced s (map (child_at kids) M) (lists_of sequencing.direct.items) last ⊎ IsBlocked s (map (child_at kids) M) (lists_of sequencing.direct.items) last
+      → IsMisplaced s (map (child_at kids) M) sequencing.direct last ⊎ IsBlocked s (map (child_at kids) M) sequencing.direct last
       → mid ≡ gone ++ rest → ((M' B' : List ℕ) → Contains gone (M', B') → take (last + 1) M' ≡ take (last + 1) M)
       → filter (is_in_order s) (map arranged ((M, B) ∷ mid)) ≡ filter (is_in_order s) (map arranged rest)
   passed n M B mid gone rest last placings stuck is alike =
@@ -45,9 +45,9 @@ module _ (s : Spans) (v : ℕ) (kids : List Child) (sequencing : Sequencing) whe
       ∙ ap (λ (l : List Arrangement). l ++ filter (is_in_order s) (map arranged rest)) without
     where
       so :
-          IsPlacing n M → IsMisplaced s (map (child_at kids) M) (lists_of sequencing.direct.items) last ⊎ IsBlocked s (map (child_at kids) M) (lists_of sequencing.direct.items) last
+          IsPlacing n M → IsMisplaced s (map (child_at kids) M) sequencing.direct last ⊎ IsBlocked s (map (child_at kids) M) sequencing.direct last
           → (M' B' : List ℕ) → IsPlacing n M' → take (last + 1) M' ≡ take (last + 1) M → is_in_order s (arranged (M', B')) ≡ false
       so first (inl misplaced) M' B' placed e =
-          misplaced_alike s (map (child_at kids) M) (map (child_at kids) M') (lists_of sequencing.direct.items) last misplaced
+          misplaced_alike s (map (child_at kids) M) (map (child_at kids) M') sequencing.direct last misplaced
           (take-map (child_at kids) (last + 1) M' ∙ ap (map (child_at kids)) e ∙ sym (take-map (child_at kids) (last + 1) M))
-      so first (inr blocked) M' B' placed e = blocked_alike s kids n M M' first placed (lists_of sequencing.direct.items) last blocked e
+      so first (inr blocked) M' B' placed e = blocked_alike s kids n M M' first placed sequencing.direct last blocked e

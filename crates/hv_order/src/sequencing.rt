@@ -5,12 +5,12 @@ ghost use Rattle.hv_world.specs.MethodViews.{method_view};
 ghost use Rattle.hv_world.specs.WorldViews.{world_view};
 ghost use Rattle.hv_plan.specs.BuiltTrees.{tree_view};
 ghost use Rattle.hv_plan.specs.PlanTrees.{IsTreeIn};
-ghost use Rattle.hv_order.specs.inside.Arrangements.{lists_of};
 ghost use Rattle.hv_order.specs.inside.Sequencings.{AreDirects, IsSequencing, IsSequencingOf, AreSequencings, AreSequencingsOf, IsSequencingAt};
 
 use crate::memory::Memory;
 use crate::node_methods::node_of;
 use hv_plan::Tree;
+use hv_text::Lists;
 use hv_world::{Method, Order, World};
 use std::alloc::Global;
 use std::rc::Rc;
@@ -19,7 +19,7 @@ use std::rc::Rc;
 #[derive(Drop)]
 pub struct Sequencing {
     pub order: Vec<usize>,
-    pub direct: Vec<Vec<usize>>,
+    pub direct: Lists<usize>,
 }
 
 /// The sequencings of the methods of a world, by their numbers, and of its initial network. All
@@ -31,13 +31,13 @@ pub struct Sequencings {
 }
 
 // For each subtask the list of those directly before it.
-fn directs(alloc: Global, order: &Order, count: usize) -> Result<Vec<Vec<usize>>, Memory>
+fn directs(alloc: Global, order: &Order, count: usize) -> Result<Lists<usize>, Memory>
     requires { count ≡ order.now.len }
-    ensures { IfOk result (λ v. AreDirects order.now (lists_of v.items)) }
+    ensures { IfOk result (AreDirects order.now) }
 {
-    let mut lists = Vec::with_capacity(alloc, count)?;
+    let mut lists = Lists::with_capacity(alloc, count)?;
     for subtask in 0..count {
-        lists.push(Vec::from_slice(alloc, order.directly_before(subtask))?)?;
+        lists.push(order.directly_before(subtask))?;
     }
     Ok(lists)
 }

@@ -3,7 +3,6 @@
 ghost use Rattle.std.specs.Prelude.{◌≡◌, ◌∷◌, [], nat_le, length, IsTrue, IfOk, IfSome};
 ghost use Rattle.hv_plan.specs.BuiltTrees.{tree_view};
 ghost use Rattle.hv_plan.specs.TreeViews.{child_view};
-ghost use Rattle.hv_order.specs.inside.Arrangements.{lists_of};
 ghost use Rattle.hv_order.specs.inside.Children as inside;
 ghost use Rattle.hv_order.specs.inside.Ends.{item_end};
 ghost use Rattle.hv_order.specs.inside.Firsts.{never};
@@ -15,6 +14,7 @@ use crate::ends::{end_at, ends_of};
 use crate::firsts::{child_first, firsts_of};
 use crate::memory::Memory;
 use hv_plan::{Child, Tree};
+use hv_text::Lists;
 use std::alloc::Global;
 
 /// For each node of a tree the state that the first action below it begins in, and the one behind
@@ -56,11 +56,11 @@ fn is_just(list: &[usize], number: usize) -> bool
 }
 
 // Whether just the one before it stands directly before each subtask, as they are written.
-fn is_chain(direct: &[Vec<usize>]) -> bool
-    ensures { IsTrue result → IsChain (lists_of direct.now) }
+fn is_chain(direct: &Lists<usize>) -> bool
+    ensures { IsTrue result → IsChain direct.now }
 {
     for latter in 1..direct.len() {
-        if !is_just(&direct[latter], latter - 1) {
+        if !is_just(direct.at(latter), latter - 1) {
             return false;
         }
     }
@@ -107,12 +107,12 @@ impl Spans {
 
     // The later in written order of two subtasks, one directly before the other, whose children
     // stand in the plan the other way round, or meet; if there are such.
-    fn misplaced(&self, children: &[Child], direct: &[Vec<usize>]) -> Option<usize>
-        ensures { TellsMisplaced self.now children.now (lists_of direct.now) result }
+    fn misplaced(&self, children: &[Child], direct: &Lists<usize>) -> Option<usize>
+        ensures { TellsMisplaced self.now children.now direct.now result }
     {
         for latter in 0..direct.len() {
             let child = child_at(children, latter);
-            if let Some(former) = self.in_front(children, child, &direct[latter]) {
+            if let Some(former) = self.in_front(children, child, direct.at(latter)) {
                 return Some(former.max(latter));
             }
         }
@@ -159,8 +159,8 @@ impl Spans {
     // The first subtask whose child is not over when another begins that is left for a later one.
     // Where the subtasks stand in one chain, nothing helps then but another child for this one, or
     // for one before it. It is told of children each of which has actions.
-    fn blocked(&self, children: &[Child], direct: &[Vec<usize>]) -> Option<usize>
-        ensures { IfSome result (IsBlocked self.now children.now (lists_of direct.now)) }
+    fn blocked(&self, children: &[Child], direct: &Lists<usize>) -> Option<usize>
+        ensures { IfSome result (IsBlocked self.now children.now direct.now) }
     {
         if direct.len() == children.len() && is_chain(direct) && self.have_actions(children) {
             self.first_met(children)
@@ -171,8 +171,8 @@ impl Spans {
 
     /// A subtask, as they are written, up to which the children cannot stay as they are, where they are
     /// not in the order of the subtasks.
-    pub fn stuck(&self, children: &[Child], direct: &[Vec<usize>]) -> Option<usize>
-        ensures { TellsStuck self.now children.now (lists_of direct.now) result }
+    pub fn stuck(&self, children: &[Child], direct: &Lists<usize>) -> Option<usize>
+        ensures { TellsStuck self.now children.now direct.now result }
     {
         let last = self.misplaced(children, direct)?;
         match self.blocked(children, direct) {

@@ -15,7 +15,7 @@ use crate::memory::Memory;
 use crate::nodes::Nodes;
 use crate::sequencing::Sequencing;
 use crate::solve::{run_for, settled_from};
-use crate::trial::{Arranged, direct_before, start_of};
+use crate::trial::{Arranged, start_of};
 use hv_plan::Child;
 use std::alloc::Global;
 
@@ -84,7 +84,7 @@ pub fn lay_out<N: Nodes>(
     let mut finishes = vec![in alloc; 0; count]?;
     let sequencing: &Sequencing = &candidate.sequencing;
     for subtask in &sequencing.order {
-        let start = start_of(&finishes, direct_before(&sequencing.direct, *subtask), at);
+        let start = start_of(&finishes, sequencing.direct.at(*subtask), at);
         match finish_of_child(alloc, nodes, memo, candidate.children[*subtask], start)? {
             None => unreachable!(),
             Some(finish) => {

@@ -1,7 +1,6 @@
 -- A candidate that is arranged to be laid out, as lists of numbers.
 use Rattle.std.specs.Prelude.{ℕ, List, [], map}
 use Rattle.std.specs.List.{slice_index_or}
-use Rattle.std.specs.Global.{Vec}
 use Rattle.hv_world.specs.Bindings.{object_number}
 use Rattle.hv_plan.specs.declared.tree.Child.{Child}
 use Rattle.hv_order.specs.declared.trial.Arranged.{Arranged}
@@ -15,10 +14,6 @@ pub record Arrangement : Type 0 where
   pub order : List ℕ
   pub direct : List (List ℕ)
 
--- the lists that vectors hold
-abbrev pub lists_of : List (Vec ℕ) → List (List ℕ)
-lists_of = map (λ v. v.items)
-
 -- the subtasks directly before one, none where nothing is said of it
 abbrev pub listed_before : List (List ℕ) → ℕ → List ℕ
 listed_before lists j = slice_index_or lists j []
@@ -31,5 +26,5 @@ arrangement_of c =
       objects = map object_number c.objects.items;
       children = c.children.items;
       order = c.sequencing.value.order.items;
-      direct = lists_of c.sequencing.value.direct.items;
+      direct = c.sequencing.value.direct;
     }

@@ -85,9 +85,9 @@ pub record IsTrying (q : Facts) (s : ℕ) (c : Arranged) (t : Trial) : Type 0 wh
   pub holds : (k : ℕ) → t.at ≤ k → k ≤ t.last → q.holds (arrangement_of c) k
   pub zeros : List ℕ
   pub room : length t.finishes.items ≡ length c.children.items
-  pub trial : IsTrialOf q t.cap c.children.items c.sequencing.value.order.items c.sequencing.value.direct.items zeros t
+  pub trial : IsTrialOf q t.cap c.children.items c.sequencing.value.order.items c.sequencing.value.direct zeros t
   pub gives :
-      (o : Option ℕ) → LaysOut q t.cap c.children.items c.sequencing.value.order.items c.sequencing.value.direct.items t.at zeros o
+      (o : Option ℕ) → LaysOut q t.cap c.children.items c.sequencing.value.order.items c.sequencing.value.direct t.at zeros o
       → IsLeastWith q s (arrangement_of c) t.cap o
 
 -- what begins a candidate: its precondition is true nowhere under the cap, or it is being laid out

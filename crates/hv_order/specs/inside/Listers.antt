@@ -11,7 +11,7 @@ use Rattle.hv_state.specs.Ever.{is_listed}
 use Rattle.hv_state.specs.Plans.{StateAt}
 use Rattle.hv_order.specs.Settings.{Setting, last}
 use Rattle.hv_order.specs.inside.PlanFacts.{FitsNode}
-use Rattle.hv_order.specs.inside.Arrangements.{Arrangement, lists_of}
+use Rattle.hv_order.specs.inside.Arrangements.{Arrangement}
 use Rattle.hv_order.specs.inside.Sequencings.{IsSequencing}
 use Rattle.hv_order.specs.inside.Children.{child_at}
 use Rattle.hv_order.specs.inside.Spans.{is_in_order, AreSpans}
@@ -26,7 +26,7 @@ arranged_by v children s c =
       objects = c.1;
       children = map (child_at children) c.0;
       order = s.order.items;
-      direct = lists_of s.direct.items;
+      direct = s.direct;
     }
 
 -- those that are still to come, in whatever order their children stand
@@ -45,7 +45,7 @@ arranged_with l cs =
       objects = l.coming.objects;
       children = cs;
       order = l.sequencing.value.order.items;
-      direct = lists_of l.sequencing.value.direct.items;
+      direct = l.sequencing.value.direct;
     }
 
 -- All possible candidates of the node of number v are to come: these are the node's children, and the

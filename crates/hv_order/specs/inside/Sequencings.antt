@@ -8,7 +8,7 @@ use Rattle.hv_world.specs.MethodViews.{method_view}
 use Rattle.hv_world.specs.declared.method.Method as code_method
 use Rattle.hv_plan.specs.PlanTrees.{PlanTree}
 use Rattle.hv_match.specs.Candidates.{method_at}
-use Rattle.hv_order.specs.inside.Arrangements.{lists_of, listed_before}
+use Rattle.hv_order.specs.inside.Arrangements.{listed_before}
 use Rattle.hv_order.specs.declared.sequencing.Sequencing.{Sequencing}
 use Rattle.hv_order.specs.declared.sequencing.Sequencings.{Sequencings}
 
@@ -20,7 +20,7 @@ pub record AreDirects (n : Written) (lists : List (List ℕ)) : Type 0 where
 -- the subtasks stand in an order that is allowed, with those directly before each
 pub record IsSequencing (n : Written) (s : Sequencing) : Type 0 where
   pub order : IsArrangement n s.order.items
-  pub direct : AreDirects n (lists_of s.direct.items)
+  pub direct : AreDirects n s.direct
 
 -- it is the sequencing of a method
 abbrev pub IsSequencingOf : Method → Sequencing → Type 0

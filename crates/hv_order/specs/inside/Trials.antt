@@ -1,21 +1,16 @@
 -- How far a candidate's subtasks are laid out.
 use Rattle.std.specs.Prelude.{◌≡◌, ℕ, ◌<◌, ◌≤◌, min, List, [], ◌∷◌, length, drop, Option, Some, None, slice_index}
 use Rattle.std.specs.List.{All}
-use Rattle.std.specs.Global.{Vec}
 use Rattle.hv_plan.specs.declared.tree.Child.{Child}
 use Rattle.hv_order.specs.Tables.{IsLeast}
 use Rattle.hv_order.specs.inside.Children.{child_at, ChildFits}
-use Rattle.hv_order.specs.inside.Arrangements.{lists_of, listed_before}
+use Rattle.hv_order.specs.inside.Arrangements.{listed_before}
 use Rattle.hv_order.specs.inside.Layouts.{Lays}
 use Rattle.hv_order.specs.inside.Facts.{Facts}
 use Rattle.hv_order.specs.declared.trial.Trial.{Trial}
 use Rattle.hv_order.specs.declared.trial.Best.{Best}
 use Rattle.hv_order.specs.declared.trial.Progress.{Progress}
 use Rattle.hv_order.specs.declared.trial.Progress.TheVariants as progress
-
--- the subtasks directly before one
-abbrev pub direct_of : List (Vec ℕ) → ℕ → List ℕ
-direct_of vs = listed_before (lists_of vs)
 
 -- the numbers are below n
 abbrev pub AreWithin : ℕ → List ℕ → Type 0
@@ -56,14 +51,14 @@ pub record IsUnderCap (q : Facts) (t : Trial) : Type 0 where
   pub finishes : (i : ℕ) → slice_index t.finishes.items i ≤ t.cap
 
 -- it is a trial of these subtasks, each to be over by the cap
-abbrev pub IsTrialOf : Facts → ℕ → List Child → List ℕ → List (Vec ℕ) → List ℕ → Trial → Type 0
+abbrev pub IsTrialOf : Facts → ℕ → List Child → List ℕ → List (List ℕ) → List ℕ → Trial → Type 0
 IsTrialOf q cap children order direct zeros t =
-    IsTrial (HasFinish q cap children) (direct_of direct) order zeros t
+    IsTrial (HasFinish q cap children) (listed_before direct) order zeros t
 
 -- the whole layout behind `at` comes to o
-abbrev pub LaysOut : Facts → ℕ → List Child → List ℕ → List (Vec ℕ) → ℕ → List ℕ → Option ℕ → Type 0
+abbrev pub LaysOut : Facts → ℕ → List Child → List ℕ → List (List ℕ) → ℕ → List ℕ → Option ℕ → Type 0
 LaysOut q cap children order direct at zeros o =
-    Lays (HasFinish q cap children) (direct_of direct) at zeros at order o
+    Lays (HasFinish q cap children) (listed_before direct) at zeros at order o
 
 -- the finish, if there is a best
 abbrev pub finish_of : Option Best → Option ℕ
@@ -71,7 +66,7 @@ finish_of None = None
 finish_of (Some b) = Some b.finish
 
 -- the layout of which a trial is the first part comes to this finish
-abbrev pub ComesTo : Facts → List Child → List ℕ → List (Vec ℕ) → Trial → Option Best → Type 0
+abbrev pub ComesTo : Facts → List Child → List ℕ → List (List ℕ) → Trial → Option Best → Type 0
 ComesTo q children order direct t o =
     (zeros : List ℕ) → IsTrialOf q t.cap children order direct zeros t
     → LaysOut q t.cap children order direct t.at zeros (finish_of o)
@@ -83,7 +78,7 @@ IsWhole order t None = Unit {0}
 IsWhole order t (Some b) = (length order ≤ t.placed) × (b.last ≡ min t.last b.finish)
 
 -- a trial is one of the same layout as another
-abbrev pub IsTrialAs : Facts → List Child → List ℕ → List (Vec ℕ) → Trial → Trial → Type 0
+abbrev pub IsTrialAs : Facts → List Child → List ℕ → List (List ℕ) → Trial → Trial → Type 0
 IsTrialAs q children order direct t u =
     (zeros : List ℕ) → IsTrialOf q t.cap children order direct zeros t
     → IsTrialOf q t.cap children order direct zeros u

@@ -14,9 +14,9 @@ next_turn-requires-clause-within g c =
     let s = c.args.frame.now.start in
     let inv = c.loop-child.invariant in
     let f = c.loop-child.frame in
-    let over = rw (c.deref.ensures.value, c.deref-in-loop-child.ensures.value, c.deref-in-loop-child-2.ensures.value, c.deref-sequencing.ensures) at c.in-Over.ensures.over in
+    let over = rw (c.deref.ensures.value, c.deref-in-loop-child.ensures.value, c.deref-sequencing.ensures) at c.in-Over.ensures.over in
     let whole = rw (c.deref-in-loop-child.ensures.value, c.deref-sequencing.ensures) at c.in-Over.ensures.whole in
-    let trial = rw (c.deref.ensures.value, c.deref-in-loop-child.ensures.value, c.deref-in-loop-child-2.ensures.value, c.deref-sequencing.ensures) at c.in-Over.ensures.trial in
+    let trial = rw (c.deref.ensures.value, c.deref-in-loop-child.ensures.value, c.deref-sequencing.ensures) at c.in-Over.ensures.trial in
     let own : Won q s (arrangement_of f.candidate) c.in-Over.best = won_by_layout q c.requires.fits s f.candidate inv.frame.arranged f.trial inv.frame.trying c.go_on.new.trial c.in-Over.best trial c.in-Over.ensures.at c.in-Over.ensures.last over whole in
     λ b e. rw c.requires.last (won_by q s f.best c.in-Over.best f.winner f.candidate c.take.new.frame.winner inv.frame.won own c.take.ensures.winner b (sym c.take.ensures.best ∙ e)).within
 
@@ -31,9 +31,9 @@ returns-in-None-clause-over g c =
     let s = c.args.frame.now.start in
     let inv = c.loop-child.invariant in
     let f = c.loop-child.frame in
-    let over = rw (c.deref.ensures.value, c.deref-in-loop-child.ensures.value, c.deref-in-loop-child-2.ensures.value, c.deref-sequencing.ensures) at c.in-Over.ensures.over in
+    let over = rw (c.deref.ensures.value, c.deref-in-loop-child.ensures.value, c.deref-sequencing.ensures) at c.in-Over.ensures.over in
     let whole = rw (c.deref-in-loop-child.ensures.value, c.deref-sequencing.ensures) at c.in-Over.ensures.whole in
-    let trial = rw (c.deref.ensures.value, c.deref-in-loop-child.ensures.value, c.deref-in-loop-child-2.ensures.value, c.deref-sequencing.ensures) at c.in-Over.ensures.trial in
+    let trial = rw (c.deref.ensures.value, c.deref-in-loop-child.ensures.value, c.deref-sequencing.ensures) at c.in-Over.ensures.trial in
     let least : IsLeastWith q s (arrangement_of f.candidate) f.trial.cap (finish_of c.in-Over.best) = inv.frame.trying.gives (finish_of c.in-Over.best) (over inv.frame.trying.zeros inv.frame.trying.trial) in
     let own : Won q s (arrangement_of f.candidate) c.in-Over.best = won_by_layout q c.requires.fits s f.candidate inv.frame.arranged f.trial inv.frame.trying c.go_on.new.trial c.in-Over.best trial c.in-Over.ensures.at c.in-Over.ensures.last over whole in
     let e : c.take.new.frame.start ≡ c.args.frame.now.start = c.take.ensures.start ∙ inv.start in
@@ -46,9 +46,9 @@ loop-child-preserved g c =
     let s = c.args.frame.now.start in
     let inv = c.loop-child.invariant in
     let f = c.loop-child.frame in
-    let over = rw (c.deref.ensures.value, c.deref-in-loop-child.ensures.value, c.deref-in-loop-child-2.ensures.value, c.deref-sequencing.ensures) at c.in-Over.ensures.over in
+    let over = rw (c.deref.ensures.value, c.deref-in-loop-child.ensures.value, c.deref-sequencing.ensures) at c.in-Over.ensures.over in
     let whole = rw (c.deref-in-loop-child.ensures.value, c.deref-sequencing.ensures) at c.in-Over.ensures.whole in
-    let trial = rw (c.deref.ensures.value, c.deref-in-loop-child.ensures.value, c.deref-in-loop-child-2.ensures.value, c.deref-sequencing.ensures) at c.in-Over.ensures.trial in
+    let trial = rw (c.deref.ensures.value, c.deref-in-loop-child.ensures.value, c.deref-sequencing.ensures) at c.in-Over.ensures.trial in
     let least : IsLeastWith q s (arrangement_of f.candidate) f.trial.cap (finish_of c.in-Over.best) = inv.frame.trying.gives (finish_of c.in-Over.best) (over inv.frame.trying.zeros inv.frame.trying.trial) in
     let own : Won q s (arrangement_of f.candidate) c.in-Over.best = won_by_layout q c.requires.fits s f.candidate inv.frame.arranged f.trial inv.frame.trying c.go_on.new.trial c.in-Over.best trial c.in-Over.ensures.at c.in-Over.ensures.last over whole in
     let e : c.take.new.frame.start ≡ c.args.frame.now.start = c.take.ensures.start ∙ inv.start in
@@ -81,9 +81,9 @@ returns-in-None-clause-won g c =
     let s = c.args.frame.now.start in
     let inv = c.loop-child.invariant in
     let f = c.loop-child.frame in
-    let over = rw (c.deref.ensures.value, c.deref-in-loop-child.ensures.value, c.deref-in-loop-child-2.ensures.value, c.deref-sequencing.ensures) at c.in-Over.ensures.over in
+    let over = rw (c.deref.ensures.value, c.deref-in-loop-child.ensures.value, c.deref-sequencing.ensures) at c.in-Over.ensures.over in
     let whole = rw (c.deref-in-loop-child.ensures.value, c.deref-sequencing.ensures) at c.in-Over.ensures.whole in
-    let trial = rw (c.deref.ensures.value, c.deref-in-loop-child.ensures.value, c.deref-in-loop-child-2.ensures.value, c.deref-sequencing.ensures) at c.in-Over.ensures.trial in
+    let trial = rw (c.deref.ensures.value, c.deref-in-loop-child.ensures.value, c.deref-sequencing.ensures) at c.in-Over.ensures.trial in
     let own : Won q s (arrangement_of f.candidate) c.in-Over.best = won_by_layout q c.requires.fits s f.candidate inv.frame.arranged f.trial inv.frame.trying c.go_on.new.trial c.in-Over.best trial c.in-Over.ensures.at c.in-Over.ensures.last over whole in
     λ b e. won_by q s f.best c.in-Over.best f.winner f.candidate c.take.new.frame.winner inv.frame.won own c.take.ensures.winner b (sym c.take.ensures.best ∙ e)
 
@@ -93,7 +93,7 @@ returns-in-Wants-clause-frame g c =
     let s = c.args.frame.now.start in
     let inv = c.loop-child.invariant in
     let f = c.loop-child.frame in
-    let trial = rw (c.deref.ensures.value, c.deref-in-loop-child.ensures.value, c.deref-in-loop-child-2.ensures.value, c.deref-sequencing.ensures) at c.in-Wants.ensures.trial in
+    let trial = rw (c.deref.ensures.value, c.deref-in-loop-child.ensures.value, c.deref-sequencing.ensures) at c.in-Wants.ensures.trial in
     let room = rw c.deref.ensures.value at c.in-Wants.ensures.room in
     record {
       trying = still_trying q s f.candidate f.trial c.go_on.new.trial inv.frame.trying trial c.in-Wants.ensures.under room c.in-Wants.ensures.at c.in-Wants.ensures.last c.in-Wants.ensures.cap;

@@ -29,7 +29,7 @@ finish_of_child-requires-clause-start g c =
     let fs = c.loop-subtask.finishes.items in
     let lt : i < length a.order = rw (c.deref-subtask-items.ensures.value, c.deref-sequencing.ensures) at c.loop-subtask-test.true in
     let start : c.start_of-start.result ≡ start_behind fs c.args.at (listed_before a.direct (slice_index a.order i)) =
-    rw (c.deref.ensures.value, c.direct_before.ensures, c.deref-in-loop-subtask.ensures.value, c.deref-subtask-items.ensures.value, c.deref-sequencing.ensures) at c.start_of-start.ensures
+    rw (c.deref.ensures.value, c.at.ensures, c.deref-subtask-items.ensures.value, c.deref-sequencing.ensures) at c.start_of-start.ensures
     in
     rw start (start_small q a c.requires.nodes.fits c.requires.arranged c.args.at c.args._finish i lt ss fs c.loop-subtask.invariant.0 c.requires.over)
 
@@ -44,7 +44,7 @@ unreachable-requires g c =
     let next = slice_index a.order i in
     let within = is_next q a c.requires.nodes.fits c.requires.arranged c.args.at c.args._finish i lt ss fs c.loop-subtask.invariant.0 in
     let start : c.start_of-start.result ≡ start_behind fs c.args.at (listed_before a.direct next) =
-    rw (c.deref.ensures.value, c.direct_before.ensures, c.deref-in-loop-subtask.ensures.value, c.deref-subtask-items.ensures.value, c.deref-sequencing.ensures) at c.start_of-start.ensures
+    rw (c.deref.ensures.value, c.at.ensures, c.deref-subtask-items.ensures.value, c.deref-sequencing.ensures) at c.start_of-start.ensures
     in
     let child : c.index.result.now ≡ child_at a.children next =
     (rw (c.deref-subtask-items.ensures.value, c.deref-sequencing.ensures) at c.index.ensures) ∙ same_or a.children next c.index.result.now (children.Action 0) within
@@ -63,7 +63,7 @@ loop-subtask-preserved g c =
     let next = slice_index a.order i in
     let within = is_next q a c.requires.nodes.fits c.requires.arranged c.args.at c.args._finish i lt ss fs c.loop-subtask.invariant.0 in
     let start : c.start_of-start.result ≡ start_behind fs c.args.at (listed_before a.direct next) =
-    rw (c.deref.ensures.value, c.direct_before.ensures, c.deref-in-loop-subtask.ensures.value, c.deref-subtask-items.ensures.value, c.deref-sequencing.ensures) at c.start_of-start.ensures
+    rw (c.deref.ensures.value, c.at.ensures, c.deref-subtask-items.ensures.value, c.deref-sequencing.ensures) at c.start_of-start.ensures
     in
     let child : c.index.result.now ≡ child_at a.children next =
     (rw (c.deref-subtask-items.ensures.value, c.deref-sequencing.ensures) at c.index.ensures) ∙ same_or a.children next c.index.result.now (children.Action 0) within

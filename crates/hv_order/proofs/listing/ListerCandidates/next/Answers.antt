@@ -1,6 +1,5 @@
 use Rattle.std.proofs.Common.{◌≡◌, ◌∷◌, ◌⊎◌, ℕ, List, length, sym, ap, ◌∙◌, subst}
 use Rattle.std.specs.Prelude.{map, filter}
-use Rattle.hv_order.specs.inside.Arrangements.{lists_of}
 use Rattle.hv_order.specs.inside.Children.{child_at}
 use Rattle.hv_order.specs.inside.Listers.{arranged_by}
 use Rattle.hv_order.specs.inside.Spans.{is_in_order, IsMisplaced, IsBlocked, ArePlacings}
@@ -13,8 +12,8 @@ loop-self-preserved c =
     let l = c.loop-self.self in
     let lent = c.advance.new.self in
     let left = c.pass_over.ensures in
-    let stuck : IsMisplaced l.spans.value (map (child_at l.children.now) lent.children) (lists_of l.sequencing.value.direct.items) c.in-Some.last ⊎ IsBlocked l.spans.value (map (child_at l.children.now) lent.children) (lists_of l.sequencing.value.direct.items) c.in-Some.last =
-    rw (c.in-Some.is, c.deref.ensures, c.deref-in-loop-self.ensures.value, c.in_ok-children.ensures, c.children.ensures, c.deref-in-loop-self-3.ensures.value, c.deref-in-loop-self-2.ensures) at c.stuck.ensures in
+    let stuck : IsMisplaced l.spans.value (map (child_at l.children.now) lent.children) l.sequencing.value.direct c.in-Some.last ⊎ IsBlocked l.spans.value (map (child_at l.children.now) lent.children) l.sequencing.value.direct c.in-Some.last =
+    rw (c.in-Some.is, c.deref.ensures, c.deref-in-loop-self.ensures.value, c.in_ok-children.ensures, c.children.ensures, c.deref-in-loop-self-2.ensures) at c.stuck.ensures in
     let head : l.coming.coming ≡ (lent.children, lent.objects) ∷ lent.coming = rw c.if-branch.true at c.in_ok-advance.ensures.ok in
     let placings : ArePlacings (length l.children.now) ((lent.children, lent.objects) ∷ lent.coming) = subst (λ (cs : List (List ℕ × List ℕ)). ArePlacings (length l.children.now) cs) head l.placings in
     sym (passed l.spans.value l.node l.children.now l.sequencing.value (length l.children.now) lent.children lent.objects lent.coming left.gone c.pass_over.new.self.coming c.in-Some.last placings stuck left.coming left.alike)
