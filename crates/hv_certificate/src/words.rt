@@ -9,6 +9,9 @@ ghost use Rattle.hv_certificate.specs.inside.Reading.{IsLineRead};
 use hv_text::{Memory, Name};
 use std::alloc::Global;
 
+// For so many words of a line room is made at once.
+const USUAL: usize = 16;
+
 /// A line: its first word, the others, and what stands behind the line.
 #[derive(Drop)]
 pub(crate) struct LineWords<'s> {
@@ -50,7 +53,7 @@ fn read_words<'s>(alloc: Global, left: &'s [u8]) -> Result<(Vec<Name<'s>>, &'s [
     ensures end { IfOk result (λ p. goes_on p.1.now ≡ false) }
     ensures behind { IfOk result (λ p. begins p.1.now ≡ false) }
 {
-    let mut words = Vec::new(alloc);
+    let mut words = Vec::with_capacity(alloc, USUAL)?;
     let mut rest = left;
     'words: while let Some((word, behind)) = next_word(rest) {
         words.push(word)?;

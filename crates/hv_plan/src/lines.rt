@@ -84,8 +84,11 @@ pub(crate) fn is_marker(line: Line<'_>, marker: &[u8]) -> bool
     let Word::Name(name, _) = first.word else {
         return false;
     };
-    let Ok(None) = next_word(line.bytes, first.past) else {
+    if !name.is(marker) {
         return false;
-    };
-    name.is(marker)
+    }
+    match next_word(line.bytes, first.past) {
+        Ok(None) => true,
+        _ => false,
+    }
 }

@@ -10,6 +10,9 @@ use crate::name::{Name, is_word_byte};
 use crate::span::Span;
 use std::alloc::Global;
 
+// For so many words room is made at once: few lines of plans have more.
+const USUAL: usize = 8;
+
 /// What a byte outside comments is.
 #[derive(Clone, Copy)]
 pub enum Class {
@@ -128,7 +131,9 @@ pub fn read_words<'s>(alloc: Global, text: &'s [u8]) -> Result<Vec<Word<'s>>, Te
     if text.len() > MOST_BYTES {
         return Err(TextFault::nowhere(TextKind::TooLong));
     }
-    let mut words = Vec::new(alloc);
+    let Ok(mut words) = Vec::with_capacity(alloc, USUAL) else {
+        return Err(TextFault::nowhere(TextKind::Memory));
+    };
     let mut at = 0;
     'words: while let Some(found) = next_word(text, at)? {
         at = found.past;
