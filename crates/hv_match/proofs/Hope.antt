@@ -13,7 +13,7 @@ use Rattle.hv_world.specs.declared.formula.Constraint as code_constraint
 use Rattle.hv_match.specs.Possible.{is_possible, are_possible}
 use Rattle.hv_match.specs.inside.Search.{below}
 use Rattle.hv_match.specs.inside.States.{rest}
-use Rattle.hv_match.specs.inside.Puzzles.{Work, Puzzle, options, places, values, is_good, child_at, bound, has, Done, AreRows, IsMatch, Agrees, GoesOn, CannotDo, CannotHold, CannotBeTrue, holds, all_hold}
+use Rattle.hv_match.specs.inside.Puzzles.{Work, Puzzle, options, places, values, is_good, bound, has, Done, AreRows, IsMatch, Agrees, GoesOn, CannotDo, CannotHold, CannotBeTrue, holds, all_hold}
 use Rattle.hv_match.specs.inside.Tables.{size_at}
 use Rattle.hv_match.proofs.Listing.{none_begins}
 use Rattle.hv_match.proofs.FirstPlaces.{agrees, get_left, get_taken}
@@ -69,7 +69,7 @@ zip_read cs B [] (s ∷ ss) i d a h = absurd a
 zip_read cs B (x ∷ M) (s ∷ ss) zero d a h = (x, refl, a.0)
 zip_read cs B (x ∷ M) (s ∷ ss) (suc i) d a h = zip_read cs B M ss i d a.1 (omega arith)
 
-read_here : (p : List ℕ) (i : ℕ) → i < length p → slice_get p i ≡ Some (get_or p i 0)
+pub read_here : (p : List ℕ) (i : ℕ) → i < length p → slice_get p i ≡ Some (get_or p i 0)
 read_here [] i h = absurd (omega arith)
 read_here (x ∷ p) zero h = refl
 read_here (x ∷ p) (suc i) h = read_here p i (omega arith)

@@ -26,3 +26,4 @@ pub mod Cited
 pub mod PossibleLemmas
 pub mod SkipLemmas
 pub mod Leaving
+pub mod Forcing

@@ -1,12 +1,12 @@
 -- A candidate is a path of the search.
-use Rattle.std.proofs.Common.{◌≡◌, ℕ, zero, suc, ◌+◌, ◌-◌, ◌≤◌, true, List, [], ◌∷◌, ◌++◌, length, get_or, slice_get, refl, sym, ap, ◌∙◌, arith, subst, append_assoc, length-append, Option, Some, None, Contains}
+use Rattle.std.proofs.Common.{◌≡◌, ℕ, zero, suc, ◌-◌, ◌≤◌, List, [], ◌∷◌, ◌++◌, length, get_or, slice_get, refl, sym, ap, ◌∙◌, arith, subst, append_assoc, length-append, Option, Some, None, Contains}
 use Rattle.std.proofs.lemmas.List.{append-nil}
 use Rattle.std.specs.List.{AllZip}
 use Rattle.hv_lists.proofs.Contained.{at_head, contains_at}
 use Rattle.hv_lists.proofs.Pairs.{same_length}
 use Rattle.hv_world.specs.Values.{Subtask}
 use Rattle.hv_match.specs.inside.Search.{IsPath}
-use Rattle.hv_match.specs.inside.Puzzles.{Work, Puzzle, child_at, bound, pick, options, Done, AreRows, IsMatch}
+use Rattle.hv_match.specs.inside.Puzzles.{Work, Puzzle, bound, pick, options, Done, AreRows, IsMatch}
 use Rattle.hv_match.proofs.FirstPlaces.{forced_bound}
 use Rattle.hv_match.proofs.Fitting.{has_mem}
 

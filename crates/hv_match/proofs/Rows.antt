@@ -1,5 +1,5 @@
 -- The rows of places.
-use Rattle.std.proofs.Common.{◌≡◌, ◌≢◌, ℕ, zero, suc, ◌+◌, ◌<◌, ◌≤◌, ◌⊎◌, Bool, true, false, List, [], ◌∷◌, ◌++◌, length, map, take, drop, set, get_or, slice_get, slice_index, refl, sym, subst, ap, ◌∙◌, arith, if◌then◌else◌, nat_eq, eq-eqb, eqb-true, Option, Some, None, option_map, get_or-set_same, get_or-set_other, inl, inr, vec_len, Contains, All}
+use Rattle.std.proofs.Common.{◌≡◌, ◌≢◌, ℕ, zero, suc, ◌+◌, ◌<◌, ◌≤◌, ◌⊎◌, Bool, true, false, List, [], ◌∷◌, ◌++◌, length, map, take, drop, set, get_or, slice_get, refl, sym, subst, ap, ◌∙◌, arith, if◌then◌else◌, nat_eq, eq-eqb, eqb-true, Option, Some, None, option_map, get_or-set_same, get_or-set_other, inl, inr, vec_len, Contains, All}
 use Rattle.std.proofs.lemmas.List.{append-nil, length-map, map-set, take_all, drop_all}
 use Rattle.std.specs.Borrow.{Bor}
 use Rattle.std.specs.Global.{Vec}
@@ -10,7 +10,7 @@ use Rattle.hv_world.specs.Alike.{Key, key, keys, same_name, same_key, how_many, 
 use Rattle.hv_world.specs.NetworkViews.{network_view}
 use Rattle.hv_world.specs.declared.network.Network.{Network}
 use Rattle.hv_match.specs.inside.Puzzles.{Work, child_at, places_where, Done, IsRow, AreRowsOf}
-use Rattle.hv_match.specs.inside.Tables.{has_name, is_number, is_of_class, row_at, AreClassRows, HasPut, places, row_for}
+use Rattle.hv_match.specs.inside.Tables.{has_name, is_number, is_of_class, row_at, AreClassRows, HasPut, few_places, row_for}
 use Rattle.hv_match.specs.declared.child_rows.ChildRows.TheVariants as kinds
 use Rattle.hv_match.proofs.Factors.{key_is, key_same, name_itself}
 use Rattle.hv_match.proofs.Fitting.{mem_has}
@@ -86,7 +86,7 @@ each_place k [] x h = absurd (omega arith)
 each_place k (c ∷ cs) zero h = let z : k + 0 ≡ k = omega arith in rw z (at_head k (places_where (λ c. true) (k + 1) cs) k refl)
 each_place k (c ∷ cs) (suc x) h = let z : k + suc x ≡ k + 1 + x = omega arith in rw z (in_tail k (places_where (λ c. true) (k + 1) cs) (k + 1 + x) (each_place (k + 1) cs x (omega (arith, h))))
 
-first_places : (cs : List (Option Work)) → length cs ≤ 4 → take (length cs) places ≡ places_where (λ c. true) 0 cs
+first_places : (cs : List (Option Work)) → length cs ≤ 4 → take (length cs) few_places ≡ places_where (λ c. true) 0 cs
 first_places [] h = refl
 first_places (a ∷ []) h = refl
 first_places (a ∷ b ∷ []) h = refl

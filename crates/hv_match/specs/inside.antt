@@ -7,6 +7,7 @@ pub mod Puzzles
 pub mod Tables
 pub mod PuzzleViews
 pub mod Ranges
+pub mod Forced
 pub mod Parts
 pub mod Checks
 pub mod Ways

@@ -1,6 +1,6 @@
 //! The candidates of a node, one at a time.
 
-ghost use Rattle.std.specs.Prelude.{◌≡◌, ◌≢◌, ◌+◌, ◌<◌, ◌^◌, [], true, All, length, map, option_map, IfOk, OnErr, MatchBool};
+ghost use Rattle.std.specs.Prelude.{◌≡◌, ◌≢◌, ◌+◌, ◌<◌, ◌≤◌, ◌^◌, [], true, All, length, map, option_map, IfOk, OnErr, MatchBool};
 ghost use Rattle.hv_lists.specs.Lists.{Once};
 ghost use Rattle.hv_state.specs.Ever.{ever_rows};
 ghost use Rattle.hv_plan.specs.BuiltTrees.{tree_view};
@@ -10,8 +10,10 @@ ghost use Rattle.hv_match.specs.Candidates.{HasAllAt, IsAdvance, IsPassing};
 ghost use Rattle.hv_world.specs.Bindings.{object_number};
 ghost use Rattle.hv_match.specs.Counts.{IsInCountAt};
 ghost use Rattle.hv_match.specs.inside.PuzzleViews.{puzzle_view};
-ghost use Rattle.hv_match.specs.inside.Parts.{listed, BeginsWith, IsWholeBy};
+ghost use Rattle.hv_match.specs.inside.Forced.{AreForced};
+ghost use Rattle.hv_match.specs.inside.Parts.{listed, listed_as, to_find, BeginsWith, HasRoom, IsStateOf, IsWholeBy, ListsMatches, LosesSome};
 
+use crate::forced::MOST_CHOICES;
 use crate::make::puzzle;
 use crate::matcher::Matcher;
 use crate::puzzle::Puzzle;
@@ -24,13 +26,29 @@ use hv_text::Memory;
 use hv_world::ObjectId;
 use std::alloc::Global;
 use std::marker::Model;
+use std::mem::replace;
+
+/// A puzzle, with a place in the search for its matches.
+#[derive(Drop)]
+pub(crate) struct Seeker<'a> {
+    puzzle: Puzzle<'a>,
+    at: State,
+}
+
+/// The candidates that are still to come.
+#[derive(Drop)]
+pub(crate) enum Coming<'a> {
+    /// The one that is written down, where it has not been lent; there is no other.
+    Written(bool),
+    /// Those that a search finds.
+    Sought(Box<Seeker<'a>>),
+}
 
 /// The candidates of a node: the ways in which its children can stand for the subtasks of its
 /// method. One is lent at a time, and the others are still to come.
 #[derive(Drop)]
 pub struct Candidates<'a> {
-    puzzle: Puzzle<'a>,
-    at: State,
+    coming: Coming<'a>,
     // The candidate that is lent.
     children: Vec<u32>,
     objects: Vec<ObjectId>,
@@ -42,9 +60,9 @@ impl<'a> Model for Candidates<'a> {
 
     ghost Value = { Listing };
 
-    ghost view = { λ s. listing s.puzzle s.at s.children.items s.objects.items };
+    ghost view = { λ s. listing s.coming s.children.items s.objects.items };
 
-    ghost invariant = { λ s. IsListing s.puzzle s.at s.children.items s.objects.items };
+    ghost invariant = { λ s. IsListing s.coming s.children.items s.objects.items };
 }
 
 // Writes places down in 32 bits.
@@ -83,20 +101,18 @@ fn begins_with(chosen: &[usize], places: &[u32]) -> bool
     true
 }
 
-impl<'a> Candidates<'a> {
-    /// All that fit the puzzle.
-    pub(crate) fn of(alloc: Global, puzzle: Puzzle<'a>) -> Result<Candidates<'a>, Memory>
-        ensures { IfOk result (λ c. c.coming ≡ listed (puzzle_view puzzle.entry)) }
+impl<'a> Seeker<'a> {
+    // A search that begins.
+    fn new(alloc: Global, puzzle: Puzzle<'a>) -> Result<Seeker<'a>, Memory>
+        ensures place { IfOk result (λ s. IsStateOf s.puzzle s.at) }
+        ensures same { IfOk result (λ s. s.puzzle ≡ puzzle.entry) }
+        ensures all { IfOk result (λ s. to_find s ≡ listed (puzzle_view puzzle.entry)) }
     {
         let is_over = puzzle.is_hopeless();
-        let subtasks = puzzle.table.subtasks.len();
-        let parameters = puzzle.table.ranges.len();
-        let levels = subtasks.saturating_add(parameters);
+        let levels = puzzle.choices();
         let chosen = Vec::with_capacity(alloc, levels)?;
         let numbers = Vec::with_capacity(alloc, levels)?;
         let made_at = vec![in alloc; 0usize; puzzle.children.len()]?;
-        let children = vec![in alloc; 0u32; subtasks]?;
-        let objects = vec![in alloc; ObjectId(0); parameters]?;
         let at = State {
             chosen,
             numbers,
@@ -104,9 +120,107 @@ impl<'a> Candidates<'a> {
             next: 0,
             is_over,
         };
+        Ok(Seeker { puzzle, at })
+    }
+
+    // Goes on to the next match, and writes its children and its objects down.
+    fn advance(&mut self, children: &mut [u32], objects: &mut [ObjectId]) -> Result<bool, Memory>
+        requires { HasRoom self.old children.old objects.old }
+        ensures room { HasRoom self.new children.new objects.new }
+        ensures children { length children.new ≡ length children.old }
+        ensures objects { length objects.new ≡ length objects.old }
+        ensures ok { IfOk result (IsAdvance
+            (listed_as children.old objects.old (to_find self.old))
+            (listed_as children.new objects.new (to_find self.new))) }
+        ensures err { OnErr result (listed_as children.new objects.new (to_find self.new)
+            ≡ listed_as children.old objects.old (to_find self.old)) }
+    {
+        let is_found = find(&self.puzzle, &mut self.at)?;
+        if is_found {
+            let subtasks = self.puzzle.table.subtasks.len();
+            write_places(children, &self.at.chosen[..subtasks]);
+            write_objects(objects, &self.at.chosen[subtasks..]);
+            back(&self.puzzle, &mut self.at);
+        }
+        Ok(is_found)
+    }
+
+    // Leaves out matches that begin with these places, if the search stands among them.
+    fn pass_over(&mut self, places: &[u32])
+        requires place { IsStateOf self.old.puzzle self.old.at }
+        requires few { length places.now ≤ length self.old.puzzle.table.now.subtasks.now }
+        ensures place { IsStateOf self.new.puzzle self.new.at }
+        ensures same { self.new.puzzle ≡ self.old.puzzle }
+        ensures coming { LosesSome places.now (to_find self.old) (to_find self.new) }
+    {
+        if begins_with(&self.at.chosen, places) {
+            leave(&self.puzzle, &mut self.at, places.len());
+        }
+    }
+
+    // Whether there is a match still to come.
+    fn has_next(&mut self) -> Result<bool, Memory>
+        requires { IsStateOf self.old.puzzle self.old.at }
+        ensures place { IsStateOf self.new.puzzle self.new.at }
+        ensures puzzle { self.new.puzzle ≡ self.old.puzzle }
+        ensures ok { IfOk result
+            (λ b. MatchBool b (to_find self.new ≢ []) (to_find self.new ≡ [])) }
+        ensures same { to_find self.new ≡ to_find self.old }
+    {
+        let is_left = find(&self.puzzle, &mut self.at)?;
+        Ok(is_left)
+    }
+}
+
+impl<'a> Candidates<'a> {
+    /// All that fit the puzzle.
+    pub(crate) fn of(alloc: Global, puzzle: Puzzle<'a>) -> Result<Candidates<'a>, Memory>
+        ensures { IfOk result (ListsMatches (puzzle_view puzzle.entry)) }
+    {
+        let count = puzzle.choices();
+        if count <= MOST_CHOICES && !puzzle.is_uneven() {
+            let mut choices = [0; MOST_CHOICES];
+            let chosen = &mut choices[..count];
+            if puzzle.force(chosen) {
+                return Candidates::written(alloc, &puzzle, chosen);
+            }
+        }
+        Candidates::sought(alloc, puzzle)
+    }
+
+    // The one that has these choices, if it fits the puzzle, where no other does.
+    fn written(
+        alloc: Global,
+        puzzle: &Puzzle<'_>,
+        chosen: &[usize],
+    ) -> Result<Candidates<'a>, Memory>
+        requires { AreForced (puzzle_view puzzle.now) chosen.now }
+        ensures { IfOk result (ListsMatches (puzzle_view puzzle.now)) }
+    {
+        let subtasks = puzzle.table.subtasks.len();
+        let is_match = puzzle.is_match(chosen);
+        let mut children = vec![in alloc; 0u32; subtasks]?;
+        let mut objects = vec![in alloc; ObjectId(0); puzzle.table.ranges.len()]?;
+        if is_match {
+            write_places(&mut children, &chosen[..subtasks]);
+            write_objects(&mut objects, &chosen[subtasks..]);
+        }
         Ok(Candidates {
-            puzzle,
-            at,
+            coming: Coming::Written(is_match),
+            children,
+            objects,
+        })
+    }
+
+    // Those that a search finds.
+    fn sought(alloc: Global, puzzle: Puzzle<'a>) -> Result<Candidates<'a>, Memory>
+        ensures { IfOk result (ListsMatches (puzzle_view puzzle.entry)) }
+    {
+        let children = vec![in alloc; 0u32; puzzle.table.subtasks.len()]?;
+        let objects = vec![in alloc; ObjectId(0); puzzle.table.ranges.len()]?;
+        let seeker = Seeker::new(alloc, puzzle)?;
+        Ok(Candidates {
+            coming: Coming::Sought(Box::new(alloc, seeker)?),
             children,
             objects,
         })
@@ -158,14 +272,10 @@ impl<'a> Candidates<'a> {
         ensures ok { IfOk result (IsAdvance self.old self.new) }
         ensures err { OnErr result (self.new ≡ self.old) }
     {
-        let is_found = find(&self.puzzle, &mut self.at)?;
-        if is_found {
-            let subtasks = self.puzzle.table.subtasks.len();
-            write_places(&mut self.children, &self.at.chosen[..subtasks]);
-            write_objects(&mut self.objects, &self.at.chosen[subtasks..]);
-            back(&self.puzzle, &mut self.at);
+        match &mut self.coming {
+            Coming::Written(is_coming) => Ok(replace(is_coming, false)),
+            Coming::Sought(seeker) => seeker.advance(&mut self.children, &mut self.objects),
         }
-        Ok(is_found)
     }
 
     /// Leaves out candidates that are still to come and have, for the subtasks up to one in written
@@ -173,8 +283,10 @@ impl<'a> Candidates<'a> {
     pub fn pass_over(&mut self, last: usize)
         ensures { IsPassing (last + 1) self.old self.new }
     {
-        if last < self.children.len() && begins_with(&self.at.chosen, &self.children[..=last]) {
-            leave(&self.puzzle, &mut self.at, last + 1);
+        if let Coming::Sought(seeker) = &mut self.coming
+            && last < self.children.len()
+        {
+            seeker.pass_over(&self.children[..=last]);
         }
     }
 
@@ -183,8 +295,10 @@ impl<'a> Candidates<'a> {
         ensures ok { IfOk result (λ b. MatchBool b (self.new.coming ≢ []) (self.new.coming ≡ [])) }
         ensures same { self.new ≡ self.old }
     {
-        let is_left = find(&self.puzzle, &mut self.at)?;
-        Ok(is_left)
+        match &mut self.coming {
+            Coming::Written(is_coming) => Ok(*is_coming),
+            Coming::Sought(seeker) => seeker.has_next(),
+        }
     }
 
     /// For each subtask in written order the place of its child among the node's children, in the

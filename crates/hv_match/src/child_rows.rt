@@ -63,7 +63,7 @@ fn alike_row<'a>(network: &Network, rows: &'a Lists<usize>, subtask: usize) -> &
 
 // So many places, or as many as are all tried.
 fn first_places(count: usize) -> &'static [usize]
-    ensures { result.now ≡ take count tables.places }
+    ensures { result.now ≡ take count tables.few_places }
 {
     &PLACES[..count.min(PLACES.len())]
 }

@@ -1,4 +1,5 @@
-//! Parameters that a later subtask tells before its child is chosen: where just one child may do it.
+//! Parameters that a later subtask tells before its child is chosen: where just one child is tried for
+//! it.
 
 ghost use Rattle.std.specs.Prelude.{◌≡◌, ◌<◌, length, map, true, IfSome, Some, slice_get};
 ghost use Rattle.hv_world.specs.Values.{variable};
@@ -49,7 +50,7 @@ impl Puzzle<'_> {
     ghost use Rattle.hv_match.specs.inside.PuzzleViews.{puzzle_view, search_of};
 
     // What the child of a subtask says of a parameter that stands there at a position, if just one
-    // child may do the subtask.
+    // child is tried for the subtask.
     fn told_by(&self, subtask: usize, position: usize, parameter: usize) -> Option<usize>
         requires { subtask < length self.now.table.now.subtasks.now }
         ensures { IfSome result (IsForetold (puzzle_view self.now) parameter) }
@@ -65,7 +66,7 @@ impl Puzzle<'_> {
         }
     }
 
-    // What the only child that may do a subtask says of a parameter, if there is one.
+    // What the only child that is tried for a subtask says of a parameter, if there is one.
     fn foretold(&self, parameter: usize) -> Option<usize>
         ensures { IfSome result (IsForetold (puzzle_view self.now) parameter) }
     {
@@ -80,8 +81,8 @@ impl Puzzle<'_> {
         }
     }
 
-    /// Whether a parameter is bound to another object than the only child that may do some subtask
-    /// says.
+    /// Whether a parameter is bound to another object than the only child that is tried for some
+    /// subtask says.
     pub(crate) fn is_foretold_otherwise(&self, chosen: &[usize], parameter: usize) -> bool
         ensures { result ≡ true → NothingBegins (search_of self.now) chosen.now }
     {

@@ -8,6 +8,7 @@ mod check;
 mod child_rows;
 mod counts;
 mod decided;
+mod forced;
 mod foretold;
 mod laws;
 mod make;

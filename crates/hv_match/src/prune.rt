@@ -216,8 +216,8 @@ impl Puzzle<'_> {
         self.is_outside(&[], None, self.table.task) || self.is_broken(&[])
     }
 
-    // Whether the children are not as many as the subtasks.
-    fn is_uneven(&self) -> bool
+    /// Whether the children are not as many as the subtasks.
+    pub(crate) fn is_uneven(&self) -> bool
         ensures { result ≡ true → NothingBegins (search_of self.now) [] }
     {
         let subtasks = self.table.subtasks.len();

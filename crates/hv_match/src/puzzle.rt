@@ -133,6 +133,13 @@ pub(crate) fn work_does(work: Work<'_>, values: &[usize], subtask: &Subtask) -> 
 impl<'a> Puzzle<'a> {
     ghost use Rattle.hv_match.specs.inside.PuzzleViews.{puzzle_view};
 
+    /// How many choices a whole one has.
+    pub(crate) fn choices(&self) -> usize
+        ensures { result ≡ puzzles.levels (puzzle_view self.now) }
+    {
+        self.table.subtasks.len() + self.table.ranges.len()
+    }
+
     /// What the child at a place does.
     pub(crate) fn child(&self, place: usize) -> Option<Work<'a>>
         ensures { option_map work_view result
@@ -186,9 +193,9 @@ impl<'a> Puzzle<'a> {
         values.len() == self.table.ranges.len()
     }
 
-    // Whether the children at these places, which may be one, do the subtasks with these objects, and
-    // all else holds.
-    fn suits(&self, places: &[usize], values: &[usize]) -> bool
+    /// Whether the children at these places, which may be one, do the subtasks with these objects, and
+    /// all else holds.
+    pub(crate) fn suits(&self, places: &[usize], values: &[usize]) -> bool
         ensures { result ≡ puzzles.suits (puzzle_view self.now) places.now values.now }
     {
         self.are_in(values)

@@ -1,7 +1,7 @@
 -- What the search for the candidates of a node works on, and what it tests.
 use Rattle.std.specs.Prelude.{◌≡◌, ◌<◌, ◌≤◌, ◌*◌, ℕ, ◌+◌, ◌-◌, Bool, true, false, not, ◌&&◌, List, [], ◌∷◌, ◌++◌, map, length, take, drop, nat_eq, slice_get, slice_index, slice_index_or, Option, Some, None, if◌then◌else◌, Contains}
 use Rattle.std.specs.List.{AllZip}
-use Rattle.hv_world.specs.Values.{Term, object, variable, TaskName, Subtask, Constraint, Atom}
+use Rattle.hv_world.specs.Values.{Term, TaskName, Subtask, Constraint, Atom}
 use Rattle.hv_world.specs.Bindings.{object_of}
 use Rattle.hv_world.specs.Alike.{same_name, is_variable, is_free, key, keys}
 use Rattle.hv_lists.specs.Lists.{Once}

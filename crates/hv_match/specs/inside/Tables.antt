@@ -65,8 +65,8 @@ abbrev pub size_at : List Subtask → ℕ → ℕ
 size_at ss j = elim (class_at ss j) [ None ↦ 0 | Some i ↦ slice_index (class_sizes ss) i ]
 
 -- the places of as many children as are all tried
-abbrev pub places : List ℕ
-places = 0 ∷ 1 ∷ 2 ∷ 3 ∷ []
+abbrev pub few_places : List ℕ
+few_places = 0 ∷ 1 ∷ 2 ∷ 3 ∷ []
 
 -- the row of the class of the subtask of a number
 abbrev pub alike_row : List Subtask → List (List ℕ) → ℕ → List ℕ
@@ -74,7 +74,7 @@ alike_row ss rows j = elim (class_at ss j) [ None ↦ [] | Some i ↦ slice_inde
 
 -- the row of the subtask of a number
 abbrev pub row_for : ChildRows → ℕ → List ℕ
-row_for (kinds.All n) j = take n places
+row_for (kinds.All n) j = take n few_places
 row_for (kinds.Named rows) j = slice_index_or rows j []
 row_for (kinds.Alike n rows) j = alike_row (network_view n.now).subtasks rows j
 

@@ -1,6 +1,4 @@
-use Rattle.std.proofs.Common.{◌≡◌, ◌∙◌, length, refl, arith}
-use Rattle.std.proofs.lemmas.List.{length-map}
-use Rattle.hv_world.specs.Views.{subtask_view}
+use Rattle.std.proofs.Common.{refl}
 use Rattle.hv_match.specs.inside.PuzzleViews.{puzzle_view}
 use Rattle.hv_match.proofs.Hope.{none_may, one_more}
 use Rattle.hv_match.proofs.puzzle.Puzzle.lacks_child.Goals as goal

@@ -1,7 +1,6 @@
-use Rattle.std.proofs.Common.{◌≡◌, ◌∙◌, List, length, map, subst, ap, sym, refl, arith, slice_get, Some, option_map}
-use Rattle.std.proofs.lemmas.List.{length-map}
+use Rattle.std.proofs.Common.{◌≡◌, ◌∙◌, List, map, subst, ap, sym, refl, slice_get, Some, option_map}
 use Rattle.hv_world.specs.Values.{variable}
-use Rattle.hv_world.specs.Views.{subtask_view, term_view}
+use Rattle.hv_world.specs.Views.{term_view}
 use Rattle.hv_world.specs.declared.formula.Term.{Term}
 use Rattle.hv_match.specs.inside.Puzzles.{objects_of}
 use Rattle.hv_match.specs.inside.PuzzleViews.{puzzle_view}
