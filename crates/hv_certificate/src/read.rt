@@ -11,7 +11,7 @@ use crate::choice::{choice_of, index_of};
 use crate::fault::CertFault;
 use crate::number::number;
 use crate::words::read_line;
-use hv_text::{MOST_BYTES, Memory};
+use hv_text::{MOST_BYTES, Memory, Name};
 use std::alloc::Global;
 
 /// The certificate whose text this is.
@@ -49,13 +49,14 @@ fn read_root<'s>(alloc: Global, left: &'s [u8]) -> Result<Option<(Choice<'s>, &'
     ensures { IfOk result (λ o. MatchOption o (NoRoot left.now)
         (λ p. HasIds p.0 × (left.now ≡ root_text p.0 ++ p.1.now))) }
 {
-    let Some(line) = read_line(alloc, left)? else {
+    let mut words = Vec::new(alloc);
+    let Some(line) = read_line(&mut words, left)? else {
         return Ok(None);
     };
     if !line.first.is(b"root") {
         return Ok(None);
     }
-    let Some(choice) = choice_of(alloc, &line.words)? else {
+    let Some(choice) = choice_of(alloc, line.words)? else {
         return Ok(None);
     };
     Ok(Some((choice, line.behind)))
@@ -68,10 +69,11 @@ fn read_nodes<'s>(alloc: Global, left: &'s [u8]) -> Result<Vec<(u64, Choice<'s>,
     ensures err { IfErr result (IsOff left.now) }
 {
     let mut lines = Vec::new(alloc);
+    let mut words = Vec::new(alloc);
     let mut rest = left;
     let mut number = 3;
     'lines: while !rest.is_empty() {
-        let Some((line, behind)) = read_node(alloc, rest)? else {
+        let Some((line, behind)) = read_node(alloc, &mut words, rest)? else {
             return Err(CertFault::BadCertificate(number));
         };
         lines.push(line)?;
@@ -81,22 +83,24 @@ fn read_nodes<'s>(alloc: Global, left: &'s [u8]) -> Result<Vec<(u64, Choice<'s>,
     Ok(lines)
 }
 
-// The line of a decomposition line at the front, and what stands behind it.
+// The line of a decomposition line at the front, and what stands behind it. Its words are put in
+// place of those that a list has.
 fn read_node<'s>(
     alloc: Global,
+    words: &mut Vec<Name<'s>>,
     left: &'s [u8],
 ) -> Result<Option<((u64, Choice<'s>, u32), &'s [u8])>, Memory>
     ensures line { IfOk result (λ o. MatchOption o (NoNode left.now)
         (λ p. IsLine p.0 × (left.now ≡ node_text p.0 ++ p.1.now))) }
     ensures less { IfOk result (λ o. IfSome o (λ p. length p.1.now < length left.now)) }
 {
-    let Some(line) = read_line(alloc, left)? else {
+    let Some(line) = read_line(words, left)? else {
         return Ok(None);
     };
     let Some(id) = number(line.first) else {
         return Ok(None);
     };
-    let Some((index, words)) = index_of(&line.words) else {
+    let Some((index, words)) = index_of(line.words) else {
         return Ok(None);
     };
     let Some(choice) = choice_of(alloc, words)? else {

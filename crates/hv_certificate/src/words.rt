@@ -7,31 +7,31 @@ ghost use Rattle.hv_certificate.specs.inside.Words.{is_name_byte, begins, goes_o
 ghost use Rattle.hv_certificate.specs.inside.Reading.{IsLineRead};
 
 use hv_text::{Memory, Name};
-use std::alloc::Global;
-
-// For so many words of a line room is made at once.
-const USUAL: usize = 16;
 
 /// A line: its first word, the others, and what stands behind the line.
-#[derive(Drop)]
-pub(crate) struct LineWords<'s> {
+#[derive(Clone, Copy)]
+pub(crate) struct LineWords<'b, 's> {
     pub(crate) first: Name<'s>,
-    pub(crate) words: Vec<Name<'s>>,
+    pub(crate) words: &'b [Name<'s>],
     pub(crate) behind: &'s [u8],
 }
 
-/// The words of the line at the front of the bytes; None where no such line ends by a byte 10.
+/// The words of the line at the front of the bytes; None where no such line ends by a byte 10. They
+/// are put in place of those that a list has.
 ///
 /// # Errors
 ///
 /// Where a growth of memory was refused.
-pub(crate) fn read_line<'s>(alloc: Global, left: &'s [u8]) -> Result<Option<LineWords<'s>>, Memory>
+pub(crate) fn read_line<'b, 's>(
+    words: &'b mut Vec<Name<'s>>,
+    left: &'s [u8],
+) -> Result<Option<LineWords<'b, 's>>, Memory>
     ensures { IfOk result (IsLineRead left.now) }
 {
     let Some((first, left)) = front(left) else {
         return Ok(None);
     };
-    let (words, left) = read_words(alloc, left)?;
+    let left = read_words(words, left)?;
     let Some((end, behind)) = left.split_first() else {
         return Ok(None);
     };
@@ -45,21 +45,22 @@ pub(crate) fn read_line<'s>(alloc: Global, left: &'s [u8]) -> Result<Option<Line
     }))
 }
 
-// The words that each stand behind a space, and what stands behind them.
-fn read_words<'s>(alloc: Global, left: &'s [u8]) -> Result<(Vec<Name<'s>>, &'s [u8]), Memory>
+// Puts the words that each stand behind a space in place of those that a list has, and answers what
+// stands behind them.
+fn read_words<'s>(words: &mut Vec<Name<'s>>, left: &'s [u8]) -> Result<&'s [u8], Memory>
     requires { begins left.now ≡ false }
-    ensures words { IfOk result (λ p.
-        left.now ≡ words_text (map text_of p.0.items) ++ p.1.now) }
-    ensures end { IfOk result (λ p. goes_on p.1.now ≡ false) }
-    ensures behind { IfOk result (λ p. begins p.1.now ≡ false) }
+    ensures words { IfOk result (λ r.
+        left.now ≡ words_text (map text_of words.new.items) ++ r.now) }
+    ensures end { IfOk result (λ r. goes_on r.now ≡ false) }
+    ensures behind { IfOk result (λ r. begins r.now ≡ false) }
 {
-    let mut words = Vec::with_capacity(alloc, USUAL)?;
+    words.clear();
     let mut rest = left;
     'words: while let Some((word, behind)) = next_word(rest) {
         words.push(word)?;
         rest = behind;
     }
-    Ok((words, rest))
+    Ok(rest)
 }
 
 // The word behind a space, and what stands behind it.

@@ -5,9 +5,11 @@ use Rattle.std.specs.Char.{is_ascii_digit, to_ascii_lowercase}
 use Rattle.std.specs.declared.alloc.Global.{Global}
 use Rattle.std.proofs.lemmas.Grind.{common_steps}
 use Rattle.std.proofs.lemmas.List.{map-append, append_assoc}
+use Rattle.std.proofs.lemmas.List.Sums.{prefix_len_is}
 use Rattle.std.proofs.Math.Numerals.{one-add}
 use Rattle.std.proofs.Math.Seq.{drop-cons}
 use Rattle.std.proofs.lemmas.Bool.Decides.{leb_tells}
+use Rattle.memchr.specs.Find.{Nowhere, NoneBefore, Passes, is_byte}
 use Rattle.hv_text.specs.Bytes.{lower}
 use Rattle.hv_text.specs.Words.{Piece, word, left, right, bad, piece_of}
 use Rattle.hv_text.specs.declared.span.Span.{Span}
@@ -45,6 +47,23 @@ pub next_line : (n : ℕ) (xs : List ℕ) → (length xs == 0) ≡ false
     ≡ record { number = n; bytes = take (prefix_len is_inner xs) xs } ∷ numbered (n + 1) (lines (drop (prefix_len is_inner xs + 1) xs))
 next_line n [] e = cc
 next_line n (x ∷ xs) e = ap (numbered n) (first_line x xs)
+
+other_than_10 : (b : Bool) → (b ≡ true → ⊥) → not b ≡ true
+other_than_10 true differs = absurd (differs refl)
+other_than_10 false differs = refl
+
+-- the first line ends where the first byte 10 stands, or else where the text ends
+pub line_ends_at : (text : List ℕ) (end : ℕ) → NoneBefore (Passes (is_byte 10) text) 0 (length text) end
+    → Passes (is_byte 10) text end → prefix_len is_inner text ≡ end
+line_ends_at text end none is =
+    prefix_len_is is_inner text end 0 (omega (arith, none.high))
+    (λ k l. other_than_10 (get_or text k 0 == 10) (none.before k (omega arith) l)) (λ l. rw is refl)
+
+pub line_ends_last : (text : List ℕ) → Nowhere (Passes (is_byte 10) text) 0 (length text)
+    → prefix_len is_inner text ≡ length text
+line_ends_last text none =
+    prefix_len_is is_inner text (length text) 0 (omega arith)
+    (λ k l. other_than_10 (get_or text k 0 == 10) (none k (omega arith) l)) (λ l. absurd (omega (arith, l)))
 
 -- a line that says no form makes the fault of the lines that it is the next of
 pub line_is_faulty : (f : PlanFault) (rooted : Bool) (l : NumberedLine) (ls whole : List NumberedLine) → IsLineFault f (said l) → is_end l ≡ false

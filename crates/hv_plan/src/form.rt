@@ -6,8 +6,7 @@ ghost use Rattle.std.specs.Option.{option_map};
 ghost use Rattle.hv_text.specs.Words.{piece_of};
 ghost use Rattle.hv_text.specs.Names.{text_of};
 ghost use Rattle.hv_plan.specs.Forms.{said, listed, form_of, node_of, action_of, decomposition_of, root_of, every, id_of, id_at, is_arrow, task_of, method_of, parts_of};
-ghost use Rattle.hv_plan.specs.LineViews.{action_view, decomposition_view};
-ghost use Rattle.hv_plan.specs.inside.Views.{Reads, action_form_view, decomposition_form_view, form_view, line_view, task_view, ids_view, decomposition_said};
+ghost use Rattle.hv_plan.specs.inside.Views.{Reads, form_view, line_view, task_view, ids_view, decomposition_said};
 
 use crate::fault::PlanFault;
 use crate::id::{Id, read_id};
@@ -15,76 +14,53 @@ use crate::ids::{Ids, read_ids};
 use crate::lines::Line;
 use crate::plan::{ActionLine, DecompositionLine};
 use crate::task::{TaskText, name_at, read_task};
-use hv_text::{Name, TextKind, Word, read_words};
+use hv_text::{Name, TextKind, Word, fill_words};
 use std::alloc::Global;
 
-/// An action line, with its arguments.
+/// Room for the parts of one line. It is filled anew for each, so that none takes memory of its own.
 #[derive(Drop)]
-pub(crate) struct ActionForm<'s> {
-    id: u64,
-    name: Name<'s>,
+pub(crate) struct Room<'s> {
+    words: Vec<Word<'s>>,
     arguments: Vec<Name<'s>>,
-    line: u32,
+    ids: Vec<u64>,
 }
 
-/// A decomposition line, with its arguments and its children.
-#[derive(Drop)]
-pub(crate) struct DecompositionForm<'s> {
-    id: u64,
-    name: Name<'s>,
-    arguments: Vec<Name<'s>>,
-    method: Name<'s>,
-    children: Vec<u64>,
-    line: u32,
-}
-
-impl<'s> ActionForm<'s> {
-    /// The line as a plan lends it, with the lists that stand here.
-    pub(crate) fn lend(&self) -> ActionLine<'_, 's>
-        ensures { action_view result ≡ action_form_view self.now }
-    {
-        ActionLine {
-            id: self.id,
-            name: self.name,
-            arguments: &self.arguments,
-            line: self.line,
-        }
-    }
-}
-
-impl<'s> DecompositionForm<'s> {
-    /// The line as a plan lends it, with the lists that stand here.
-    pub(crate) fn lend(&self) -> DecompositionLine<'_, 's>
-        ensures { decomposition_view result ≡ decomposition_form_view self.now }
-    {
-        DecompositionLine {
-            id: self.id,
-            name: self.name,
-            arguments: &self.arguments,
-            method: self.method,
-            children: &self.children,
-            line: self.line,
+impl<'s> Room<'s> {
+    /// Room that has nothing in it.
+    pub(crate) fn new(alloc: Global) -> Room<'s> {
+        Room {
+            words: Vec::new(alloc),
+            arguments: Vec::new(alloc),
+            ids: Vec::new(alloc),
         }
     }
 }
 
 /// What a line says: nothing, an action, a decomposition, or the ids of the root with the line's number.
-#[derive(Drop)]
-pub(crate) enum LineText<'s> {
+#[derive(Clone, Copy)]
+pub(crate) enum LineText<'b, 's> {
     Blank,
-    Action(ActionForm<'s>),
-    Decomposition(DecompositionForm<'s>),
-    Root(Vec<u64>, u32),
+    Action(ActionLine<'b, 's>),
+    Decomposition(DecompositionLine<'b, 's>),
+    Root(&'b [u64], u32),
 }
 
 /// What a line says. The fault is `BadByte`, else `BadLine` where the line is of no form, else
 /// `IdTooLarge`; it is `Memory` where a growth was refused.
-pub(crate) fn read_line<'s>(alloc: Global, line: Line<'s>) -> Result<LineText<'s>, PlanFault>
+pub(crate) fn read_line<'b, 's>(
+    room: &'b mut Room<'s>,
+    line: Line<'s>,
+) -> Result<LineText<'b, 's>, PlanFault>
     requires { length line.bytes.now ≤ MOST_BYTES }
     ensures { Reads form_view result (said (line_view line.entry)) }
 {
-    match read_words(alloc, line.bytes) {
-        Ok(words) => read_form(alloc, line.number, &words),
+    let Room {
+        words,
+        arguments,
+        ids,
+    } = room;
+    match fill_words(words, line.bytes) {
+        Ok(()) => read_form(line.number, words, arguments, ids),
         Err(fault) => match fault.kind {
             TextKind::BadByte => Err(PlanFault::BadByte(line.number)),
             _ => Err(PlanFault::Memory),
@@ -93,7 +69,12 @@ pub(crate) fn read_line<'s>(alloc: Global, line: Line<'s>) -> Result<LineText<'s
 }
 
 // What line `number` says, of these words.
-fn read_form<'s>(alloc: Global, number: u32, words: &[Word<'s>]) -> Result<LineText<'s>, PlanFault>
+fn read_form<'b, 's>(
+    number: u32,
+    words: &[Word<'s>],
+    arguments: &'b mut Vec<Name<'s>>,
+    ids: &'b mut Vec<u64>,
+) -> Result<LineText<'b, 's>, PlanFault>
     ensures { Reads form_view result (listed number (form_of number (map piece_of words.now))) }
 {
     let Some((first, others)) = words.split_first() else {
@@ -103,18 +84,22 @@ fn read_form<'s>(alloc: Global, number: u32, words: &[Word<'s>]) -> Result<LineT
         return Err(PlanFault::BadLine(number));
     };
     if name.is(b"root") {
-        read_root(alloc, number, others)
+        read_root(number, others, ids)
     } else {
-        read_node(alloc, number, name, others)
+        read_node(number, name, others, arguments, ids)
     }
 }
 
 // The root line of these ids.
-fn read_root<'s>(alloc: Global, number: u32, words: &[Word<'s>]) -> Result<LineText<'s>, PlanFault>
+fn read_root<'b, 's>(
+    number: u32,
+    words: &[Word<'s>],
+    ids: &'b mut Vec<u64>,
+) -> Result<LineText<'b, 's>, PlanFault>
     ensures { Reads form_view result
         (listed number (option_map (root_of number) (every id_at (map piece_of words.now)))) }
 {
-    match read_ids(alloc, words)? {
+    match read_ids(words, ids)? {
         Ids::Fit(ids) => Ok(LineText::Root(ids, number)),
         Ids::TooLarge => Err(PlanFault::IdTooLarge(number)),
         Ids::NoIds => Err(PlanFault::BadLine(number)),
@@ -122,19 +107,20 @@ fn read_root<'s>(alloc: Global, number: u32, words: &[Word<'s>]) -> Result<LineT
 }
 
 // The action line or the decomposition line that begins with an id.
-fn read_node<'s>(
-    alloc: Global,
+fn read_node<'b, 's>(
     number: u32,
     id: Name<'s>,
     words: &[Word<'s>],
-) -> Result<LineText<'s>, PlanFault>
+    arguments: &'b mut Vec<Name<'s>>,
+    ids: &'b mut Vec<u64>,
+) -> Result<LineText<'b, 's>, PlanFault>
     ensures { Reads form_view result
         (listed number (node_of number (id_of (text_of id.entry)) (map piece_of words.now)
         (parts_of (map piece_of words.now)))) }
 {
     match parts(words) {
-        None => read_action(alloc, number, id, words),
-        Some((before, after)) => read_decomposition(alloc, number, id, before, after),
+        None => read_action(number, id, words, arguments),
+        Some((before, after)) => read_decomposition(number, id, before, after, arguments, ids),
     }
 }
 
@@ -163,21 +149,21 @@ fn is_arrow(word: Word<'_>) -> bool
 }
 
 // The action line of an id and a task.
-fn read_action<'s>(
-    alloc: Global,
+fn read_action<'b, 's>(
     number: u32,
     id: Name<'s>,
     task: &[Word<'s>],
-) -> Result<LineText<'s>, PlanFault>
+    arguments: &'b mut Vec<Name<'s>>,
+) -> Result<LineText<'b, 's>, PlanFault>
     ensures { Reads form_view result
         (listed number (action_of number (id_of (text_of id.entry))
         (task_of (map piece_of task.now)))) }
 {
-    let Some(TaskText { name, arguments }) = read_task(alloc, task)? else {
+    let Some(TaskText { name, arguments }) = read_task(task, arguments)? else {
         return Err(PlanFault::BadLine(number));
     };
     match read_id(id) {
-        Id::Fits(id) => Ok(LineText::Action(ActionForm {
+        Id::Fits(id) => Ok(LineText::Action(ActionLine {
             id,
             name,
             arguments,
@@ -189,18 +175,19 @@ fn read_action<'s>(
 }
 
 // The decomposition line of an id, a task and what stands behind the arrow.
-fn read_decomposition<'s>(
-    alloc: Global,
+fn read_decomposition<'b, 's>(
     number: u32,
     id: Name<'s>,
     task: &[Word<'s>],
     after: &[Word<'s>],
-) -> Result<LineText<'s>, PlanFault>
+    arguments: &'b mut Vec<Name<'s>>,
+    ids: &'b mut Vec<u64>,
+) -> Result<LineText<'b, 's>, PlanFault>
     ensures { Reads form_view result
         (listed number (decomposition_of number (id_of (text_of id.entry))
         (task_of (map piece_of task.now)) (method_of (map piece_of after.now)))) }
 {
-    let Some(task) = read_task(alloc, task)? else {
+    let Some(task) = read_task(task, arguments)? else {
         return Err(PlanFault::BadLine(number));
     };
     let Some((first, others)) = after.split_first() else {
@@ -209,20 +196,20 @@ fn read_decomposition<'s>(
     let Some(method) = name_at(*first) else {
         return Err(PlanFault::BadLine(number));
     };
-    decomposition(number, read_id(id), task, method, read_ids(alloc, others)?)
+    decomposition(number, read_id(id), task, method, read_ids(others, ids)?)
 }
 
 // The decomposition line of these parts.
-fn decomposition<'s>(
+fn decomposition<'b, 's>(
     number: u32,
     id: Id,
-    task: TaskText<'s>,
+    task: TaskText<'b, 's>,
     method: Name<'s>,
-    children: Ids,
-) -> Result<LineText<'s>, PlanFault>
+    children: Ids<'b>,
+) -> Result<LineText<'b, 's>, PlanFault>
     ensures { Reads form_view result
         (decomposition_said number id (task_view task.entry) (text_of method.entry)
-        (ids_view children)) }
+        (ids_view children.entry)) }
 {
     match id {
         Id::NoId => Err(PlanFault::BadLine(number)),
@@ -233,7 +220,7 @@ fn decomposition<'s>(
         Id::Fits(id) => match children {
             Ids::NoIds => Err(PlanFault::BadLine(number)),
             Ids::TooLarge => Err(PlanFault::IdTooLarge(number)),
-            Ids::Fit(children) => Ok(LineText::Decomposition(DecompositionForm {
+            Ids::Fit(children) => Ok(LineText::Decomposition(DecompositionLine {
                 id,
                 name: task.name,
                 arguments: task.arguments,

@@ -8,6 +8,7 @@ ghost use Rattle.hv_plan.specs.Lines.{is_marker};
 ghost use Rattle.hv_plan.specs.inside.Views.{line_view, lines_left, IsWithin};
 
 use hv_text::{Word, next_word};
+use memchr::memchr;
 
 /// A line without the byte 10 at its end, and its number.
 #[derive(Clone, Copy)]
@@ -53,12 +54,10 @@ fn line_end(text: &[u8]) -> usize
     ensures end { result ≡ prefix_len (λ b. not (b == 10)) text.now }
     ensures within { result ≤ length text.now }
 {
-    for i in 0..text.len() {
-        if text[i] == b'\n' {
-            return i;
-        }
+    match memchr(b'\n', text) {
+        Some(end) => end,
+        None => text.len(),
     }
-    text.len()
 }
 
 // What stands behind the byte at the end of the first line.

@@ -10,7 +10,7 @@ ghost use Rattle.hv_plan.specs.Shapes.{IsInTextOrder};
 ghost use Rattle.hv_plan.specs.Spellings.{IsPlan, IsPlanFault};
 
 use crate::fault::PlanFault;
-use crate::form::{LineText, read_line};
+use crate::form::{LineText, Room, read_line};
 use crate::lines::{Lines, is_marker};
 use crate::plan::{ActionLines, DecompositionLines, PlanText};
 use hv_text::MOST_BYTES;
@@ -92,18 +92,22 @@ fn read_body<'s>(alloc: Global, lines: Lines<'s>) -> Result<PlanText<'s>, PlanFa
     let mut actions = ActionLines::new(alloc)?;
     let mut decompositions = DecompositionLines::new(alloc)?;
     let mut root = None;
+    let mut room = Room::new(alloc);
     'lines: while let Some(line) = lines.next() {
         if is_marker(line, b"<==") {
             break;
         }
-        match read_line(alloc, line)? {
+        match read_line(&mut room, line)? {
             LineText::Blank => {}
-            LineText::Action(form) => actions.push(form.lend())?,
-            LineText::Decomposition(form) => decompositions.push(form.lend())?,
+            LineText::Action(action) => actions.push(action)?,
+            LineText::Decomposition(decomposition) => decompositions.push(decomposition)?,
             LineText::Root(ids, number) => {
                 if root.is_some() {
                     return Err(PlanFault::RepeatedRoot(line.number));
                 }
+                let Ok(ids) = Vec::from_slice(alloc, ids) else {
+                    return Err(PlanFault::Memory);
+                };
                 root = Some((ids, number));
             }
         }

@@ -8,24 +8,24 @@ ghost use Rattle.hv_plan.specs.Forms.{every, name_at, bare, inside, task_of};
 ghost use Rattle.hv_plan.specs.inside.Views.{task_view};
 
 use hv_text::{Memory, Name, Word};
-use std::alloc::Global;
 
 /// A task: its name and its arguments.
-#[derive(Drop)]
-pub(crate) struct TaskText<'s> {
+#[derive(Clone, Copy)]
+pub(crate) struct TaskText<'b, 's> {
     pub(crate) name: Name<'s>,
-    pub(crate) arguments: Vec<Name<'s>>,
+    pub(crate) arguments: &'b [Name<'s>],
 }
 
-/// The task that words are; None where they are none.
+/// The task that words are; None where they are none. Its arguments are put in place of the names
+/// that a list has.
 ///
 /// # Errors
 ///
 /// Where a growth of memory was refused.
-pub(crate) fn read_task<'s>(
-    alloc: Global,
+pub(crate) fn read_task<'b, 's>(
     words: &[Word<'s>],
-) -> Result<Option<TaskText<'s>>, Memory>
+    names: &'b mut Vec<Name<'s>>,
+) -> Result<Option<TaskText<'b, 's>>, Memory>
     ensures { IfOk result (λ t. option_map task_view t ≡ task_of (map piece_of words.now)) }
 {
     let Some(words) = bare(words) else {
@@ -37,7 +37,7 @@ pub(crate) fn read_task<'s>(
     let Some(name) = name_at(*first) else {
         return Ok(None);
     };
-    let Some(arguments) = read_names(alloc, others)? else {
+    let Some(arguments) = read_names(others, names)? else {
         return Ok(None);
     };
     Ok(Some(TaskText { name, arguments }))
@@ -81,11 +81,14 @@ pub(crate) fn name_at<'s>(word: Word<'s>) -> Option<Name<'s>>
 }
 
 // The names that words are, where each is one.
-fn read_names<'s>(alloc: Global, words: &[Word<'s>]) -> Result<Option<Vec<Name<'s>>>, Memory>
-    ensures { IfOk result (λ names. option_map (λ ns. map text_of ns.items) names
+fn read_names<'b, 's>(
+    words: &[Word<'s>],
+    names: &'b mut Vec<Name<'s>>,
+) -> Result<Option<&'b [Name<'s>]>, Memory>
+    ensures { IfOk result (λ names. option_map (λ ns. map text_of ns.now) names
         ≡ every name_at (map piece_of words.now)) }
 {
-    let mut names = Vec::with_capacity(alloc, words.len())?;
+    names.clear();
     for word in words {
         let Some(name) = name_at(*word) else {
             return Ok(None);

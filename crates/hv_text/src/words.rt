@@ -1,6 +1,6 @@
 //! The words of a text.
 
-ghost use Rattle.std.specs.Prelude.{◌≡◌, ◌<◌, ◌≤◌, ◌+◌, ℕ, true, false, ◌∷◌, [], length, drop, IsTrue, MatchOption, MatchResult, IfOk, IfErr, map};
+ghost use Rattle.std.specs.Prelude.{◌≡◌, ◌<◌, ◌≤◌, ◌+◌, ℕ, true, false, ◌∷◌, [], length, drop, IsTrue, MatchOption, MatchResult, IfOk, IfErr, OnOk, map};
 ghost use Rattle.std.specs.List.{take_while, prefix_len};
 ghost use Rattle.hv_text.specs.Bytes.{is_word_byte};
 ghost use Rattle.hv_text.specs.Words.{class_of, IsNext, piece_of, IsBadNext, AreWords, IsWordFault};
@@ -9,9 +9,6 @@ use crate::fault::{MOST_BYTES, TextFault, TextKind};
 use crate::name::{Name, is_word_byte};
 use crate::span::Span;
 use std::alloc::Global;
-
-// For so many words room is made at once: few lines of plans have more.
-const USUAL: usize = 8;
 
 /// What a byte outside comments is.
 #[derive(Clone, Copy)]
@@ -124,20 +121,36 @@ fn bad_byte(span: Span) -> TextFault
 }
 
 /// The words and parentheses of a text, in order.
+///
+/// # Errors
+///
+/// `TooLong` or `BadByte`; `Memory` where a growth was refused.
 pub fn read_words<'s>(alloc: Global, text: &'s [u8]) -> Result<Vec<Word<'s>>, TextFault>
     ensures ok { IfOk result (λ ws. AreWords text.now (map piece_of ws.items)) }
     ensures err { IfErr result (λ f. IsWordFault text.now f.kind f.span) }
 {
+    let mut words = Vec::new(alloc);
+    fill_words(&mut words, text)?;
+    Ok(words)
+}
+
+/// Puts the words and parentheses of a text, in order, in place of those that a list has.
+///
+/// # Errors
+///
+/// As `read_words`.
+pub fn fill_words<'s>(words: &mut Vec<Word<'s>>, text: &'s [u8]) -> Result<(), TextFault>
+    ensures ok { OnOk result (AreWords text.now (map piece_of words.new.items)) }
+    ensures err { IfErr result (λ f. IsWordFault text.now f.kind f.span) }
+{
+    words.clear();
     if text.len() > MOST_BYTES {
         return Err(TextFault::nowhere(TextKind::TooLong));
     }
-    let Ok(mut words) = Vec::with_capacity(alloc, USUAL) else {
-        return Err(TextFault::nowhere(TextKind::Memory));
-    };
     let mut at = 0;
     'words: while let Some(found) = next_word(text, at)? {
         at = found.past;
         words.push(found.word)?;
     }
-    Ok(words)
+    Ok(())
 }

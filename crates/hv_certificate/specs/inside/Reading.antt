@@ -31,7 +31,7 @@ IsChoiceRead ws None = (c : Choice) → HasIds c → ws ≡ choice_words c → �
 -- the line at the front
 abbrev pub IsLineRead : List ℕ → Option LineWords → Type 0
 IsLineRead left (Some l) =
-    left ≡ line_text (text_of l.first) (map text_of l.words.items) ++ l.behind.now
+    left ≡ line_text (text_of l.first) (map text_of l.words.now) ++ l.behind.now
 IsLineRead left None =
     (w : List ℕ) (ws : List (List ℕ)) (rest : List ℕ) → IsWord w → AreWords ws
     → left ≡ line_text w ws ++ rest → ⊥

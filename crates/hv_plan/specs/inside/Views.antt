@@ -3,7 +3,7 @@ use Rattle.std.specs.Prelude.{◌≡◌, ◌+◌, ◌≤◌, ℕ, List, map, Opt
 use Rattle.std.specs.List.{list_all}
 use Rattle.hv_text.specs.Names.{text_of}
 use Rattle.hv_plan.specs.Lines.{NumberedLine, lines, numbered}
-use Rattle.hv_plan.specs.Values.{Action, Decomposition}
+use Rattle.hv_plan.specs.LineViews.{action_view, decomposition_view}
 use Rattle.hv_plan.specs.Forms.{Form, blank, action, decomposition, root, is_id, Task}
 use Rattle.hv_plan.specs.declared.fault.PlanFault.{PlanFault}
 use Rattle.hv_plan.specs.declared.fault.PlanFault.TheVariants as faults
@@ -14,8 +14,6 @@ use Rattle.hv_plan.specs.declared.id.Id.TheVariants as ids
 use Rattle.hv_plan.specs.declared.ids.Ids.{Ids}
 use Rattle.hv_plan.specs.declared.ids.Ids.TheVariants as lists
 use Rattle.hv_plan.specs.declared.task.TaskText.{TaskText}
-use Rattle.hv_plan.specs.declared.form.ActionForm.{ActionForm}
-use Rattle.hv_plan.specs.declared.form.DecompositionForm.{DecompositionForm}
 use Rattle.hv_plan.specs.declared.form.LineText.{LineText}
 use Rattle.hv_plan.specs.declared.form.LineText.TheVariants as texts
 
@@ -46,31 +44,18 @@ as_ids None = no_ids
 as_ids (Some is) = if list_all is_id is then fitting is else too_large
 
 abbrev pub ids_view : Ids → Found
-ids_view (lists.Fit is) = fitting is.items
+ids_view (lists.Fit is) = fitting is.now
 ids_view lists.TooLarge = too_large
 ids_view lists.NoIds = no_ids
 
 abbrev pub task_view : TaskText → Task
-task_view t = record { name = text_of t.name; arguments = map text_of t.arguments.items }
-
-abbrev pub action_form_view : ActionForm → Action
-action_form_view a = record { id = a.id; name = text_of a.name; arguments = map text_of a.arguments.items; line = a.line }
-
-abbrev pub decomposition_form_view : DecompositionForm → Decomposition
-decomposition_form_view d = record {
-  id = d.id;
-  name = text_of d.name;
-  arguments = map text_of d.arguments.items;
-  method = text_of d.method;
-  children = d.children.items;
-  line = d.line;
-}
+task_view t = record { name = text_of t.name; arguments = map text_of t.arguments.now }
 
 abbrev pub form_view : LineText → Form
 form_view texts.Blank = blank
-form_view (texts.Action a) = action (action_form_view a)
-form_view (texts.Decomposition d) = decomposition (decomposition_form_view d)
-form_view (texts.Root is n) = root (record { ids = is.items; line = n })
+form_view (texts.Action a) = action (action_view a)
+form_view (texts.Decomposition d) = decomposition (decomposition_view d)
+form_view (texts.Root is n) = root (record { ids = is.now; line = n })
 
 -- the fault of a line that says this, refused memory aside
 abbrev pub IsLineFault : {Y : Type 0} → PlanFault → Result Y PlanFault → Type 0

@@ -9,30 +9,30 @@ returns-in_default-clause-line c = no_node_line c.args.left.now (rw c.in_default
 
 pub returns-in_default-number-clause-line : goal.returns-in_default-number-clause-line
 returns-in_default-number-clause-line c =
-    no_node_id c.args.left.now (text_of c.in-Some.line.first) c.in-Some.line.behind.now (map text_of c.in-Some.line.words.items)
-    (rw c.in-Some.is at c.in_ok-line.ensures) (name_word c.in-Some.line.first) (names_words c.in-Some.line.words.items)
+    no_node_id c.args.left.now (text_of c.in-Some.line.first) c.in-Some.line.behind.now (map text_of c.in-Some.line.words.now)
+    (rw c.in-Some.is at c.in_ok-line.ensures) (name_word c.in-Some.line.first) (names_words c.in-Some.line.words.now)
     c.in_default-number.ensures.word
 
 pub returns-in_default-index_of-clause-line : goal.returns-in_default-index_of-clause-line
 returns-in_default-index_of-clause-line c =
-    no_node_index c.args.left.now (text_of c.in-Some.line.first) c.in-Some.line.behind.now (map text_of c.in-Some.line.words.items)
-    (rw c.in-Some.is at c.in_ok-line.ensures) (name_word c.in-Some.line.first) (names_words c.in-Some.line.words.items)
-    (rw c.deref.ensures.value at c.in_default-index_of.ensures.words)
+    no_node_index c.args.left.now (text_of c.in-Some.line.first) c.in-Some.line.behind.now (map text_of c.in-Some.line.words.now)
+    (rw c.in-Some.is at c.in_ok-line.ensures) (name_word c.in-Some.line.first) (names_words c.in-Some.line.words.now)
+    (c.in_default-index_of.ensures.words)
 
 pub returns-in_default-2-clause-line : goal.returns-in_default-2-clause-line
 returns-in_default-2-clause-line c =
-    no_node_choice c.args.left.now (text_of c.in-Some.line.first) c.in-Some.line.behind.now (map text_of c.in-Some.line.words.items)
+    no_node_choice c.args.left.now (text_of c.in-Some.line.first) c.in-Some.line.behind.now (map text_of c.in-Some.line.words.now)
     (map text_of c.in-Some-index_of.words.now) c.in-Some-index_of.index
-    (rw c.in-Some.is at c.in_ok-line.ensures) (name_word c.in-Some.line.first) (names_words c.in-Some.line.words.items)
-    (rw c.deref.ensures.value at c.in-Some-index_of.ensures.words)
+    (rw c.in-Some.is at c.in_ok-line.ensures) (name_word c.in-Some.line.first) (names_words c.in-Some.line.words.now)
+    (c.in-Some-index_of.ensures.words)
     (rw c.in_default-2.is at c.in_ok-choice.ensures)
 
 pub returns-clause-line : goal.returns-clause-line
 returns-clause-line c =
     let read = rw c.in-Some-2.is at c.in_ok-choice.ensures in (
       (c.in-Some-number.ensures.id, read.0, c.in-Some-index_of.ensures.index),
-      node_read c.args.left.now (text_of c.in-Some.line.first) c.in-Some.line.behind.now (map text_of c.in-Some.line.words.items)
+      node_read c.args.left.now (text_of c.in-Some.line.first) c.in-Some.line.behind.now (map text_of c.in-Some.line.words.now)
           (map text_of c.in-Some-index_of.words.now) (c.in-Some-number.id, c.in-Some-2.choice, c.in-Some-index_of.index)
           (rw c.in-Some.is at c.in_ok-line.ensures) c.in-Some-number.ensures.word
-          (rw c.deref.ensures.value at c.in-Some-index_of.ensures.words) read.1,
+          (c.in-Some-index_of.ensures.words) read.1,
     )
