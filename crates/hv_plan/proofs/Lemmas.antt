@@ -2,6 +2,7 @@
 use Rattle.std.proofs.Common.{◌≡◌, ◌+◌, ◌-◌, ◌*◌, ◌<◌, ◌≤◌, ◌++◌, ◌==◌, ◌&&◌, ℕ, Bool, true, false, not, List, [], ◌∷◌, Vec, Option, None, Some, refl, ap, sym, subst, add-one, ◌∙◌, arith, length, take, drop, map, suc, get_or, if◌then◌else◌}
 use Rattle.std.specs.List.{list_all, prefix_len}
 use Rattle.std.specs.Char.{is_ascii_digit, to_ascii_lowercase}
+use Rattle.std.specs.Str.{bytes_eq}
 use Rattle.std.specs.declared.alloc.Global.{Global}
 use Rattle.std.proofs.lemmas.Grind.{common_steps}
 use Rattle.std.proofs.lemmas.List.{map-append, append_assoc}
@@ -10,11 +11,11 @@ use Rattle.std.proofs.Math.Numerals.{one-add}
 use Rattle.std.proofs.Math.Seq.{drop-cons}
 use Rattle.std.proofs.lemmas.Bool.Decides.{leb_tells}
 use Rattle.memchr.specs.Find.{Nowhere, NoneBefore, Passes, is_byte}
-use Rattle.hv_text.specs.Bytes.{lower}
-use Rattle.hv_text.specs.Words.{Piece, word, left, right, bad, piece_of}
+use Rattle.hv_text.specs.Bytes.{lower, is_word_byte}
+use Rattle.hv_text.specs.Words.{Piece, word, left, right, bad, piece_of, first_letter, BeginsBy}
 use Rattle.hv_text.specs.declared.span.Span.{Span}
 use Rattle.hv_text.specs.declared.words.Word.{Word}
-use Rattle.hv_plan.specs.Lines.{NumberedLine, lines, numbered, with_byte, is_end, before_end}
+use Rattle.hv_plan.specs.Lines.{NumberedLine, lines, numbered, with_byte, is_end, is_only, before_end}
 use Rattle.hv_plan.specs.Plans.{fault_from, IsBodyFault}
 use Rattle.hv_plan.specs.Values.{Root}
 use Rattle.hv_plan.specs.Forms.{Parts, behind, inside, with_front, is_id, said, is_digits, id_of, value_from, as_number}
@@ -64,6 +65,37 @@ pub line_ends_last : (text : List ℕ) → Nowhere (Passes (is_byte 10) text) 0 
 line_ends_last text none =
     prefix_len_is is_inner text (length text) 0 (omega arith)
     (λ k l. other_than_10 (get_or text k 0 == 10) (none k (omega arith) l)) (λ l. absurd (omega (arith, l)))
+
+not_is : (b : Bool) → not b ≡ true → b ≡ false
+not_is true e = absurd cc
+not_is false e = refl
+
+letters_apart : (a b x y : ℕ) (c : Bool) → a ≡ x → Some b ≡ (if c then Some (to_ascii_lowercase y) else None)
+    → not (a == b) ≡ true → (x == to_ascii_lowercase y) ≡ false
+letters_apart a b x y false same e apart = absurd cc
+letters_apart a b x y true same e apart =
+    let is : b ≡ to_ascii_lowercase y = cc in
+    not_is (x == to_ascii_lowercase y) (rw (same, is) at apart)
+
+apart_words : (a b : ℕ) (xs ys : List ℕ) → (a == b) ≡ false → bytes_eq (a ∷ xs) (b ∷ ys) ≡ false
+apart_words a b xs ys e = rw e refl
+
+alone_by : (w m : List ℕ) (s : Span) (ps : List Piece) → bytes_eq w m ≡ false → is_only m (word w s ∷ ps) ≡ false
+alone_by w m s [] e = e
+alone_by w m s (p ∷ ps) e = refl
+
+-- a word that begins otherwise than a marker is not the marker
+pub not_only : (a b : ℕ) (ps : List Piece) (m : List ℕ) → BeginsBy a ps → Some b ≡ first_letter m
+    → not (a == b) ≡ true → is_only (lower m) ps ≡ false
+not_only a b [] m by e apart = absurd by
+not_only a b (word [] s ∷ ps) m by e apart = absurd by
+not_only a b (left s ∷ ps) m by e apart = absurd by
+not_only a b (right s ∷ ps) m by e apart = absurd by
+not_only a b (bad s ∷ ps) m by e apart = absurd by
+not_only a b (word (x ∷ w) s ∷ ps) [] by e apart = alone_by (x ∷ w) [] s ps refl
+not_only a b (word (x ∷ w) s ∷ ps) (y ∷ ys) by e apart =
+    alone_by (x ∷ w) (lower (y ∷ ys)) s ps
+    (apart_words x (to_ascii_lowercase y) w (lower ys) (letters_apart a b x y (is_word_byte y) by e apart))
 
 -- a line that says no form makes the fault of the lines that it is the next of
 pub line_is_faulty : (f : PlanFault) (rooted : Bool) (l : NumberedLine) (ls whole : List NumberedLine) → IsLineFault f (said l) → is_end l ≡ false

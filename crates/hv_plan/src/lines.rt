@@ -1,13 +1,14 @@
 //! The lines of a text, and the markers among them.
 
 ghost use Rattle.hv_text.specs.declared.fault.TheConstants.{MOST_BYTES};
-ghost use Rattle.std.specs.Prelude.{◌≡◌, ◌==◌, ◌<◌, ◌≤◌, ◌+◌, ℕ, ◌∷◌, [], not, drop, length, MatchOption};
+ghost use Rattle.std.specs.Prelude.{◌≡◌, ◌==◌, ◌<◌, ◌≤◌, ◌+◌, ℕ, ◌∷◌, [], true, false, not, drop, length, MatchOption};
 ghost use Rattle.std.specs.List.{prefix_len};
 ghost use Rattle.hv_text.specs.Bytes.{lower};
-ghost use Rattle.hv_plan.specs.Lines.{is_marker};
+ghost use Rattle.hv_text.specs.Words.{pieces};
+ghost use Rattle.hv_plan.specs.Lines.{is_marker, is_only};
 ghost use Rattle.hv_plan.specs.inside.Views.{line_view, lines_left, IsWithin};
 
-use hv_text::{Word, next_word};
+use hv_text::{Word, first_letter, next_word};
 use memchr::memchr;
 
 /// A line without the byte 10 at its end, and its number.
@@ -72,12 +73,24 @@ fn behind<'s>(text: &'s [u8], end: usize) -> &'s [u8]
     }
 }
 
-/// Whether the line is this marker: cut at its first semicolon and stripped of white space, nothing else.
-pub(crate) fn is_marker(line: Line<'_>, marker: &[u8]) -> bool
-    requires { length line.bytes.now ≤ MOST_BYTES }
-    ensures { result ≡ is_marker (lower marker.now) (line_view line.entry) }
+// Whether a line begins with a word that begins otherwise than a marker. Most lines do, and it need
+// not be asked what else stands there.
+#[inline(always)]
+fn begins_otherwise(line: &[u8], marker: &[u8]) -> bool
+    ensures { result ≡ true → is_only (lower marker.now) (pieces line.now) ≡ false }
 {
-    let Ok(Some(first)) = next_word(line.bytes, 0) else {
+    let (Some(letter), Some(first)) = (first_letter(line), first_letter(marker)) else {
+        return false;
+    };
+    letter != first
+}
+
+// Whether just one word stands in a line, comments aside, and it is a marker.
+fn is_only(line: &[u8], marker: &[u8]) -> bool
+    requires { length line.now ≤ MOST_BYTES }
+    ensures { result ≡ is_only (lower marker.now) (pieces line.now) }
+{
+    let Ok(Some(first)) = next_word(line, 0) else {
         return false;
     };
     let Word::Name(name, _) = first.word else {
@@ -86,8 +99,18 @@ pub(crate) fn is_marker(line: Line<'_>, marker: &[u8]) -> bool
     if !name.is(marker) {
         return false;
     }
-    match next_word(line.bytes, first.past) {
+    match next_word(line, first.past) {
         Ok(None) => true,
         _ => false,
     }
+}
+
+/// Whether the line is this marker: cut at its first semicolon and stripped of white space, nothing else.
+/// It is inlined, as the marker is known then.
+#[inline(always)]
+pub(crate) fn is_marker(line: Line<'_>, marker: &[u8]) -> bool
+    requires { length line.bytes.now ≤ MOST_BYTES }
+    ensures { result ≡ is_marker (lower marker.now) (line_view line.entry) }
+{
+    !begins_otherwise(line.bytes, marker) && is_only(line.bytes, marker)
 }

@@ -1,6 +1,7 @@
 -- The words of a text, each with its place.
 use Rattle.std.specs.Prelude.{◌≡◌, ◌==◌, ◌&&◌, ◌||◌, ◌+◌, ◌++◌, ◌<◌, ◌≤◌, ℕ, Bool, true, false, not, List, [], ◌∷◌, length, drop, Option, None, Some, if◌then◌else◌}
 use Rattle.std.specs.List.{take_while, prefix_len}
+use Rattle.std.specs.Char.{to_ascii_lowercase}
 use Rattle.hv_text.specs.Bytes.{is_blank, is_word_byte, lower}
 use Rattle.hv_text.specs.Names.{text_of}
 use Rattle.hv_text.specs.declared.span.Span.{Span}
@@ -62,6 +63,20 @@ pieces_at text i = pieces_from false i (uncommented false (drop i text))
 -- what stands in a text
 abbrev pub pieces : List ℕ → List Piece
 pieces text = pieces_from false 0 (uncommented false text)
+
+-- the byte with which a text begins, in lower case, where it is one of a word
+abbrev pub first_letter : List ℕ → Option ℕ
+first_letter [] = None
+first_letter (b ∷ bs) = if is_word_byte b then Some (to_ascii_lowercase b) else None
+
+-- a word stands first, and this is its first byte
+abbrev pub BeginsBy : ℕ → List Piece → Type 0
+BeginsBy a (word (b ∷ bs) s ∷ ps) = a ≡ b
+BeginsBy a (word [] s ∷ ps) = ⊥
+BeginsBy a (left s ∷ ps) = ⊥
+BeginsBy a (right s ∷ ps) = ⊥
+BeginsBy a (bad s ∷ ps) = ⊥
+BeginsBy a [] = ⊥
 
 -- what a word of the code stands for
 abbrev pub piece_of : Word → Piece

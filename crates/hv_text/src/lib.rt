@@ -35,4 +35,4 @@ pub use seed::Seeded;
 pub use sexp::Sexp;
 pub use sexps::read_sexps;
 pub use span::{Span, place};
-pub use words::{Found, Word, fill_words, next_word, read_words};
+pub use words::{Found, Word, fill_words, first_letter, next_word, read_words};

@@ -21,7 +21,8 @@ pub struct Name<'s> {
 pub fn is_word_byte(b: u8) -> bool
     ensures { result ≡ is_word_byte b }
 {
-    33 <= b && b <= 126 && b != b'(' && b != b')' && b != b';'
+    // letters, digits and most signs stand behind the parentheses, and are asked for first
+    b'*' <= b && b <= b'~' && b != b';' || b'!' <= b && b <= b'\''
 }
 
 fn is_word(bytes: &[u8]) -> bool
@@ -136,8 +137,9 @@ impl PartialEq for Name<'_> {
 
     ghost laws = { Prim.search (comparing, rules) };
 
+    // Most names are written alike each time, and bytes cost less to compare than letters.
     fn eq(&self, other: &Self) -> bool {
-        self.bytes.eq_ignore_ascii_case(other.bytes)
+        self.bytes == other.bytes || self.bytes.eq_ignore_ascii_case(other.bytes)
     }
 }
 

@@ -1,9 +1,9 @@
 //! The words of a text.
 
-ghost use Rattle.std.specs.Prelude.{◌≡◌, ◌<◌, ◌≤◌, ◌+◌, ℕ, true, false, ◌∷◌, [], length, drop, IsTrue, MatchOption, MatchResult, IfOk, IfErr, OnOk, map};
+ghost use Rattle.std.specs.Prelude.{◌≡◌, ◌<◌, ◌≤◌, ◌+◌, ℕ, true, false, ◌∷◌, [], length, drop, IsTrue, MatchOption, MatchResult, IfOk, IfErr, IfSome, OnOk, map};
 ghost use Rattle.std.specs.List.{take_while, prefix_len};
 ghost use Rattle.hv_text.specs.Bytes.{is_word_byte};
-ghost use Rattle.hv_text.specs.Words.{class_of, IsNext, piece_of, IsBadNext, AreWords, IsWordFault};
+ghost use Rattle.hv_text.specs.Words.{class_of, first_letter, pieces, BeginsBy, IsNext, piece_of, IsBadNext, AreWords, IsWordFault};
 
 use crate::fault::{MOST_BYTES, TextFault, TextKind};
 use crate::name::{Name, is_word_byte};
@@ -76,6 +76,8 @@ fn word_end(text: &[u8], i: usize) -> usize
 
 /// The next word from place `at` on, which is in no comment and behind no word byte, and where to go on behind it.
 /// None where only white space and comments are left; the first bad byte where no word stands before it.
+/// It is inlined, as a word that is handed over by itself costs as much as to find it.
+#[inline(always)]
 pub fn next_word<'s>(text: &'s [u8], at: usize) -> Result<Option<Found<'s>>, TextFault>
     requires within { at ≤ length text.now }
     requires size { length text.now ≤ MOST_BYTES }
@@ -102,6 +104,19 @@ pub fn next_word<'s>(text: &'s [u8], at: usize) -> Result<Option<Found<'s>>, Tex
         }
     }
     Ok(None)
+}
+
+/// The byte with which a text begins, in lower case, where a word begins there.
+#[inline(always)]
+pub fn first_letter(text: &[u8]) -> Option<u8>
+    ensures byte { result ≡ first_letter text.now }
+    ensures word { IfSome result (λ b. BeginsBy b (pieces text.now)) }
+{
+    let (first, _others) = text.split_first()?;
+    if !is_word_byte(*first) {
+        return None;
+    }
+    Some(first.to_ascii_lowercase())
 }
 
 fn word_to<'s>(word: Word<'s>, past: usize) -> Found<'s>
