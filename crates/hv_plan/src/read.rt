@@ -38,16 +38,17 @@ fn read_text<'s>(alloc: Global, text: &'s [u8]) -> Result<PlanText<'s>, PlanFaul
     if text.len() > MOST_BYTES {
         return Err(PlanFault::TooLong);
     }
-    let Some(behind) = behind_start(Lines {
+    let Some(mut lines) = behind_start(Lines {
         left: text,
         number: 1,
     }) else {
         return Err(PlanFault::NoStart);
     };
-    if !has_end(behind) {
+    let plan = read_body(alloc, &mut lines);
+    if !has_end(lines) {
         return Err(PlanFault::NoEnd);
     }
-    read_body(alloc, behind)
+    plan
 }
 
 // What stands behind the first start marker.
@@ -82,21 +83,28 @@ fn has_end(lines: Lines<'_>) -> bool
     false
 }
 
-// The plan of the lines before the first end marker.
-fn read_body<'s>(alloc: Global, lines: Lines<'s>) -> Result<PlanText<'s>, PlanFault>
-    requires { IsWithin lines }
-    ensures ok { IfOk result (λ p. IsBody (before_end (lines_left lines.entry)) (plan_view p)) }
-    ensures err { IfErr result (λ f. IsBodyFault (before_end (lines_left lines.entry)) f) }
+// The plan of the lines before the first end marker, which is left, and so is what stands behind a
+// line at fault.
+fn read_body<'s>(alloc: Global, lines: &mut Lines<'s>) -> Result<PlanText<'s>, PlanFault>
+    requires { IsWithin lines.old }
+    ensures ok { IfOk result (λ p. IsBody (before_end (lines_left lines.old)) (plan_view p)) }
+    ensures err { IfErr result (λ f. IsBodyFault (before_end (lines_left lines.old)) f) }
+    ensures end { list_any is_end (lines_left lines.new) ≡ list_any is_end (lines_left lines.old) }
+    ensures within { IsWithin lines.new }
 {
-    let mut lines = lines;
     let mut actions = ActionLines::new(alloc)?;
     let mut decompositions = DecompositionLines::new(alloc)?;
     let mut root = None;
     let mut room = Room::new(alloc);
-    'lines: while let Some(line) = lines.next() {
+    'lines: loop {
+        let mut behind = *lines;
+        let Some(line) = behind.next() else {
+            break;
+        };
         if is_marker(line, b"<==") {
             break;
         }
+        *lines = behind;
         match read_line(&mut room, line)? {
             LineText::Blank => {}
             LineText::Action(action) => actions.push(action)?,
