@@ -104,6 +104,19 @@ fn note_all(
     None
 }
 
+/// The candidates of a node, whatever atoms are ever true.
+fn candidates_of<'a>(
+    alloc: Global,
+    matcher: &'a Matcher<'_, '_>,
+    tree: &'a Tree<'_, '_>,
+    node: u32,
+) -> Option<Candidates<'a>>
+    requires tree { IsTreeIn matcher.now (tree_view tree.now) }
+    requires node { node < length (tree_view tree.now).nodes }
+{
+    Candidates::new(alloc, matcher, tree, node, None).ok()
+}
+
 /// The candidates of a node, where they are fewer than a thousand and each is said to be one.
 pub(crate) fn all<'a>(
     alloc: Global,
@@ -116,7 +129,7 @@ pub(crate) fn all<'a>(
 {
     let mut all = Vec::new(alloc);
     let matcher = matcher_of(alloc, world)?;
-    let mut candidates = Candidates::new(alloc, &matcher, tree, node, None).ok()?;
+    let mut candidates = candidates_of(alloc, &matcher, tree, node)?;
     note_all(alloc, world, tree, node, &mut candidates, &mut all)?;
     Some(all)
 }
@@ -606,7 +619,7 @@ fn left_of_node<'a>(
     requires node { node < length (tree_view tree.now).nodes }
 {
     let matcher = matcher_of(alloc, world)?;
-    let mut candidates = Candidates::new(alloc, &matcher, tree, node, None).ok()?;
+    let mut candidates = candidates_of(alloc, &matcher, tree, node)?;
     left_behind(alloc, &mut candidates, last)
 }
 
