@@ -193,6 +193,7 @@ impl<'p, 's> Tree<'p, 's> {
     }
 
     // The node of a number, whose line has this place.
+    #[inline(always)]
     fn node_of_place(&self, node: usize, place: Option<usize>) -> Node<'_>
         ensures { node_view result ≡ node_of (plan_view self.now.plan.now)
             (option_and_then (slice_get (plan_view self.now.plan.now).decompositions) place)
@@ -212,7 +213,9 @@ impl<'p, 's> Tree<'p, 's> {
         }
     }
 
-    /// The node of a number, where there is one.
+    /// The node of a number, where there is one. It is inlined, so that what is not asked of the node
+    /// is not looked up.
+    #[inline(always)]
     pub fn node(&self, node: u32) -> Option<Node<'_>>
         ensures { option_map node_view result ≡ slice_get (tree_view self.now).nodes node }
     {

@@ -107,7 +107,7 @@ impl<'s> Name<'s> {
     pub fn is(self, word: &[u8]) -> bool
         ensures { result ≡ bytes_eq (text_of self.entry) (lower word.now) }
     {
-        self.bytes.eq_ignore_ascii_case(word)
+        self.bytes == word || self.bytes.eq_ignore_ascii_case(word)
     }
 
     /// The word as it was written.
