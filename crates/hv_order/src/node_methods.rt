@@ -34,7 +34,8 @@ pub(crate) fn method_if<'a, 's>(
     method_for(world, &node)
 }
 
-/// The node of a number.
+/// The node of a number. It is inlined, so that what is not asked of the node is not looked up.
+#[inline(always)]
 pub(crate) fn node_of<'a>(tree: &'a Tree<'_, '_>, number: u32) -> Node<'a>
     requires number { number < length (tree_view tree.now).nodes }
     ensures { slice_get (tree_view tree.now).nodes number ≡ Some (node_view result) }

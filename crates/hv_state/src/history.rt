@@ -1,7 +1,7 @@
 //! The changes of one atom's truth, in order.
 
 ghost use Rattle.std.specs.Prelude.{◌≡◌, ◌↔◌, ◌<◌, ◌+◌, ◌-◌, ℕ, Bool, ◌∷◌, [], ◌++◌, length, map};
-ghost use Rattle.std.specs.Prelude.{slice_get, option_to_list, IsSome, IsTrue, IfOk, OnOk, OnErr};
+ghost use Rattle.std.specs.Prelude.{slice_get, option_to_list, IsSome, IsTrue, IfOk, IfSome, OnOk, OnErr};
 ghost use Rattle.hv_state.specs.Atoms.{atom_read};
 ghost use Rattle.hv_state.specs.Changes.{told, Tells};
 ghost use Rattle.hv_state.specs.inside.Stretches.{is_true_in};
@@ -91,15 +91,30 @@ fn are_past(list: &[Change], count: usize, k: usize) -> bool
     list[count - 1].index() <= k && k < list[count].index()
 }
 
-// How many changes are up to an index: as many as in the list that was asked before, where that is
-// so, since an effect for all objects changes many atoms at the same indices; else by halving.
+// How many changes are up to an index, where they are as many as in the list that was asked before, or
+// one more or fewer: an effect for all objects changes many atoms at the same indices, and a plan is
+// mostly gone through from one index to the next.
+#[inline(always)]
+fn near(list: &[Change], likely: usize, k: usize) -> Option<usize>
+    requires { Rise (map change_view list.now) }
+    ensures { IfSome result (ArePast list.now k) }
+{
+    for count in [likely, likely.saturating_add(1), likely.saturating_sub(1)] {
+        if are_past(list, count, k) {
+            return Some(count);
+        }
+    }
+    None
+}
+
+// How many changes are up to an index: about as many as before, where that is so; else by halving.
 fn past(list: &[Change], k: usize, recent: &Cell<usize>) -> usize
     requires { Rise (map change_view list.now) }
     ensures { ArePast list.now k result }
 {
-    let likely = recent.get();
-    if are_past(list, likely, k) {
-        return likely;
+    if let Some(count) = near(list, recent.get(), k) {
+        recent.set(count);
+        return count;
     }
     let found = list.partition_point(|change| change.index() <= k);
     recent.set(found);
