@@ -115,6 +115,7 @@ impl<L> Pending<L> {
 }
 
 /// Begins to work a node out. Where there is no task, no start from this one on has a finish.
+#[inline(always)]
 pub fn open<N: Nodes>(
     alloc: Global,
     nodes: &N,
@@ -155,6 +156,7 @@ pub fn open<N: Nodes>(
 }
 
 /// Goes on with a task: a child's finish is wanted, or all candidates are over.
+#[inline(always)]
 pub fn step<N: Nodes>(
     alloc: Global,
     nodes: &N,
@@ -181,6 +183,7 @@ pub fn step<N: Nodes>(
 }
 
 /// What a task came to, all of whose candidates are over.
+#[inline(always)]
 pub fn close<L: Drop>(task: Task<L>, best: Option<Best>, last: u32) -> Settled
     ensures { result ≡ settled_by (as_winner best task.frame.winner) last }
 {
@@ -212,6 +215,7 @@ pub fn keep<N: Nodes>(
 }
 
 /// Works on a task up to the next finish that it wants, or to its end.
+#[inline(always)]
 pub fn work<N: Nodes>(
     alloc: Global,
     nodes: &N,
@@ -236,6 +240,7 @@ pub fn work<N: Nodes>(
 }
 
 /// Works on a task that waited, up to the next finish that it wants, or to its end.
+#[inline(always)]
 pub fn work_on<N: Nodes>(
     alloc: Global,
     nodes: &N,
