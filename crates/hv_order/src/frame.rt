@@ -1,5 +1,8 @@
 //! One node from one start: its candidates one after another, each laid out as far as finishes are
 //! known.
+//!
+//! Tasks, frames and turns are large values that go from call to call: most calls are inlined, so that
+//! none is copied on its way.
 ghost use Rattle.std.specs.Prelude.{◌≡◌, ◌≤◌, ℕ, IfOk, Some, List};
 ghost use Rattle.hv_order.specs.inside.Arrangements.{Arrangement, arrangement_of};
 ghost use Rattle.hv_order.specs.inside.Facts.{AreFits};
@@ -51,6 +54,7 @@ pub struct Turn {
 /// Begins a candidate, of which nothing is laid out yet, if its precondition is true somewhere from
 /// `start` to `cap`. It is not looked for behind the first action among the children, since that could
 /// not come behind it.
+#[inline(always)]
 pub fn begin<T: Table>(
     alloc: Global,
     table: &T,
@@ -94,6 +98,7 @@ pub fn take(frame: &mut Frame, best: Option<Best>)
 }
 
 /// The next candidate that may be better than the best so far, if there is one.
+#[inline(always)]
 pub fn next_turn<T: Table, C: Candidates>(
     alloc: Global,
     table: &T,
@@ -132,6 +137,7 @@ pub fn next_turn<T: Table, C: Candidates>(
 
 /// Goes on with a node, as far as finishes are known: a child's finish is wanted, or all candidates
 /// are over.
+#[inline(always)]
 pub fn advance<T: Table, C: Candidates>(
     alloc: Global,
     table: &T,
