@@ -1,4 +1,5 @@
 pub mod WordLemmas
+pub mod NumberLemmas
 pub mod FormLemmas
 pub mod LineLemmas
 pub mod LawLemmas

@@ -1,5 +1,7 @@
 -- What each function reads, and where it reads nothing.
-use Rattle.std.specs.Prelude.{◌≡◌, ℕ, List, [], ◌∷◌, ◌++◌, Option, None, Some, codes, decimal, map, All}
+use Rattle.std.specs.Prelude.{◌≡◌, ◌<◌, ◌+◌, ◌*◌, ℕ, List, [], ◌∷◌, ◌++◌, Option, None, Some, codes, decimal, map, All}
+use Rattle.std.specs.Char.{digit_value}
+use Rattle.std.specs.Str.Parse.{AllDigits, digits_value}
 use Rattle.hv_text.specs.Names.{text_of}
 use Rattle.hv_certificate.specs.Texts.{root_text, node_text, nodes_text}
 use Rattle.hv_certificate.specs.Forms.{IsId, IsIndex, HasIds, IsLine, lines, IsFirstOff}
@@ -12,6 +14,14 @@ use Rattle.hv_certificate.specs.declared.words.LineWords.{LineWords}
 -- a word is no number
 abbrev pub IsNoNumber : List ℕ → Type 0
 IsNoNumber w = (n : ℕ) → IsId n → w ≡ decimal n → ⊥
+
+-- digits, leading zeros allowed, and what they stand for
+abbrev pub IsValueOf : List ℕ → ℕ → Type 0
+IsValueOf ds n = AllDigits 10 ds × (n ≡ digits_value 10 ds)
+
+-- a byte is no digit that may stand behind a number
+abbrev pub IsNoDigit : ℕ → ℕ → Type 0
+IsNoDigit n b = digit_value b < 10 → IsId (n * 10 + digit_value b) → ⊥
 
 -- the first of words is no number, where there is one
 abbrev pub IsNoNumberAt : List (List ℕ) → Type 0

@@ -1,17 +1,8 @@
-use Rattle.std.proofs.Common.{◌∙◌}
-use Rattle.std.proofs.lemmas.Fmt.{parse-decimal}
-use Rattle.hv_certificate.proofs.WordLemmas.{digits_text}
+use Rattle.std.proofs.Common.{arith}
+use Rattle.hv_certificate.proofs.NumberLemmas.{no_number}
 use Rattle.hv_certificate.proofs.number.value_of.Goals as goal
 
-pub returns-in_default : goal.returns-in_default
-returns-in_default c = λ n h e. absurd (c.in_default.ensures.cases.0 (digits_text n c.args.bytes.now h e))
-
-pub returns-in-Ok-from_str_radix : goal.returns-in-Ok-from_str_radix
-returns-in-Ok-from_str_radix c = λ n h e.
-    let read = parse-decimal 64 n c.in-Ok.text.now c.from_str_radix.result h h (c.in-Ok.ensures.cases.0 ∙ e) c.from_str_radix.ensures.value in
-    cc (read, c.in-Ok-from_str_radix.is)
-
-pub returns-in-Err : goal.returns-in-Err
-returns-in-Err c = λ n h e.
-    let read = parse-decimal 64 n c.in-Ok.text.now c.from_str_radix.result h h (c.in-Ok.ensures.cases.0 ∙ e) c.from_str_radix.ensures.value in
-    absurd (cc (read, c.in-Err.is))
+pub returns-in_err-value-clause-value : goal.returns-in_err-value-clause-value
+returns-in_err-value-clause-value c =
+    rw c.from_residual.ensures
+    (no_number c.args.bytes.now c.loop-byte.byte-index c.loop-byte.value (omega arith) c.in_err-value.ensures.value c.loop-byte.invariant.1)
