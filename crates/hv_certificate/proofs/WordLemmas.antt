@@ -1,8 +1,7 @@
 -- Words in lower case, with one space between them, can be told apart.
-use Rattle.std.proofs.Common.{◌≡◌, ◌&&◌, ◌<◌, ◌≤◌, ◌^◌, ℕ, Bool, true, false, true≢false, Option, None, Some, MatchOption, IfSome, IsUtf8, List, [], ◌∷◌, ◌++◌, refl, sym, ap, subst, ◌∙◌, arith, append_assoc, codes, decimal, length, map, take, drop, not, nat_le, suc, ◌+◌}
+use Rattle.std.proofs.Common.{◌≡◌, ◌&&◌, ◌<◌, ◌≤◌, ◌^◌, ℕ, Bool, true, false, Option, None, Some, MatchOption, IfSome, List, [], ◌∷◌, ◌++◌, refl, sym, ap, ◌∙◌, arith, append_assoc, codes, decimal, length, map, take, drop, not, nat_le, suc, ◌+◌}
 use Rattle.std.proofs.lemmas.Grind.{common_steps}
-use Rattle.std.proofs.lemmas.Fmt.{decimal_is_IsNumeral, IsAscii-decimal}
-use Rattle.std.proofs.lemmas.Str.{IsUtf8-from_ascii}
+use Rattle.std.proofs.lemmas.Fmt.{decimal_is_IsNumeral}
 use Rattle.std.proofs.lemmas.Str.Parse.{digit_from_value}
 use Rattle.std.specs.List.{list_all, prefix_len}
 use Rattle.std.specs.Char.{to_ascii_lowercase, digit_value}
@@ -149,10 +148,6 @@ pub number_low : (bs : List ℕ) (r : Option ℕ) → MatchOption r (IsNoNumber 
 number_low bs None never i = λ n h e. never n h (low_digits bs (decimal n) (decimal_is_IsNumeral n h).0.1 e)
 number_low bs (Some n) is i = ap lower is ∙ digits_low (decimal n) (decimal_is_IsNumeral n i).0.1
 
--- digits are read as text
-pub digits_text : (n : ℕ) (bs : List ℕ) → n < 2 ^ 64 → bs ≡ decimal n → IsUtf8 bs
-digits_text n bs h e = subst IsUtf8 (sym e) (IsUtf8-from_ascii (decimal n) (IsAscii-decimal n h))
-
 -- the word at the front
 
 low_letter : (b : ℕ) → is_name_byte b ≡ true → to_ascii_lowercase b ≡ b
@@ -192,20 +187,29 @@ front_read left bs n e is =
     let h = after_word left in
     rw (is, e) (h.whole, h.ends)
 
-front_by : (b : ℕ) (bs : List ℕ) (v : Bool) → is_name_byte b ≡ v
-    → (is_word (take (prefix_len is_name_byte (b ∷ bs)) (b ∷ bs)) ≡ true → ⊥) → is_name_byte b ≡ false
-front_by b bs false e never = e
-front_by b bs true e never =
+front_word_by : (b n : ℕ) (bs : List ℕ) (v : Bool) → is_name_byte b ≡ v → n ≡ prefix_len is_name_byte (b ∷ bs)
+    → (n ≡ 0 → ⊥) → is_word (take n (b ∷ bs)) ≡ true
+front_word_by b n bs false e is some = absurd (some (is ∙ rw e refl))
+front_word_by b n bs true e is some =
     let same : 1 + prefix_len is_name_byte bs ≡ suc (prefix_len is_name_byte bs) = omega arith in
-    let n : prefix_len is_name_byte (b ∷ bs) ≡ suc (prefix_len is_name_byte bs) = rw (e, same) refl in
-    let word : is_word (take (prefix_len is_name_byte (b ∷ bs)) (b ∷ bs)) ≡ true =
-    rw (n, word_letter b e) (after_word bs).letters in
-    absurd (never word)
+    let whole : n ≡ suc (prefix_len is_name_byte bs) = is ∙ rw (e, same) refl in
+    rw (whole, word_letter b e) (after_word bs).letters
 
-pub front_none : (left : List ℕ) (n : ℕ) → n ≡ prefix_len is_name_byte left → (is_word (take n left) ≡ true → false ≡ true)
-    → begins left ≡ false
-front_none [] n e never = refl
-front_none (b ∷ bs) n e never = front_by b bs (is_name_byte b) refl (λ is. true≢false (sym ((rw e at never) is)))
+-- the bytes of a name at the front are a word, and where there are none no name begins there
+pub front_word : (left : List ℕ) (n : ℕ) → n ≡ prefix_len is_name_byte left → (n ≡ 0 → ⊥) → is_word (take n left) ≡ true
+front_word [] n is some = absurd (some is)
+front_word (b ∷ bs) n is some = front_word_by b n bs (is_name_byte b) refl is some
+
+front_none_by : (b n : ℕ) (bs : List ℕ) (v : Bool) → is_name_byte b ≡ v → n ≡ prefix_len is_name_byte (b ∷ bs) → n ≡ 0
+    → is_name_byte b ≡ false
+front_none_by b n bs false e is none = e
+front_none_by b n bs true e is none =
+    let whole : n ≡ 1 + prefix_len is_name_byte bs = is ∙ rw e refl in
+    absurd (omega (arith, whole, none))
+
+pub front_none : (left : List ℕ) (n : ℕ) → n ≡ prefix_len is_name_byte left → n ≡ 0 → begins left ≡ false
+front_none [] n is none = refl
+front_none (b ∷ bs) n is none = front_none_by b n bs (is_name_byte b) refl is none
 
 -- a line of words that is not ended
 pub line_not_ended : (t f a r : List ℕ) (ws : List (List ℕ)) → t ≡ f ++ a → a ≡ words_text ws ++ r → IsWord f → AreWords ws

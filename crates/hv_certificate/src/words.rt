@@ -85,10 +85,10 @@ fn front<'s>(left: &'s [u8]) -> Option<(Name<'s>, &'s [u8])>
     ensures within { IfSome result (λ p. length p.1.now ≤ length left.now) }
 {
     let end = name_end(left);
-    match Name::new(&left[..end]) {
-        Some(name) => Some((name, &left[end..])),
-        None => None,
+    if end == 0 {
+        return None;
     }
+    Some((Name::of_word(&left[..end]), &left[end..]))
 }
 
 // Where the bytes of a name at the front end.

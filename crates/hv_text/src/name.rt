@@ -118,7 +118,7 @@ impl<'s> Name<'s> {
     }
 
     /// The name that a word spells.
-    pub(crate) fn of_word(bytes: &'s [u8]) -> Name<'s>
+    pub fn of_word(bytes: &'s [u8]) -> Name<'s>
         requires { IsTrue (is_word bytes.now) }
         ensures { bytes_of result ≡ bytes.now }
     {
