@@ -11,6 +11,7 @@ use Rattle.std.proofs.Math.Numerals.{one-add}
 use Rattle.std.proofs.Math.Seq.{drop-cons}
 use Rattle.std.proofs.lemmas.Bool.Decides.{leb_tells}
 use Rattle.memchr.specs.Find.{Nowhere, NoneBefore, Passes, is_byte}
+use Rattle.hv_lists.proofs.Bools.{both_true}
 use Rattle.hv_text.specs.Bytes.{lower, is_word_byte}
 use Rattle.hv_text.specs.Words.{Piece, word, left, right, bad, piece_of, first_letter, BeginsBy}
 use Rattle.hv_text.specs.declared.span.Span.{Span}
@@ -22,8 +23,10 @@ use Rattle.hv_plan.specs.Forms.{Parts, behind, inside, with_front, is_id, said, 
 use Rattle.hv_plan.specs.inside.Views.{as_id, IsLineFault, Found, too_large, no_ids, as_ids}
 use Rattle.hv_plan.specs.declared.fault.PlanFault.{PlanFault}
 use Rattle.hv_plan.specs.declared.fault.PlanFault.TheVariants as faults
+use Rattle.hv_plan.specs.declared.id.Id.{Id}
 use Rattle.hv_plan.specs.declared.id.Id.TheVariants as ids
 use Rattle.std.specs.Option.{option_map}
+use Rattle.std.specs.Prelude.{MatchBool}
 
 -- a byte within a line
 abbrev pub is_inner : ℕ → Bool
@@ -208,6 +211,23 @@ id_large bs d e =
 
 pub id_none : (bs : List ℕ) → is_digits bs ≡ false → ids.NoId ≡ as_id (id_of (lower bs))
 id_none bs d = let n = is_digits-lower bs in rw (n, d) refl
+
+-- digits of which one makes the number too large have no value of 64 bits
+pub no_value : (ds : List ℕ) (i v : ℕ) → i < length ds
+    → (is_ascii_digit (get_or ds i 0) ≡ true → None ≡ as_number (v * 10 + (get_or ds i 0 - 48)))
+    → value_from v (drop i ds) ≡ value_from 0 ds → list_all is_ascii_digit (drop i ds) ≡ list_all is_ascii_digit ds
+    → is_digits ds ≡ true → None ≡ as_number (value_from 0 ds)
+no_value ds i v within unfit same all digits =
+    let left : list_all is_ascii_digit (drop i ds) ≡ true = all ∙ are_digits ds digits in
+    let here : list_all is_ascii_digit (get_or ds i 0 ∷ drop (suc i) ds) ≡ true = rw (drop-cons ds i 0 within) at left in
+    let digit = both_true (is_ascii_digit (get_or ds i 0)) (list_all is_ascii_digit (drop (suc i) ds)) here in
+    sym (digit_too_large ds i v (value_from 0 ds) within (unfit digit.0) same)
+
+-- what bytes without such a value are as an id
+pub id_missing : (bs : List ℕ) (r : Id) (b : Bool) → is_digits bs ≡ b → MatchBool b (r ≡ ids.TooLarge) (r ≡ ids.NoId)
+    → (is_digits bs ≡ true → None ≡ as_number (value_from 0 bs)) → r ≡ as_id (id_of (lower bs))
+id_missing bs r true e is none = is ∙ id_large bs e (none e)
+id_missing bs r false e is none = is ∙ id_none bs e
 
 -- what words are as ids, where ids stand before the others, and they fit or not
 abbrev pub ids_read : Bool → List ℕ → Option (List ℕ) → Found

@@ -1,11 +1,12 @@
 //! Ids of lines.
 
-ghost use Rattle.std.specs.Prelude.{◌≡◌, ◌+◌, ◌-◌, ◌*◌, ℕ, true};
+ghost use Rattle.std.specs.Prelude.{◌≡◌, ◌+◌, ◌-◌, ◌*◌, ℕ, None, Some, true, MatchBool, MatchOption};
 ghost use Rattle.std.specs.List.{list_all};
 ghost use Rattle.std.specs.Char.{is_ascii_digit};
 ghost use Rattle.hv_text.specs.Names.{text_of};
 ghost use Rattle.hv_text.specs.Words.{piece_of};
 ghost use Rattle.hv_plan.specs.Forms.{is_digits, id_of, id_at, value_from, as_number};
+ghost use Rattle.hv_plan.specs.declared.id.Id.TheVariants as ids;
 ghost use Rattle.hv_plan.specs.inside.Views.{as_id};
 
 use hv_text::{Name, Word};
@@ -23,12 +24,20 @@ pub(crate) fn read_id(word: Name<'_>) -> Id
     ensures { result ≡ as_id (id_of (text_of word.entry)) }
 {
     let digits = word.written();
-    if !is_digits(digits) {
-        return Id::NoId;
-    }
     match value_of(digits) {
         Some(id) => Id::Fits(id),
-        None => Id::TooLarge,
+        None => without_value(digits),
+    }
+}
+
+// What bytes are as an id that are no digits with a value of 64 bits.
+fn without_value(digits: &[u8]) -> Id
+    ensures { MatchBool (is_digits digits.now) (result ≡ ids.TooLarge) (result ≡ ids.NoId) }
+{
+    if is_digits(digits) {
+        Id::TooLarge
+    } else {
+        Id::NoId
     }
 }
 
@@ -64,9 +73,13 @@ fn are_digits(bytes: &[u8]) -> bool
 
 // The number that digits stand for, where it has at most 64 bits.
 fn value_of(digits: &[u8]) -> Option<u64>
-    requires { list_all is_ascii_digit digits.now ≡ true }
-    ensures { result ≡ as_number (value_from 0 digits.now) }
+    ensures { MatchOption result
+        (is_digits digits.now ≡ true → None ≡ as_number (value_from 0 digits.now))
+        (λ n. (is_digits digits.now ≡ true) × (Some n ≡ as_number (value_from 0 digits.now))) }
 {
+    if digits.is_empty() {
+        return None;
+    }
     let mut value: u64 = 0;
     for digit in digits {
         value = with_digit(value, *digit)?;
@@ -76,8 +89,12 @@ fn value_of(digits: &[u8]) -> Option<u64>
 
 // The number with one more digit.
 fn with_digit(value: u64, digit: u8) -> Option<u64>
-    requires { is_ascii_digit digit ≡ true }
-    ensures { result ≡ as_number (value * 10 + (digit - 48)) }
+    ensures { MatchOption result
+        (is_ascii_digit digit ≡ true → None ≡ as_number (value * 10 + (digit - 48)))
+        (λ n. (is_ascii_digit digit ≡ true) × (Some n ≡ as_number (value * 10 + (digit - 48)))) }
 {
+    if !digit.is_ascii_digit() {
+        return None;
+    }
     value.checked_mul(10)?.checked_add((digit - b'0') as u64)
 }

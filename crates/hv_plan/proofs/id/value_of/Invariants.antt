@@ -8,5 +8,5 @@ use Rattle.hv_plan.proofs.id.value_of.Given as goal
 abbrev pub invariant-loop-digit : goal.invariant-loop-digit
 invariant-loop-digit l =
     (value_from l.value (drop l.digit-index l.digits) ≡ value_from 0 l.digits)
-    × (list_all is_ascii_digit (drop l.digit-index l.digits) ≡ true)
+    × (list_all is_ascii_digit (drop l.digit-index l.digits) ≡ list_all is_ascii_digit l.digits)
     × (is_id l.value ≡ true)
