@@ -35,7 +35,7 @@ no_number bs i v within unfit same n h is =
     let more : digits_value_after 10 (v * 10 + digit_value b) (drop (suc i) bs) ≡ n = rw front at value in
     unfit (digit_first b (drop (suc i) bs) (drop i bs) front digits) (omega (arith, no_less (v * 10 + digit_value b) (drop (suc i) bs), more, h))
 
--- no bytes are no number, and none begins with a zero but the one digit
+-- a number has a digit, and none but 0 begins with a zero
 pub no_bytes_no_number : (bs : List ℕ) → length bs ≡ 0 → IsNoNumber bs
 no_bytes_no_number bs none n h is =
     let numeral = decimal_is_IsNumeral n h in

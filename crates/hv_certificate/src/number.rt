@@ -25,14 +25,14 @@ fn number_of(bytes: &[u8]) -> Option<u64>
     let Some((first, others)) = bytes.split_first() else {
         return None;
     };
-    if leads(*first, others) {
+    if is_leading_zero(*first, others) {
         return None;
     }
     value_of(bytes)
 }
 
-// Whether a zero leads other bytes.
-fn leads(first: u8, others: &[u8]) -> bool
+// Whether the first byte is a zero that others follow.
+fn is_leading_zero(first: u8, others: &[u8]) -> bool
     ensures { MatchBool result ((first ≡ 48) × (0 < length others.now))
         (first ≡ 48 → others.now ≡ []) }
 {

@@ -30,7 +30,7 @@ pub(crate) fn read_id(word: Name<'_>) -> Id
     }
 }
 
-// What bytes are as an id that are no digits with a value of 64 bits.
+// What bytes are as an id, where they have no value of 64 bits: digits of a larger one, or no digits.
 fn without_value(digits: &[u8]) -> Id
     ensures { MatchBool (is_digits digits.now) (result ≡ ids.TooLarge) (result ≡ ids.NoId) }
 {
