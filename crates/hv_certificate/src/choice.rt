@@ -53,7 +53,7 @@ fn read_ids(alloc: Global, words: &[Name<'_>]) -> Result<Vec<u64>, Memory>
     ensures end { IfOk result (λ v.
         IsNoNumberAt (map text_of (drop (length v.items) words.now))) }
 {
-    let mut ids = Vec::new(alloc);
+    let mut ids = Vec::with_capacity(alloc, words.len())?;
     for word in words {
         match number(*word) {
             Some(id) => ids.push(id)?,

@@ -5,3 +5,4 @@ pub mod Contained
 pub mod Places
 pub mod Pairs
 pub mod EachOnce
+pub mod Told

@@ -3,7 +3,7 @@
 pub(crate) mod counts;
 pub(crate) mod names;
 
-ghost use Rattle.std.specs.Prelude.{◌≡◌, ◌+◌, ℕ, length, map, get_or, IfOk, OnOk, MatchBool, MatchOption, IsSome};
+ghost use Rattle.std.specs.Prelude.{◌≡◌, ◌+◌, ℕ, length, map, get_or, true, IfOk, OnOk, MatchBool, MatchOption, IsSome};
 ghost use Rattle.hv_world.specs.Views.{name_view, subtask_view};
 ghost use Rattle.hv_plan.specs.Fits.{multiplicity, names_of};
 ghost use Rattle.hv_world.specs.Values as value;
@@ -25,6 +25,25 @@ pub(crate) struct Tally {
     pub(crate) names: Vec<TaskName>,
     found: Vec<usize>,
     wanted: Vec<usize>,
+}
+
+// Whether these are the names of subtasks, one after another, as they are for most lines.
+fn are_named(names: &[TaskName], subtasks: &[Subtask]) -> bool
+    ensures { result ≡ true → map name_view names.now ≡ names_of (map subtask_view subtasks.now) }
+{
+    let mut left = subtasks;
+    for name in names {
+        match left {
+            [] => return false,
+            [first, others @ ..] => {
+                if first.name != *name {
+                    return false;
+                }
+                left = others;
+            }
+        }
+    }
+    left.is_empty()
 }
 
 impl Tally {
@@ -92,6 +111,9 @@ impl Tally {
     {
         if self.names.len() != subtasks.len() {
             return Ok(Some(CauseKind::ChildCount));
+        }
+        if are_named(&self.names, subtasks) {
+            return Ok(None);
         }
         if self.have_same_names(sizes, subtasks)? {
             Ok(None)

@@ -5,6 +5,7 @@ mod at;
 mod cursor;
 mod fault;
 mod files;
+mod hints;
 mod io;
 mod laws;
 mod lists;
@@ -21,6 +22,7 @@ pub use at::Cursor;
 pub use cursor::check_text;
 pub use fault::{MOST_BYTES, MOST_OPEN, TextFault, TextKind};
 pub use files::{FromReader, ToWriter};
+pub use hints::Hints;
 pub use io::{DeviceFault, ReadFault, Sink, Source, WriteFault, read_all, write_all, write_parts};
 pub use laws::{
     a_text_has_one_reading, comments_are_blanks, expressions_are_tidy, expressions_or_one_fault,

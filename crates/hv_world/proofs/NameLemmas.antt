@@ -1,11 +1,13 @@
 -- Names in lists of names, and where they stand.
-use Rattle.std.proofs.Common.{◌≡◌, ℕ, suc, ◌+◌, ◌<◌, nat_eq, Bool, true, false, not, ◌||◌, List, [], ◌∷◌, ◌++◌, map, length, take, drop, get_or, Option, Some, None, option_map, bytes_eq, if◌then◌else◌, cond, refl, ap, sym, ◌∙◌, arith, position}
-use Rattle.std.specs.List.{list_any, position_from}
+use Rattle.std.proofs.Common.{◌≡◌, ℕ, suc, ◌+◌, ◌<◌, nat_eq, Bool, true, false, not, ◌||◌, List, [], ◌∷◌, ◌++◌, map, length, take, drop, get_or, Option, Some, None, option_map, bytes_eq, if◌then◌else◌, cond, zero, refl, ap, sym, ◌∙◌, subst, arith, position}
+use Rattle.std.specs.List.{list_any, position_from, slice_get, IsDistinct}
 use Rattle.std.specs.Option.{option_eq, is_some}
 use Rattle.std.specs.Map.{lookup}
 use Rattle.std.specs.Cmp.Lexicographic.{bytes_decides}
 use Rattle.std.proofs.Math.Path.{fun_ext}
-use Rattle.std.proofs.lemmas.List.{length-map, length-take-le, map-append, take_more, drop_more}
+use Rattle.std.proofs.lemmas.List.{length-map, length-take-le, map-append, take_more, drop_more, get_or-map}
+use Rattle.std.proofs.lemmas.Map.Keys.{IsDistinct-tail, apart_from_distinct}
+use Rattle.std.proofs.lemmas.Option.{slice_get_within, get_or_from_slice_get}
 use Rattle.std.proofs.lemmas.Iterator.Adapters.{position_from-zero}
 use Rattle.std.proofs.lemmas.Grind.{common_steps}
 use Rattle.std.proofs.lemmas.Bool.Decides.{nat_tests}
@@ -169,3 +171,65 @@ somewhere (m ∷ ms) n = here_or (bytes_eq n m) (further (place_in ms n) ∙ som
         → is_some (if b then Some 0 else option_map suc (place_in ms n)) ≡ (b || is_among ms n)
     here_or true rest = refl
     here_or false rest = rest
+
+-- a name that stands at a place of a list which has each once is found there
+pub place_of_key : (xs : List Name) (k : ℕ) (n : List ℕ) → IsDistinct (λ a b. bytes_eq (text_of a) (text_of b)) xs
+    → slice_get (map text_of xs) k ≡ Some n → place_in (map text_of xs) n ≡ Some k
+place_of_key [] k n d e = absurd (let clash : None ≡ Some n = e in cc)
+place_of_key (x ∷ xs) zero n d e =
+    let both : Some (text_of x) ≡ Some n = e in
+    let same : text_of x ≡ n = cc in
+    subst (λ m. place_in (text_of x ∷ map text_of xs) m ≡ Some 0) same (rw (same_name (text_of x)) refl)
+place_of_key (x ∷ xs) (suc k) n d e = by (bytes_eq n (text_of x)) refl (place_of_key xs k n (IsDistinct-tail (λ a b. bytes_eq (text_of a) (text_of b)) x xs d) e)
+  where
+    within : k < length xs
+    within = let lt = slice_get_within (map text_of xs) k n e in let long = length-map xs text_of in omega (arith, lt, long)
+
+    there : text_of (get_or xs k x) ≡ n
+    there = sym (get_or-map text_of xs k x (text_of x) within) ∙ get_or_from_slice_get (map text_of xs) k n (text_of x) e
+
+    by : (b : Bool) → bytes_eq n (text_of x) ≡ b → place_in (map text_of xs) n ≡ Some k
+        → (if b then Some 0 else option_map suc (place_in (map text_of xs) n)) ≡ Some (suc k)
+    by false t rest = ap (option_map suc) rest
+    by true t rest =
+        let same : text_of x ≡ text_of (get_or xs k x) = sym ((bytes_decides n (text_of x)).0 t) ∙ sym there in
+        let equal = (bytes_decides (text_of x) (text_of (get_or xs k x))).1 same in
+        let apart = apart_from_distinct (λ a b. bytes_eq (text_of a) (text_of b)) (x ∷ xs) 0 (suc k) x d (omega arith) (omega (arith, within)) in
+        absurd (let clash : true ≡ false = sym equal ∙ apart in cc)
+
+-- a name stands where it is found
+pub found_there : (ns : List (List ℕ)) (n : List ℕ) (k : ℕ) → place_in ns n ≡ Some k → slice_get ns k ≡ Some n
+found_there [] n k e = absurd (let clash : None ≡ Some k = e in cc)
+found_there (m ∷ ms) n k e = by (bytes_eq n m) refl (λ i t. found_there ms n i t) e
+  where
+    further : (o : Option ℕ) → place_in ms n ≡ o → ((i : ℕ) → place_in ms n ≡ Some i → slice_get ms i ≡ Some n) → option_map suc o ≡ Some k → slice_get (m ∷ ms) k ≡ Some n
+    further None t rest f = absurd (let clash : None ≡ Some k = f in cc)
+    further (Some i) t rest f =
+        let both : Some (suc i) ≡ Some k = f in
+        let same : suc i ≡ k = cc in
+        subst (λ j. slice_get (m ∷ ms) j ≡ Some n) same (rest i t)
+
+    by : (b : Bool) → bytes_eq n m ≡ b → ((i : ℕ) → place_in ms n ≡ Some i → slice_get ms i ≡ Some n) → (if b then Some 0 else option_map suc (place_in ms n)) ≡ Some k → slice_get (m ∷ ms) k ≡ Some n
+    by true t rest f =
+        let both : Some 0 ≡ Some k = f in
+        let same : 0 ≡ k = cc in
+        subst (λ j. slice_get (m ∷ ms) j ≡ Some n) same (ap Some (sym ((bytes_decides n m).0 t)))
+    by false t rest f = further (place_in ms n) refl rest f
+
+-- a name that had a place is given it back
+pub place-back : (es : List (Name × ℕ)) (n : Name) (k i : ℕ) (q : List ℕ) → place_beside es (text_of n) ≡ Some i
+    → place_beside (insert_entry (λ a b. bytes_eq (text_of a) (text_of b)) (insert_entry (λ a b. bytes_eq (text_of a) (text_of b)) es n k) n i) q ≡ place_beside es q
+place-back [] n k i q e = absurd (let clash : None ≡ Some i = e in cc)
+place-back (x ∷ es) n k i q e = at (bytes_eq (text_of n) (text_of x.0)) refl e (λ f. place-back es n k i q f)
+  where
+    eq : Name → Name → Bool
+    eq a b = bytes_eq (text_of a) (text_of b)
+
+    at : (b : Bool) → bytes_eq (text_of n) (text_of x.0) ≡ b → (if b then Some x.1 else place_beside es (text_of n)) ≡ Some i
+        → (place_beside es (text_of n) ≡ Some i → place_beside (insert_entry eq (insert_entry eq es n k) n i) q ≡ place_beside es q)
+        → place_beside (insert_entry eq (if b then (x.0, k) ∷ es else x ∷ insert_entry eq es n k) n i) q ≡ place_beside (x ∷ es) q
+    at true t f rest =
+        let both : Some x.1 ≡ Some i = f in
+        let same : x.1 ≡ i = cc in
+        rw t (ap (λ j. if bytes_eq q (text_of x.0) then Some j else place_beside es q) (sym same))
+    at false t f rest = rw t (ap (λ o. if bytes_eq q (text_of x.0) then Some x.1 else o) (rest f))

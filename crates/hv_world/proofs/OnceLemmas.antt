@@ -25,7 +25,7 @@ use Rattle.hv_world.specs.StaticRules.{IsStatic, method_words}
 use Rattle.hv_world.specs.Values.{compound, primitive}
 use Rattle.hv_world.specs.Worlds.{World, Task, Action, world_of, task_names, action_names, said_task_names, said_action_names, said_method_names, task_by, action_in, task_named, network_in, method_in, task_in}
 use Rattle.hv_world.proofs.BuildLemmas.{of_mapped, predicates_named, tasks_named, actions_named, methods_named}
-use Rattle.hv_world.proofs.NameLemmas.{same_name}
+use Rattle.hv_world.proofs.NameLemmas.{found_there, same_name}
 use Rattle.hv_world.proofs.PlaceLemmas.{pairs_nil, pairs_head, pairs_tail, pairs_front, pairs_back, pairs_cross, by_place_apart}
 use Rattle.hv_world.proofs.NoFaults.{last_none}
 use Rattle.hv_world.proofs.AmongLemmas.{among_append}
@@ -189,3 +189,14 @@ module _ (w : World) (once : Once (task_names w.tasks ++ action_names w.actions)
       All-weaker (λ m. All (λ n. m ≢ n) actions) (λ m. m ≢ a.name)
       (λ m others. subst (λ n. m ≢ n) (get_or_from_slice_get actions k a.name [] there) (others k [] (slice_get_within actions k a.name there))) tasks (pairs_cross ◌≢◌ tasks actions once) in
       ap (λ o. elim o [ None ↦ option_map primitive (place_in actions a.name) | Some i ↦ Some (compound i) ]) (absent tasks a.name differ) ∙ ap (option_map primitive) place
+
+  -- a name of an action is that of no task
+  pub action_named : (n : List ℕ) (k : ℕ) → place_in (action_names w.actions) n ≡ Some k → task_named w n ≡ Some (primitive k)
+  action_named n k e =
+      let tasks = task_names w.tasks in
+      let actions = action_names w.actions in
+      let there = found_there actions n k e in
+      let differ : All (λ m. m ≢ n) tasks =
+      All-weaker (λ m. All (λ o. m ≢ o) actions) (λ m. m ≢ n)
+      (λ m others. subst (λ o. m ≢ o) (get_or_from_slice_get actions k n [] there) (others k [] (slice_get_within actions k n there))) tasks (pairs_cross ◌≢◌ tasks actions once) in
+      ap (λ o. elim o [ None ↦ option_map primitive (place_in actions n) | Some i ↦ Some (compound i) ]) (absent tasks n differ) ∙ ap (option_map primitive) e

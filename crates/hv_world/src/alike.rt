@@ -33,14 +33,15 @@ impl Hash for TaskName {
 
     ghost respects_eq = { Prim.search (hashing, rules) };
 
+    // A hasher takes a whole word as fast as a byte, and words behind a byte much slower.
     fn hash<H: Hasher>(&self, state: &mut H) {
         match self {
             TaskName::Compound(task) => {
-                state.write_u8(0);
+                state.write_usize(0);
                 state.write_usize(task.0);
             }
             TaskName::Primitive(action) => {
-                state.write_u8(1);
+                state.write_usize(1);
                 state.write_usize(action.0);
             }
         }

@@ -346,6 +346,7 @@ impl<'s> World<'s> {
         World {
             types: types.names,
             objects: tables.objects,
+            hints: tables.hints,
             typing: parts.kinds.typing,
             predicates: parts.kinds.predicates,
             tasks: parts.sections.tasks,

@@ -1,6 +1,6 @@
 //! Tables of names.
 
-ghost use Rattle.std.specs.Prelude.{◌≡◌, [], map, IfOk, OnOk};
+ghost use Rattle.std.specs.Prelude.{◌≡◌, [], Some, true, map, IfOk, IfSome, OnOk};
 ghost use Rattle.hv_text.specs.Names.{text_of};
 ghost use Rattle.hv_syntax.specs.Views.{word_view, variable_view};
 ghost use Rattle.hv_world.specs.Names.{names, place_in, repeated};
@@ -13,14 +13,16 @@ ghost use Rattle.hv_world.specs.inside.Tables.{places_by, seed_of, with_place};
 use crate::fault::{Side, StaticFault, StaticKind, earlier, fault_if};
 use crate::seed::{with_variables, with_words};
 use hv_syntax::{Placed, VariableText};
-use hv_text::{Memory, Name, Seeded};
-use indexmap::IndexMap;
+use hv_text::{Hints, Memory, Name, Seeded};
+use indexmap::{IndexMap, IndexSet};
 use std::alloc::Global;
 
 /// Where each name stands first in a list of words.
 #[derive(Drop)]
 pub(crate) struct Names<'s> {
     places: IndexMap<Name<'s>, usize, Seeded>,
+    // Where a name may stand in the table.
+    hints: Hints,
 }
 
 impl<'s> Names<'s> {
@@ -30,6 +32,7 @@ impl<'s> Names<'s> {
     {
         Names {
             places: IndexMap::with_hasher(alloc, Seeded::new()),
+            hints: Hints::none(alloc),
         }
     }
 
@@ -41,6 +44,7 @@ impl<'s> Names<'s> {
     {
         let mut names = Names {
             places: IndexMap::with_hasher(alloc, with_words(Seeded::new(), words)),
+            hints: Hints::with_room(alloc, words.len())?,
         };
         for place in 0..words.len() {
             let word = words[place];
@@ -61,6 +65,7 @@ impl<'s> Names<'s> {
     {
         let mut names = Names {
             places: IndexMap::with_hasher(alloc, with_variables(Seeded::new(), list)),
+            hints: Hints::with_room(alloc, list.len())?,
         };
         for place in 0..list.len() {
             let declared = &list[place];
@@ -70,22 +75,51 @@ impl<'s> Names<'s> {
         Ok(names)
     }
 
-    // Notes a place, where the name has none.
+    // Notes a place, where the name has none. One that has a place is given it back, so that each is
+    // looked for once, as most stand once.
     fn add(&mut self, name: Name<'s>, place: usize) -> Result<(), Memory>
         ensures places { OnOk result
             (places_by self.new ≡ with_place (places_by self.old) (text_of name.entry) place) }
         ensures seed { seed_of self.new ≡ seed_of self.old }
     {
-        if !self.places.contains_key(&name) {
-            self.places.insert(name, place)?;
+        let (index, before) = self.places.insert_full(name, place)?;
+        match before {
+            Some(first) => {
+                self.places.insert(name, first)?;
+            }
+            None => self.hints.note(name, index),
         }
         Ok(())
+    }
+
+    // The place of a name that stands at an index of the table.
+    #[inline(always)]
+    fn place_at(&self, index: usize, name: Name<'s>) -> Option<usize>
+        ensures { IfSome result (λ p. places_by self.now (text_of name.entry) ≡ Some p) }
+    {
+        let (other, place) = self.places.get_index(index)?;
+        if *other == name { Some(*place) } else { None }
+    }
+
+    /// Where a name stands first, if there is a hint of it.
+    #[inline(always)]
+    pub(crate) fn hinted(&self, name: Name<'s>) -> Option<usize>
+        ensures { IfSome result (λ p. places_by self.now (text_of name.entry) ≡ Some p) }
+    {
+        let [first, second] = self.hints.of(name);
+        match self.place_at(first, name) {
+            Some(place) => Some(place),
+            None => self.place_at(second, name),
+        }
     }
 
     /// Where a name stands first.
     pub(crate) fn place(&self, name: Name<'s>) -> Option<usize>
         ensures { result ≡ places_by self.now (text_of name.entry) }
     {
+        if let Some(place) = self.hinted(name) {
+            return Some(place);
+        }
         match self.places.get(&name) {
             Some(place) => Some(*place),
             None => None,
@@ -98,6 +132,48 @@ impl<'s> Names<'s> {
     {
         self.place(name).is_some()
     }
+}
+
+/// Hints of where the names of a set stand.
+///
+/// # Errors
+///
+/// `Memory` where the room was refused.
+pub(crate) fn hints_of(alloc: Global, names: &IndexSet<Name<'_>, Seeded>) -> Result<Hints, Memory> {
+    let mut hints = Hints::with_room(alloc, names.len())?;
+    for (place, name) in names.iter().enumerate() {
+        hints.note(*name, place);
+    }
+    Ok(hints)
+}
+
+// Whether a name stands at a place of a set.
+fn stands_at<'s>(names: &IndexSet<Name<'s>, Seeded>, place: usize, name: Name<'s>) -> bool
+    ensures { result ≡ true
+        → place_in (map text_of names.now.keys) (text_of name.entry) ≡ Some place }
+{
+    match names.as_slice().get(place) {
+        Some(other) => *other == name,
+        None => false,
+    }
+}
+
+/// Where a name stands in a set of which these are the hints.
+pub(crate) fn place_of<'s>(
+    names: &IndexSet<Name<'s>, Seeded>,
+    hints: &Hints,
+    name: Name<'s>,
+) -> Option<usize>
+    ensures { result ≡ place_in (map text_of names.now.keys) (text_of name.entry) }
+{
+    let [first, second] = hints.of(name);
+    if stands_at(names, first, name) {
+        return Some(first);
+    }
+    if stands_at(names, second, name) {
+        return Some(second);
+    }
+    names.get_index_of(&name)
 }
 
 /// The first of these words that has one of its name before it.

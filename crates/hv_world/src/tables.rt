@@ -18,13 +18,13 @@ mod sight;
 pub(crate) mod words;
 
 use crate::id::{PredicateId, TaskName};
-use crate::names::Names;
+use crate::names::{Names, hints_of, place_of};
 use crate::tables::eithers::either_types;
 use crate::tables::sections::declarations;
 use crate::tables::sight::{object_names, type_names};
 use crate::tables::words::{arities, declared_words, predicate_words};
 use hv_syntax::{DomainText, Placed, PredicateText, ProblemText};
-use hv_text::{Memory, Name, Seeded};
+use hv_text::{Hints, Memory, Name, Seeded};
 use indexmap::IndexSet;
 use std::alloc::Global;
 
@@ -71,6 +71,8 @@ pub(crate) struct TaskTable<'s> {
 pub(crate) struct Tables<'s> {
     pub types: TypeTable<'s>,
     pub objects: IndexSet<Name<'s>, Seeded>,
+    // Where the name of an object may stand among them.
+    pub hints: Hints,
     pub predicates: PredicateTable<'s>,
     pub tasks: TaskTable<'s>,
 }
@@ -140,11 +142,13 @@ impl<'s> Tables<'s> {
     {
         let types = type_table(alloc, domain, problem)?;
         let objects = object_names(alloc, domain.constants(), problem.objects())?;
+        let hints = hints_of(alloc, &objects)?;
         let predicates = predicate_table(alloc, domain.predicates())?;
         let tasks = task_table(alloc, domain)?;
         Ok(Tables {
             types,
             objects,
+            hints,
             predicates,
             tasks,
         })
@@ -205,7 +209,7 @@ impl<'s> Tables<'s> {
     pub(crate) fn is_object(&self, name: Name<'s>) -> bool
         ensures { result ≡ is_among (known_by self.now).objects (text_of name.entry) }
     {
-        self.objects.contains(&name)
+        self.object(name).is_some()
     }
 
     /// The number of a constant or an object, where it is declared.
@@ -213,14 +217,14 @@ impl<'s> Tables<'s> {
         ensures place { result ≡ place_in (known_by self.now).objects (text_of name.entry) }
         ensures known { is_some result ≡ is_among (known_by self.now).objects (text_of name.entry) }
     {
-        self.objects.get_index_of(&name)
+        place_of(&self.objects, &self.hints, name)
     }
 
     /// The number of a constant or an object; of one that is not declared, the number behind the last.
     pub(crate) fn object_number(&self, name: Name<'s>) -> usize
         ensures { result ≡ number_in (known_by self.now).objects (text_of name.entry) }
     {
-        match self.objects.get_index_of(&name) {
+        match self.object(name) {
             Some(number) => number,
             None => self.objects.len(),
         }

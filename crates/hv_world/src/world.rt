@@ -18,11 +18,11 @@ use crate::formula::{Atom, Formula};
 use crate::grounding::GroundAction;
 use crate::id::{ActionId, MethodId, ObjectId, PredicateId, TaskId, TaskName, TypeId};
 use crate::method::Method;
-use crate::names::Names;
+use crate::names::{Names, place_of};
 use crate::range::Range;
 use crate::task::Task;
 use crate::types::Types;
-use hv_text::{Name, Seeded};
+use hv_text::{Hints, Name, Seeded};
 use indexmap::IndexSet;
 
 /// The world of a domain and a problem: what they say, with a number for each name.
@@ -30,6 +30,8 @@ use indexmap::IndexSet;
 pub struct World<'s> {
     pub(crate) types: IndexSet<Name<'s>, Seeded>,
     pub(crate) objects: IndexSet<Name<'s>, Seeded>,
+    // Where the name of an object may stand among them.
+    pub(crate) hints: Hints,
     pub(crate) typing: Types,
     pub(crate) predicates: Vec<Name<'s>>,
     pub(crate) tasks: Vec<Task<'s>>,
@@ -232,7 +234,7 @@ impl<'s> World<'s> {
         ensures { option_map (λ o. o.0) result
             ≡ place_in (world_view self.now).objects (text_of name.entry) }
     {
-        match self.objects.get_index_of(&name) {
+        match place_of(&self.objects, &self.hints, name) {
             Some(place) => Some(ObjectId(place)),
             None => None,
         }
@@ -254,6 +256,9 @@ impl<'s> World<'s> {
         ensures { option_map name_view result
             ≡ task_named (world_view self.now) (text_of name.entry) }
     {
+        if let Some(place) = self.action_names.hinted(name) {
+            return Some(TaskName::Primitive(ActionId(place)));
+        }
         match self.task_names.place(name) {
             Some(place) => Some(TaskName::Compound(TaskId(place))),
             None => match self.action_names.place(name) {
