@@ -16,6 +16,23 @@ use hv_text::Memory;
 use hv_world::{Method, ObjectId, Subtask, World};
 use std::alloc::Global;
 
+/// Room for the test of one candidate after another.
+#[derive(Drop)]
+pub struct Room {
+    marks: Vec<bool>,
+    values: Vec<usize>,
+}
+
+impl Room {
+    /// Room that grows as it is used.
+    pub fn new(alloc: Global) -> Room {
+        Room {
+            marks: Vec::new(alloc),
+            values: Vec::new(alloc),
+        }
+    }
+}
+
 // Marks a place, and says whether there is one that was not marked.
 fn mark(marks: &mut [bool], place: usize) -> bool
     ensures new { result ≡ true → IsMarkedAnew marks.old place marks.new }
@@ -29,15 +46,17 @@ fn mark(marks: &mut [bool], place: usize) -> bool
 }
 
 // Whether these are the places of so many children, each once.
-fn are_all_places(alloc: Global, places: &[u32], count: usize) -> Result<bool, Memory>
+fn are_all_places(room: &mut Vec<bool>, places: &[u32], count: usize) -> Result<bool, Memory>
     ensures { IfOk result (λ b. IsTrue b ↔ AreAllPlaces count places.now) }
 {
     if places.len() != count {
         return Ok(false);
     }
-    let mut marks = vec![in alloc; false; count]?;
+    room.clear();
+    room.resize(count, false)?;
+    let marks = room.as_mut_slice();
     for place in places {
-        if !mark(&mut marks, *place as usize) {
+        if !mark(marks, *place as usize) {
             return Ok(false);
         }
     }
@@ -90,20 +109,20 @@ fn all_do(
     true
 }
 
-// The numbers of objects.
-fn numbers(alloc: Global, objects: &[ObjectId]) -> Result<Vec<usize>, Memory>
-    ensures { IfOk result (λ v. v.items ≡ map object_number objects.now) }
+// The numbers of objects, in place of those that a list has.
+fn numbers<'r>(room: &'r mut Vec<usize>, objects: &[ObjectId]) -> Result<&'r [usize], Memory>
+    ensures { IfOk result (λ v. v.now ≡ map object_number objects.now) }
 {
-    let mut numbers = Vec::with_capacity(alloc, objects.len())?;
+    room.clear();
     for object in objects {
-        numbers.push(object.0)?;
+        room.push(object.0)?;
     }
-    Ok(numbers)
+    Ok(room)
 }
 
 // Whether these are a candidate of a node by its method.
 fn is_candidate_by(
-    alloc: Global,
+    room: &mut Room,
     world: &World<'_>,
     tree: &Tree<'_, '_>,
     node: &Node<'_>,
@@ -114,23 +133,24 @@ fn is_candidate_by(
     ensures { IfOk result (Tells (IsCandidateBy world.now method.now tree.now node.now children.now
         objects.now)) }
 {
-    let values = numbers(alloc, objects)?;
+    let Room { marks, values } = room;
+    let values = numbers(values, objects)?;
     let network = method.network();
-    let is_once = are_all_places(alloc, children, node.children().len())?;
+    let is_once = are_all_places(marks, children, node.children().len())?;
     Ok(
         is_once
             && world.are_of(objects, method.parameters())
-            && are_values(&values, terms(method), node.objects())
-            && all_do(tree, node.children(), children, &values, network.subtasks())
-            && all_hold(&values, network.constraints()),
+            && are_values(values, terms(method), node.objects())
+            && all_do(tree, node.children(), children, values, network.subtasks())
+            && all_hold(values, network.constraints()),
     )
 }
 
-/// Whether these are a candidate of a node: for each subtask in written order the place of its
+/// Whether these are a candidate of a node, tested in this room: for each subtask in written order the place of its
 /// child among the node's children, and for each parameter of the method its object. Nothing is
 /// searched. Err only for want of memory.
 pub fn is_candidate(
-    alloc: Global,
+    room: &mut Room,
     world: &World<'_>,
     tree: &Tree<'_, '_>,
     node: u32,
@@ -142,5 +162,5 @@ pub fn is_candidate(
     ensures { IfOk result (Tells (IsCandidateOf world.now tree.now node children.now objects.now)) }
 {
     let (node, method) = node_and_method(world, tree, node);
-    is_candidate_by(alloc, world, tree, &node, method, children, objects)
+    is_candidate_by(room, world, tree, &node, method, children, objects)
 }

@@ -25,7 +25,7 @@ mod state;
 mod table;
 
 pub use candidates::Candidates;
-pub use check::is_candidate;
+pub use check::{Room, is_candidate};
 pub use counts::{count, exceeds};
 pub use laws::{counts_are_one, nodes_have_methods};
 pub use matcher::Matcher;

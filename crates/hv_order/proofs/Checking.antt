@@ -20,7 +20,8 @@ use Rattle.hv_order.specs.Settings.{Setting, last, child_for, HoldsAt, AmountsTo
 use Rattle.hv_order.specs.Certified.{IsChildId, IsNameOf, Says, SaysLine, Certifies, line_numbers}
 use Rattle.hv_order.specs.inside.PlanFacts.{IsSetting, OfMethod}
 use Rattle.hv_order.specs.inside.Checks as checks
-use Rattle.hv_order.specs.inside.Checks.{IsPart, HasIdOf, HasLines, ArePlaces, binding_of, AreEntries, AreRight, finish_in, child_at, KeepsDirect, KeepsNode, KeepAll}
+use Rattle.hv_order.specs.Misfits.{IsPart}
+use Rattle.hv_order.specs.inside.Checks.{HasIdOf, HasLines, ArePlaces, binding_of, AreEntries, AreRight, finish_in, child_at, KeepsDirect, KeepsNode, KeepAll}
 use Rattle.hv_certificate.specs.declared.certificate.Choice.{Choice}
 use Rattle.hv_certificate.specs.declared.certificate.Certificate.{Certificate}
 use Rattle.hv_order.specs.declared.entries.Entry.{Entry}
@@ -105,7 +106,7 @@ module _ (q : Setting) (is : IsSetting q) where
 
   -- a place in the order of nodes is that of the root line, or of a decomposition line
   module _ (ps : List ℕ) (places : ArePlaces q.tree ps) where
-    place_is : (k v : ℕ) → v < length q.tree.nodes → slice_get q.tree.order k ≡ Some v → slice_index ps v ≡ k
+    pub place_is : (k v : ℕ) → v < length q.tree.nodes → slice_get q.tree.order k ≡ Some v → slice_index ps v ≡ k
     place_is k v lt e = one_stand q.tree.order is.tree.is_tree.once (slice_index ps v) k v (places.each v lt) e
 
     root_place : slice_index ps (root_number q.tree) ≡ 0
@@ -134,13 +135,13 @@ module _ (q : Setting) (is : IsSetting q) where
         by (suc i) e at = record { line = i; stands = in_lines q.tree i v at; place = e }
 
   -- what a matching and a binding amount to
-  meant : (v : ℕ) (M B : List ℕ) → IsCandidateHere q v M B → (m : Meaning) × AmountsTo q v M B m
+  pub meant : (v : ℕ) (M B : List ℕ) → IsCandidateHere q v M B → (m : Meaning) × AmountsTo q v M B m
   meant v M B h =
       let (m, stands) = meaning_of (length M) (child_for h.node M) (Before h.method.network.order) (order_decided q is v h.node h.has_node h.method h.has_method)
       (HoldsAt q h.method B) (truth_decided q is v h.node h.has_node h.method h.has_method B) in
       (m, record { node = h.node; has_node = h.has_node; method = h.method; has_method = h.has_method; candidate = h.candidate; stands = stands })
 
-  here : (v : ℕ) (M B : List ℕ) (m : Meaning) → AmountsTo q v M B m → IsCandidateHere q v M B
+  pub here : (v : ℕ) (M B : List ℕ) (m : Meaning) → AmountsTo q v M B m → IsCandidateHere q v M B
   here v M B m a = record { node = a.node; has_node = a.has_node; method = a.method; has_method = a.has_method; candidate = a.candidate }
 
   module _ (v : ℕ) (M B : List ℕ) (m : Meaning) (a : AmountsTo q v M B m) where
@@ -150,7 +151,7 @@ module _ (q : Setting) (is : IsSetting q) where
     child_is : (j : ℕ) → child_at (children_at q.tree.nodes v) M j ≡ child_for a.node M j
     child_is j = ap (λ xs. checks.child_at xs M j) (children_are q is v a.node a.has_node a.method a.has_method)
 
-    holds_of : (k : ℕ) → m.true_at k ≡ true → OfMethod q v (λ x. HoldsAt q x B k)
+    pub holds_of : (k : ℕ) → m.true_at k ≡ true → OfMethod q v (λ x. HoldsAt q x B k)
     holds_of k e = of_method q is v a.node a.has_node a.method a.has_method (λ x. HoldsAt q x B k) ((a.stands.true_at k).0 e)
 
     true_of : (k : ℕ) → OfMethod q v (λ x. HoldsAt q x B k) → m.true_at k ≡ true
@@ -173,7 +174,7 @@ module _ (q : Setting) (is : IsSetting q) where
           let Q : Item → Type 0 = λ z. finish x ≤ subtask_start at z in
           subst Q second (subst P first kept)
 
-      direct_kept : ((x y : Item) → Contains (children_at q.tree.nodes v) x → Contains (children_at q.tree.nodes v) y → m.before x y ≡ true → finish x ≤ subtask_start at y)
+      pub direct_kept : ((x y : Item) → Contains (children_at q.tree.nodes v) x → Contains (children_at q.tree.nodes v) y → m.before x y ≡ true → finish x ≤ subtask_start at y)
           → (i j : ℕ) → j < length M → IsDirect a.method.network.order i j
           → finish (child_at (children_at q.tree.nodes v) M i) ≤ subtask_start at (child_at (children_at q.tree.nodes v) M j)
       direct_kept rule i j lt d =
@@ -196,7 +197,7 @@ module _ (q : Setting) (is : IsSetting q) where
     of_lines = λ v r. orders_node v (M v) (B v) (o.line v) (nodes v (below v r));
   }
 
-  method_one : (v : ℕ) (m n : Method) → method_at q.plan.world q.tree v ≡ Some m → method_at q.plan.world q.tree v ≡ Some n → m ≡ n
+  pub method_one : (v : ℕ) (m n : Method) → method_at q.plan.world q.tree v ≡ Some m → method_at q.plan.world q.tree v ≡ Some n → m ≡ n
   method_one v m n e f = let both : Some m ≡ Some n = sym e ∙ f in cc
 
   in_tree : (v : ℕ) → v < root_number q.tree → v < length q.tree.nodes
@@ -211,7 +212,7 @@ module _ (q : Setting) (is : IsSetting q) where
     entry_at : (v : ℕ) → v < length q.tree.nodes → (e : Entry) × (slice_get es v ≡ Some e)
     entry_at v lt = member_at es v (omega (arith, lt, are.as_many))
 
-    at_is : (v : ℕ) (e : Entry) → slice_get es v ≡ Some e → at v ≡ e.at
+    pub at_is : (v : ℕ) (e : Entry) → slice_get es v ≡ Some e → at v ≡ e.at
     at_is v e f = ap checks.at_of f
 
     root_at : at (root_number q.tree) ≡ 0
@@ -221,7 +222,7 @@ module _ (q : Setting) (is : IsSetting q) where
         let P : ℕ → Type 0 = λ k. IsPart c k w.choice e.at in
         at_is (root_number q.tree) e f ∙ (subst P (root_place ps places) w.part).1
 
-    spans : (x : Item) → subtask_start at x ≤ finish_in fs x
+    pub spans : (x : Item) → subtask_start at x ≤ finish_in fs x
     spans (Act k) = omega arith
     spans (Task v) = fin.own v
     spans (Pre v) = omega arith

@@ -1,19 +1,17 @@
 -- The lines of a certificate and the places of nodes.
-use Rattle.std.proofs.Common.{◌≡◌, ◌≢◌, ℕ, zero, suc, ◌+◌, ◌-◌, ◌<◌, ◌≤◌, ◌⊎◌, inl, inr, true, false, List, [], ◌∷◌, Some, length, drop, slice_get, refl, sym, ap, ◌∙◌, subst, arith}
+use Rattle.std.proofs.Common.{◌≡◌, ◌≢◌, ℕ, zero, suc, ◌+◌, ◌-◌, ◌<◌, ◌≤◌, ◌⊎◌, inl, inr, List, [], ◌∷◌, Some, None, length, drop, slice_get, refl, sym, ◌∙◌, subst, arith}
 use Rattle.std.specs.Prelude.{slice_index}
 use Rattle.std.specs.List.{AllZip, slice_set}
 use Rattle.std.proofs.lemmas.List.{get_or-set_same, get_or-set_other, length-set}
 use Rattle.std.proofs.lemmas.Option.{slice_get_within}
-use Rattle.hv_lists.proofs.Pairs.{zip_back, same_length}
 use Rattle.hv_world.specs.Worlds.{World}
 use Rattle.hv_plan.specs.Trees.{Task}
 use Rattle.hv_plan.specs.PlanTrees.{PlanTree, IsTreeIn, StandsFor}
-use Rattle.hv_match.specs.Candidates.{Tells}
 use Rattle.hv_order.specs.Certified.{line_numbers}
-use Rattle.hv_order.specs.inside.Checks.{HasIdOf, HasLines, ArePlaces, IsPart}
+use Rattle.hv_order.specs.Misfits.{IsPart}
+use Rattle.hv_order.specs.inside.Checks.{HasIdOf, HasLines, HasLineAt, IsOtherAt, ArePlaces}
 use Rattle.hv_certificate.specs.declared.certificate.Choice.{Choice}
 use Rattle.hv_certificate.specs.declared.certificate.Certificate.{Certificate}
-use Rattle.hv_order.proofs.Checked.{tells_no, tells_yes}
 use Rattle.hv_order.proofs.Checking.{behind_root}
 use Rattle.hv_order.proofs.ToldApart.{one_stand, one_id}
 use Rattle.hv_order.proofs.TreeLines.{as_many_in_order, within_order, place_of}
@@ -40,57 +38,82 @@ module _ (w : World) (t : PlanTree) (is : IsTreeIn w t) where
   pub many : length t.nodes ≡ length (line_numbers t) + 1
   many = let n = as_many_in_order w t is in let m = count_lines t in let some = is.is_tree.last in omega (arith, n, m, some)
 
-  pub other_count : (c : Certificate) (n : ℕ) → n ≡ length t.nodes → length c.lines.items + 1 ≢ n → Tells (HasLines t c) false
-  other_count c n count other =
-      tells_no (HasLines t c) (λ h. other (let k = same_length (HasIdOf t) (line_numbers t) c.lines.items h in omega (arith, k, count, many)))
-
-  -- a line of another id
-  pub other_id : (c : Certificate) (k v i : ℕ) (x : ℕ × Choice × ℕ) → 1 ≤ k → slice_get t.order k ≡ Some v → slice_get c.lines.items (k - 1) ≡ Some x → StandsFor t i (Task v) → x.0 ≢ i → Tells (HasLines t c) false
+  -- the line at a place begins with another id, or there is none
+  pub other_id : (c : Certificate) (k v i : ℕ) (x : ℕ × Choice × ℕ) → 0 < k → slice_get t.order k ≡ Some v → slice_get c.lines.items (k - 1) ≡ Some x → StandsFor t i (Task v) → x.0 ≢ i → IsOtherAt t c k
   other_id c zero v i x low at_v at_x id other = absurd (omega (arith, low))
-  other_id c (suc k) v i x low at_v at_x id other =
-      tells_no (HasLines t c) (λ h.
-      let (u, at_u, has) = zip_back (HasIdOf t) (line_numbers t) c.lines.items k x h (let P : ℕ → Type 0 = λ n. slice_get c.lines.items n ≡ Some x in let back : suc k - 1 ≡ k = omega arith in subst P back at_x) in
-      let both : Some u ≡ Some v = sym (behind_root t k u at_u) ∙ at_v in
-      let same : u ≡ v = cc in
-      let P : ℕ → Type 0 = λ y. HasIdOf t y x in
-      other (one_id t x.0 i (Task v) (subst P same has) id))
-
-  pub all_ids : (c : Certificate) (n : ℕ) → length t.nodes ≤ n → length c.lines.items + 1 ≡ length t.nodes
-      → ((i v : ℕ) (x : ℕ × Choice × ℕ) → i + 1 < n → slice_get t.order (i + 1) ≡ Some v → slice_get c.lines.items i ≡ Some x → HasIdOf t v x) → Tells (HasLines t c) true
-  all_ids c n whole count each =
-      tells_yes (HasLines t c)
-      (zip_from (HasIdOf t) (line_numbers t) c.lines.items (omega (arith, count, many))
-      (λ i v x e f.
-      let lt = slice_get_within (line_numbers t) i v e in
-      let at = behind_root t i v e in
-      let next : suc i ≡ i + 1 = omega arith in
-      let P : ℕ → Type 0 = λ k. slice_get t.order k ≡ Some v in
-      each i v x (omega (arith, lt, whole, many)) (subst P next at) f))
-
-  -- one id more
-  pub id_more : (c : Certificate) (k v i : ℕ) (y : ℕ × Choice × ℕ) → 1 ≤ k → slice_get t.order k ≡ Some v → slice_get c.lines.items (k - 1) ≡ Some y → StandsFor t i (Task v) → y.0 ≡ i
-      → ((i v : ℕ) (x : ℕ × Choice × ℕ) → i + 1 < k → slice_get t.order (i + 1) ≡ Some v → slice_get c.lines.items i ≡ Some x → HasIdOf t v x)
-      → (i v : ℕ) (x : ℕ × Choice × ℕ) → i + 1 < k + 1 → slice_get t.order (i + 1) ≡ Some v → slice_get c.lines.items i ≡ Some x → HasIdOf t v x
-  id_more c k v i y low at_v at_y id same all j u x lt at_u at_x = by (compare (j + 1) k)
+  other_id c (suc k) v i x low at_v at_x id other = (
+    k,
+    refl,
+    record {
+      there = inr (slice_get_within c.lines.items k x here);
+      differ = λ u l at_u at_l has.
+          let both : Some u ≡ Some v = sym (behind_root t k u at_u) ∙ at_v in
+          let same : u ≡ v = cc in
+          let lines : Some l ≡ Some x = sym at_l ∙ here in
+          let line : l ≡ x = cc in
+          let P : ℕ → Type 0 = λ y. HasIdOf t y l in
+          let Q : ℕ × Choice × ℕ → Type 0 = λ z. HasIdOf t v z in
+          other (one_id t x.0 i (Task v) (subst Q line (subst P same has)) id);
+    },
+  )
     where
-      compare : (a b : ℕ) → (a < b) ⊎ (b ≤ a)
-      compare a b = grind arith
+      here : slice_get c.lines.items k ≡ Some x
+      here = let P : ℕ → Type 0 = λ n. slice_get c.lines.items n ≡ Some x in let back : suc k - 1 ≡ k = omega arith in subst P back at_x
 
-      by : (j + 1 < k) ⊎ (k ≤ j + 1) → HasIdOf t u x
-      by (inl less) = all j u x less at_u at_x
-      by (inr past) =
-          let here : j + 1 ≡ k = omega (arith, past, lt) in
-          let before : j ≡ k - 1 = omega (arith, here) in
-          let P : ℕ → Type 0 = λ n. slice_get t.order n ≡ Some u in
-          let Q : ℕ → Type 0 = λ n. slice_get c.lines.items n ≡ Some x in
-          let nodes : Some v ≡ Some u = sym at_v ∙ subst P here at_u in
-          let lines : Some y ≡ Some x = sym at_y ∙ subst Q before at_x in
-          let one : v ≡ u = cc in
-          let other : y ≡ x = cc in
-          let R : ℕ → Type 0 = λ n. StandsFor t i (Task n) in
-          let S : ℕ → Type 0 = λ n. StandsFor t n (Task u) in
-          let names : i ≡ x.0 = sym same ∙ ap (λ (z : ℕ × Choice × ℕ). z.0) other in
-          subst S names (subst R one id)
+  pub no_line : (c : Certificate) (k : ℕ) → 0 < k → k < length t.nodes → slice_get c.lines.items (k - 1) ≡ None → IsOtherAt t c k
+  no_line c zero low lt none = absurd (omega (arith, low))
+  no_line c (suc k) low lt none = (
+    k,
+    refl,
+    record {
+      there = inl (omega (arith, lt, many));
+      differ = λ u l at_u at_l has. absurd (let clash : Some l ≡ None = sym at_l ∙ here in cc);
+    },
+  )
+    where
+      here : slice_get c.lines.items k ≡ None
+      here = let P : ℕ → Type 0 = λ n. slice_get c.lines.items n ≡ None in let back : suc k - 1 ≡ k = omega arith in subst P back none
+
+  pub its_line : (c : Certificate) (k v i : ℕ) (x : ℕ × Choice × ℕ) → slice_get t.order k ≡ Some v → slice_get c.lines.items (k - 1) ≡ Some x → StandsFor t i (Task v) → x.0 ≡ i → HasLineAt t c k
+  its_line c k v i x at_v at_x id same =
+      let P : ℕ → Type 0 = λ n. StandsFor t n (Task v) in
+      (v, x, at_v, at_x, subst P (sym same) id)
+
+  -- a line behind those of all nodes
+  pub one_too_many : (c : Certificate) (k : ℕ) → k ≡ length t.nodes → k ≤ length c.lines.items → IsOtherAt t c k
+  one_too_many c zero e le = absurd (let some = is.is_tree.last in omega (arith, e, some))
+  one_too_many c (suc k) e le = (
+    k,
+    refl,
+    record {
+      there = inr (omega (arith, le));
+      differ = λ u l at_u at_l has. absurd (let lt = slice_get_within (line_numbers t) k u at_u in omega (arith, lt, e, many));
+    },
+  )
+
+  pub all_lines : (c : Certificate) (n : ℕ) → n ≡ length t.nodes → length c.lines.items < n → ((k : ℕ) → 0 < k → k < n → HasLineAt t c k) → HasLines t c
+  all_lines c n e few each =
+      zip_from (HasIdOf t) (line_numbers t) c.lines.items (as_many n e few each)
+      (λ i v x at_v at_x.
+      let lt = slice_get_within (line_numbers t) i v at_v in
+      let (u, l, at_u, at_l, id) = each (suc i) (omega arith) (omega (arith, lt, e, many)) in
+      let nodes : Some u ≡ Some v = sym at_u ∙ behind_root t i v at_v in
+      let node : u ≡ v = cc in
+      let P : ℕ → Type 0 = λ n. slice_get c.lines.items n ≡ Some l in
+      let back : suc i - 1 ≡ i = omega arith in
+      let lines : Some l ≡ Some x = sym (subst P back at_l) ∙ at_x in
+      let line : l ≡ x = cc in
+      let Q : ℕ → Type 0 = λ y. HasIdOf t y l in
+      let R : ℕ × Choice × ℕ → Type 0 = λ z. HasIdOf t v z in
+      subst R line (subst Q node id))
+    where
+      as_many : (n : ℕ) → n ≡ length t.nodes → length c.lines.items < n → ((k : ℕ) → 0 < k → k < n → HasLineAt t c k) → length (line_numbers t) ≡ length c.lines.items
+      as_many zero e few each = absurd (omega (arith, few))
+      as_many (suc zero) e few each = omega (arith, e, few, many)
+      as_many (suc (suc k)) e few each =
+          let (u, l, at_u, at_l, id) = each (suc k) (omega arith) (omega arith) in
+          let lt = slice_get_within c.lines.items (suc k - 1) l at_l in
+          omega (arith, e, few, lt, many)
 
   -- one place more
   pub place_more : (ps : List ℕ) (k v : ℕ) → slice_get t.order k ≡ Some v → (length ps ≡ length t.nodes) × ((j u : ℕ) → j < k → slice_get t.order j ≡ Some u → slice_index ps u ≡ j)

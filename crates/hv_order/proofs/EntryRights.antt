@@ -20,7 +20,8 @@ use Rattle.hv_order.specs.Settings.{Setting, setting, HoldsAt}
 use Rattle.hv_order.specs.Certified.{IsChildId, IsNameOf, line_numbers}
 use Rattle.hv_order.specs.inside.PlanFacts.{OfMethod}
 use Rattle.hv_order.specs.inside.Writings.{HasId}
-use Rattle.hv_order.specs.inside.Checks.{AreObjectsOf, IsPlaceOf, ArePlacesOf, AreNamed, IsPart, HasIdOf, HasLines, ArePlaces, IsRight, IsEntryFor, IsEntryOf, AreEntries, HasEntries, binding_of}
+use Rattle.hv_order.specs.inside.Checks.{AreObjectsOf, IsPlaceOf, ArePlacesOf, AreNamed, HasIdOf, HasLines, ArePlaces, IsRight, IsEntryFor, IsEntryOf, AreEntries, IsWrong, binding_of}
+use Rattle.hv_order.specs.Misfits.{IsPart}
 use Rattle.hv_certificate.specs.declared.certificate.Choice.{Choice}
 use Rattle.hv_certificate.specs.declared.certificate.Certificate.{Certificate}
 use Rattle.hv_order.specs.declared.entries.Entry.{Entry}
@@ -142,14 +143,9 @@ one_part c (suc i) s u k m (x, a) (y, b) =
     (ap (λ (z : ℕ × Choice × ℕ). z.1) same, ap (λ (z : ℕ × Choice × ℕ). z.2) same)
 
 module _ (q : Setting) (c : Certificate) (ps : List ℕ) where
-  pub none_right : (v k : ℕ) (s : Choice) (o : Option Entry) → v < length q.tree.nodes → IsPart c (slice_index ps v) s k → IsEntryFor q v k s o → o ≡ None → HasEntries q c ps None
-  none_right v k s None lt part none e = λ all.
-      let h = all v lt in
-      let (choice, index) = one_part c (slice_index ps v) h.choice s h.index k h.part part in
-      let P : Choice → Type 0 = λ u. IsRight q v h.index u h.matching h.binding in
-      let Q : ℕ → Type 0 = λ m. IsRight q v m s h.matching h.binding in
-      none h.matching h.binding (subst Q index (subst P choice h.right))
-  none_right v k s (Some e) lt part right f = absurd (let clash : Some e ≡ None = f in cc)
+  pub wrong_entry : (v k place : ℕ) (s : Choice) (o : Option Entry) → v < length q.tree.nodes → slice_index ps v ≡ place → IsPart c place s k → IsEntryFor q v k s o → o ≡ None → IsWrong q c ps place
+  wrong_entry v k place s None lt is part none e = record { node = v; is_node = lt; is_place = is; choice = s; index = k; part = part; none = none }
+  wrong_entry v k place s (Some e) lt is part right f = absurd (let clash : Some e ≡ None = f in cc)
 
   entry_is : (v k : ℕ) (s : Choice) (o : Option Entry) (e : Entry) → IsPart c (slice_index ps v) s k → IsEntryFor q v k s o → o ≡ Some e → IsEntryOf q c (slice_index ps v) v e
   entry_is v k s None e part none f = absurd (let clash : None ≡ Some e = f in cc)

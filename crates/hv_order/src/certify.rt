@@ -1,6 +1,6 @@
 //! A certificate, written down from what is chosen for each node.
 
-ghost use Rattle.std.specs.Prelude.{map, IfOk};
+ghost use Rattle.std.specs.Prelude.{map, IfOk, OnOk};
 ghost use Rattle.std.specs.List.{All};
 ghost use Rattle.hv_world.specs.Bindings.{object_number};
 ghost use Rattle.hv_world.specs.WorldViews.{world_view};
@@ -27,15 +27,29 @@ pub struct Chosen<'a> {
     pub at: u32,
 }
 
+/// Puts the ids of children in place of those that a list has.
+pub(crate) fn put_ids(
+    ids: &mut Vec<u64>,
+    tree: &Tree<'_, '_>,
+    children: &[Child],
+) -> Result<(), Memory>
+    requires { All (HasId (tree_view tree.now)) (map child_view children.now) }
+    ensures { OnOk result (AreIdsOf (tree_view tree.now) children.now ids.new.items) }
+{
+    ids.clear();
+    for child in children {
+        ids.push(child_id(tree, *child))?;
+    }
+    Ok(())
+}
+
 /// The ids of children.
 pub fn child_ids(alloc: Global, tree: &Tree<'_, '_>, children: &[Child]) -> Result<Vec<u64>, Memory>
     requires { All (HasId (tree_view tree.now)) (map child_view children.now) }
     ensures { IfOk result (λ ids. AreIdsOf (tree_view tree.now) children.now ids.items) }
 {
     let mut ids = Vec::with_capacity(alloc, children.len())?;
-    for child in children {
-        ids.push(child_id(tree, *child))?;
-    }
+    put_ids(&mut ids, tree, children)?;
     Ok(ids)
 }
 

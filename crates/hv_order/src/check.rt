@@ -1,6 +1,6 @@
 //! The check of a certificate, node by node and without a search.
 
-ghost use Rattle.std.specs.Prelude.{◌≡◌, ◌<◌, true, length, map, IfOk};
+ghost use Rattle.std.specs.Prelude.{◌≡◌, ◌<◌, ◌≤◌, true, length, map, IfOk, IfErr, OnOk, IfSome, MatchOption, is_none};
 ghost use Rattle.hv_world.specs.WorldViews.{world_view};
 ghost use Rattle.hv_state.specs.Plans.{plan};
 ghost use Rattle.hv_plan.specs.BuiltTrees.{tree_view};
@@ -10,11 +10,13 @@ ghost use Rattle.hv_match.specs.Candidates.{Tells};
 ghost use Rattle.hv_order.specs.Settings.{setting, HasNoPrecondition};
 ghost use Rattle.hv_order.specs.Certificates.{AreFinishes, subtask_start};
 ghost use Rattle.hv_order.specs.Certified.{Certifies, line_numbers, CountsTo};
-ghost use Rattle.hv_order.specs.inside.Checks.{HasLines, index_in, finish_in, child_at, IsLatest, AreOver, KeepsDirect, StartBehind, KeepsNode, KeepNodes, KeepAll};
+ghost use Rattle.hv_order.specs.Misfits.{IsMisfit};
+ghost use Rattle.hv_order.specs.inside.Checks.{ArePlaces, index_in, finish_in, child_at, IsLatest, AreOver, KeepsDirect, StartBehind, KeepsNode, KeepNodes, IsOutOfOrder, KeepAll, IsLate, IfLine, IsRefused};
 
-use crate::entries::{Entry, entries, has_lines, places};
+use crate::entries::{Entry, entries, other_line, places};
 use crate::memory::Memory;
 use crate::node_methods::{method_of, node_of};
+use crate::unfit::Unfit;
 use hv_certificate::Certificate;
 use hv_plan::{Child, Tree};
 use hv_state::{BitState, Trace};
@@ -170,32 +172,53 @@ fn keeps_node(
         && keeps_order(entries, finishes, children, &entry.places, order)
 }
 
-// Whether the children of all nodes do.
-fn keep_nodes(world: &World<'_>, tree: &Tree<'_, '_>, entries: &[Entry], finishes: &[u64]) -> bool
+// A node whose children do not; None where those of all nodes do.
+fn out_of_order(
+    world: &World<'_>,
+    tree: &Tree<'_, '_>,
+    entries: &[Entry],
+    finishes: &[u64],
+) -> Option<u32>
     requires tree { IsTreeIn (world_view world.now) (tree_view tree.now) }
     requires as_many { length entries.now ≡ length (tree_view tree.now).nodes }
-    ensures { Tells (KeepNodes
-        (world_view world.now) (tree_view tree.now) entries.now finishes.now) result }
+    ensures order { MatchOption result
+        (KeepNodes (world_view world.now) (tree_view tree.now) entries.now finishes.now)
+        (IsOutOfOrder (world_view world.now) (tree_view tree.now) entries.now finishes.now) }
+    ensures node { IfSome result (λ v. v < length (tree_view tree.now).nodes) }
 {
     for node in 0..tree.node_count() {
         let entry = &entries[node as usize];
         if !keeps_node(world, tree, entries, finishes, node, entry) {
-            return false;
+            return Some(node);
         }
     }
-    true
+    None
 }
 
-// Whether all nodes keep the rules, with the root's over when the plan is.
-fn keep_all(world: &World<'_>, tree: &Tree<'_, '_>, entries: &[Entry], finishes: &[u64]) -> bool
+// The place of a node that does not keep the rules, or of the root line where it is not over when the
+// plan is; None where all nodes keep them.
+fn late(
+    world: &World<'_>,
+    tree: &Tree<'_, '_>,
+    entries: &[Entry],
+    finishes: &[u64],
+    places: &[u32],
+) -> Option<u32>
     requires tree { IsTreeIn (world_view world.now) (tree_view tree.now) }
     requires as_many { length entries.now ≡ length (tree_view tree.now).nodes }
-    ensures { Tells (KeepAll (world_view world.now) (tree_view tree.now)
-        entries.now finishes.now (length (tree_view tree.now).actions)) result }
+    requires places { ArePlaces (tree_view tree.now) places.now }
+    ensures { MatchOption result
+        (KeepAll (world_view world.now) (tree_view tree.now) entries.now finishes.now
+        (length (tree_view tree.now).actions))
+        (IsLate (world_view world.now) (tree_view tree.now) entries.now finishes.now places.now
+        (length (tree_view tree.now).actions)) }
 {
     let root = Child::Node(tree.node_count() - 1);
-    finish_of(finishes, root) <= tree.actions().len() as u64
-        && keep_nodes(world, tree, entries, finishes)
+    if finish_of(finishes, root) > tree.actions().len() as u64 {
+        return Some(0);
+    }
+    let node = out_of_order(world, tree, entries, finishes)?;
+    Some(places[node as usize])
 }
 
 // Whether what a certificate says of each node is right, and all nodes keep the rules.
@@ -206,40 +229,47 @@ fn keep_rules<'s>(
     trace: &Trace<'_, '_, BitState>,
     certificate: &Certificate<'s>,
     evaluated: &mut u64,
-) -> Result<bool, Memory>
+) -> Result<(), Unfit>
     requires top { HasNoPrecondition (world_view world.now) }
     requires tree { IsTreeIn (world_view world.now) (tree_view tree.now) }
     requires trace { trace.now ≡ plan (world_view world.now) (tree_view tree.now).actions }
     requires small { length (tree_view tree.now).actions < 4294967295 }
-    requires lines { HasLines (tree_view tree.now) certificate.now }
     requires counted { evaluated.old ≡ 0 }
-    ensures certified { IfOk result
-        (Tells (Certifies (setting (tree_view tree.now) trace.now true) certificate.now)) }
-    ensures counted { IfOk result (λ is_right.
-        CountsTo (length (line_numbers (tree_view tree.now))) is_right evaluated.new) }
+    ensures certified { OnOk result
+        (Certifies (setting (tree_view tree.now) trace.now true) certificate.now) }
+    ensures refused { IfErr result
+        (IsRefused (setting (tree_view tree.now) trace.now true) certificate.now) }
+    ensures counted { OnOk result
+        (evaluated.new ≡ length (line_numbers (tree_view tree.now))) }
+    ensures within { IfErr result (IfLine
+        (λ _. evaluated.new ≤ length (line_numbers (tree_view tree.now)))) }
 {
     world.is_sound();
+    if let Some(place) = other_line(world, tree, certificate) {
+        return Err(Unfit::Line(place));
+    }
     let places = places(alloc, world, tree)?;
-    match entries(alloc, world, tree, trace, certificate, &places, evaluated)? {
-        None => Ok(false),
-        Some(entries) => {
-            let finishes = finishes(alloc, world, tree, &entries)?;
-            Ok(keep_all(world, tree, &entries, &finishes))
-        }
+    let entries = entries(alloc, world, tree, trace, certificate, &places, evaluated)?;
+    let finishes = finishes(alloc, world, tree, &entries)?;
+    match late(world, tree, &entries, &finishes, &places) {
+        None => Ok(()),
+        Some(place) => Err(Unfit::Line(place)),
     }
 }
 
 /// What the check of a certificate found.
 #[derive(Clone, Copy, Debug, PartialEq, Eq)]
 pub struct Checked {
-    /// Whether the certificate certifies the plan.
-    pub certified: bool,
+    /// A line that does not fit, by its place in the order of nodes, in which the root line stands
+    /// first. None where the certificate certifies the plan.
+    pub misfit: Option<u32>,
     /// How many preconditions of decomposition lines were evaluated.
     pub evaluated: u64,
 }
 
-/// Whether a certificate certifies a plan. Nothing is searched: each node is looked at once, and
-/// the precondition of each decomposition line is evaluated once at most, and once on a yes.
+/// Whether a certificate certifies a plan, and if not, which of its lines does not fit. Nothing is
+/// searched: each node is looked at once, and the precondition of each decomposition line is
+/// evaluated once at most, and once on a yes.
 ///
 /// # Errors
 ///
@@ -257,16 +287,22 @@ pub fn certifies<'s>(
     requires small { length (tree_view tree.now).actions < 4294967295 }
     ensures certified { IfOk result (λ found.
         Tells (Certifies (setting (tree_view tree.now) trace.now true) certificate.now)
-        found.certified) }
+        (is_none found.misfit)) }
+    ensures misfit { IfOk result (λ found. IfSome found.misfit
+        (IsMisfit (setting (tree_view tree.now) trace.now true) certificate.now)) }
     ensures evaluated { IfOk result (λ found. CountsTo
-        (length (line_numbers (tree_view tree.now))) found.certified found.evaluated) }
+        (length (line_numbers (tree_view tree.now))) (is_none found.misfit) found.evaluated) }
 {
-    world.is_sound();
     let mut evaluated = 0;
-    let certified = has_lines(world, tree, certificate)
-        && keep_rules(alloc, world, tree, trace, certificate, &mut evaluated)?;
-    Ok(Checked {
-        certified,
-        evaluated,
-    })
+    match keep_rules(alloc, world, tree, trace, certificate, &mut evaluated) {
+        Ok(()) => Ok(Checked {
+            misfit: None,
+            evaluated,
+        }),
+        Err(Unfit::Line(place)) => Ok(Checked {
+            misfit: Some(place),
+            evaluated,
+        }),
+        Err(Unfit::Memory) => Err(Memory),
+    }
 }

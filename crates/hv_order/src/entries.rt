@@ -1,6 +1,6 @@
 //! What a certificate says of each node, with numbers for ids and names, where it is right.
 
-ghost use Rattle.std.specs.Prelude.{◌≡◌, ◌+◌, ◌<◌, ◌≤◌, true, length, map, option_map, IfOk, is_some};
+ghost use Rattle.std.specs.Prelude.{◌≡◌, ◌+◌, ◌<◌, ◌≤◌, true, false, length, map, option_map, IfOk, IfErr, OnOk, MatchOption, is_some};
 ghost use Rattle.hv_world.specs.Bindings.{object_number};
 ghost use Rattle.hv_world.specs.WorldViews.{world_view};
 ghost use Rattle.hv_state.specs.Plans.{plan};
@@ -10,14 +10,15 @@ ghost use Rattle.hv_match.specs.Candidates.{Tells};
 ghost use Rattle.hv_order.specs.Settings.{setting, HoldsAt, HasNoPrecondition};
 ghost use Rattle.hv_order.specs.Certified.{line_numbers, CountsTo};
 ghost use Rattle.hv_order.specs.inside.PlanFacts.{OfMethod};
-ghost use Rattle.hv_order.specs.inside.Checks.{HasLines, ArePlaces, IsPartAt, IsEntryFor, HasEntries, AreNamed, lines_among};
+ghost use Rattle.hv_order.specs.inside.Checks.{HasLines, HasLineAt, IsOtherAt, ArePlaces, IsPartAt, IsEntryFor, AreEntries, IsWrong, IfLine, AreNamed, lines_among};
 
 use crate::lines::{child_id, number_at};
 use crate::memory::Memory;
 use crate::named::{objects_of, places_of};
 use crate::node_methods::{method_of, node_of};
+use crate::unfit::Unfit;
 use hv_certificate::{Certificate, Choice};
-use hv_match::is_candidate;
+use hv_match::{Room as TestRoom, is_candidate};
 use hv_plan::{Child, Tree};
 use hv_state::{BitState, Trace};
 use hv_world::{Binding, ObjectId, World};
@@ -32,6 +33,13 @@ pub struct Entry {
     pub at: u32,
 }
 
+/// Room that is used again for one entry after another.
+#[derive(Drop)]
+struct Room {
+    ids: Vec<u64>,
+    tested: TestRoom,
+}
+
 /// What a certificate says of a node, as it stands there. The root line has no index: its
 /// precondition, which is always true, is taken to stand before all.
 #[derive(Clone, Copy)]
@@ -40,26 +48,49 @@ pub struct Part<'a, 's> {
     pub at: u32,
 }
 
-/// Whether a certificate has a line for each decomposition line, in the order of the text.
-pub(crate) fn has_lines(
+// Whether a certificate's line for a place in the order of nodes begins with the id of the decomposition
+// line that stands there.
+fn has_line(
     _world: &World<'_>,
     tree: &Tree<'_, '_>,
     certificate: &Certificate<'_>,
+    place: u32,
 ) -> bool
-    requires { IsTreeIn (world_view _world.now) (tree_view tree.now) }
-    ensures { Tells (HasLines (tree_view tree.now) certificate.now) result }
+    requires tree { IsTreeIn (world_view _world.now) (tree_view tree.now) }
+    requires behind { 0 < place }
+    requires place { place < length (tree_view tree.now).nodes }
+    ensures yes { result ≡ true → HasLineAt (tree_view tree.now) certificate.now place }
+    ensures not { result ≡ false → IsOtherAt (tree_view tree.now) certificate.now place }
 {
-    let count = tree.node_count() as usize;
-    if certificate.lines.len() + 1 != count {
-        return false;
+    let id = child_id(tree, Child::Node(number_at(tree, place as usize)));
+    match certificate.lines.get(place as usize - 1) {
+        None => false,
+        Some(line) => line.0 == id,
     }
+}
+
+/// The first place in the order of nodes at which a certificate has not the line of a decomposition
+/// line, or a line and the plan has none; None where it has a line for each, in the order of the text.
+pub(crate) fn other_line(
+    world: &World<'_>,
+    tree: &Tree<'_, '_>,
+    certificate: &Certificate<'_>,
+) -> Option<u32>
+    requires { IsTreeIn (world_view world.now) (tree_view tree.now) }
+    ensures { MatchOption result (HasLines (tree_view tree.now) certificate.now)
+        (IsOtherAt (tree_view tree.now) certificate.now) }
+{
+    let count = tree.node_count();
     for place in 1..count {
-        let id = child_id(tree, Child::Node(number_at(tree, place)));
-        if certificate.lines[place - 1].0 != id {
-            return false;
+        if !has_line(world, tree, certificate, place) {
+            return Some(place);
         }
     }
-    true
+    if certificate.lines.len() < count as usize {
+        None
+    } else {
+        Some(count)
+    }
 }
 
 /// For each node the place at which it stands in their order.
@@ -67,14 +98,14 @@ pub(crate) fn places(
     alloc: Global,
     _world: &World<'_>,
     tree: &Tree<'_, '_>,
-) -> Result<Vec<usize>, Memory>
+) -> Result<Vec<u32>, Memory>
     requires { IsTreeIn (world_view _world.now) (tree_view tree.now) }
     ensures { IfOk result (λ v. ArePlaces (tree_view tree.now) v.items) }
 {
-    let count = tree.node_count() as usize;
-    let mut places = vec![in alloc; 0; count]?;
+    let count = tree.node_count();
+    let mut places = vec![in alloc; 0; count as usize]?;
     for place in 0..count {
-        places[number_at(tree, place) as usize] = place;
+        places[number_at(tree, place as usize) as usize] = place;
     }
     Ok(places)
 }
@@ -140,6 +171,7 @@ fn holds(
 // The entry of a node, where the objects that are said of it are known.
 fn entry_with<'s>(
     alloc: Global,
+    room: &mut Room,
     world: &World<'s>,
     tree: &Tree<'_, '_>,
     trace: &Trace<'_, '_, BitState>,
@@ -163,8 +195,9 @@ fn entry_with<'s>(
 {
     world.is_sound();
     let children = node_of(tree, node).children();
-    let places = places_of(alloc, tree, children, &said.choice.children)?;
-    if !is_candidate(alloc, world, tree, node, &places, &objects)? {
+    let Room { ids, tested } = room;
+    let places = places_of(alloc, ids, tree, children, &said.choice.children)?;
+    if !is_candidate(tested, world, tree, node, &places, &objects)? {
         return Ok(None);
     }
     if !holds(world, tree, trace, node, &objects, said.at, evaluated) {
@@ -177,10 +210,11 @@ fn entry_with<'s>(
     }))
 }
 
-/// The entry of a node; None where what is said of it is no candidate, or its precondition is not
-/// true at its index.
-pub(crate) fn entry_for<'s>(
+// The entry of a node; None where what is said of it is no candidate, or its precondition is not true at
+// its index.
+fn entry_for<'s>(
     alloc: Global,
+    room: &mut Room,
     world: &World<'s>,
     tree: &Tree<'_, '_>,
     trace: &Trace<'_, '_, BitState>,
@@ -202,21 +236,26 @@ pub(crate) fn entry_for<'s>(
 {
     match objects_of(alloc, world, &said.choice.objects)? {
         None => Ok(None),
-        Some(objects) => entry_with(alloc, world, tree, trace, node, said, objects, evaluated),
+        Some(objects) => entry_with(
+            alloc, room, world, tree, trace, node, said, objects, evaluated,
+        ),
     }
 }
 
-/// The entries of all nodes; None where what is said of one of them is not right. Counts the
-/// preconditions that are evaluated.
+/// The entries of all nodes. Counts the preconditions that are evaluated.
+///
+/// # Errors
+///
+/// The place of a node of which what is said is not right.
 pub(crate) fn entries<'s>(
     alloc: Global,
     world: &World<'s>,
     tree: &Tree<'_, '_>,
     trace: &Trace<'_, '_, BitState>,
     certificate: &Certificate<'s>,
-    places: &[usize],
+    places: &[u32],
     evaluated: &mut u64,
-) -> Result<Option<Vec<Entry>>, Memory>
+) -> Result<Vec<Entry>, Unfit>
     requires top { HasNoPrecondition (world_view world.now) }
     requires tree { IsTreeIn (world_view world.now) (tree_view tree.now) }
     requires trace { trace.now ≡ plan (world_view world.now) (tree_view tree.now).actions }
@@ -224,18 +263,27 @@ pub(crate) fn entries<'s>(
     requires lines { HasLines (tree_view tree.now) certificate.now }
     requires places { ArePlaces (tree_view tree.now) places.now }
     requires counted { evaluated.old ≡ 0 }
-    ensures entries { IfOk result (HasEntries
-        (setting (tree_view tree.now) trace.now true) certificate.now places.now) }
-    ensures counted { IfOk result
-        (λ o. CountsTo (length (line_numbers (tree_view tree.now))) (is_some o) evaluated.new) }
+    ensures entries { IfOk result (λ v. AreEntries
+        (setting (tree_view tree.now) trace.now true) certificate.now places.now v.items) }
+    ensures wrong { IfErr result (IfLine (IsWrong
+        (setting (tree_view tree.now) trace.now true) certificate.now places.now)) }
+    ensures counted { OnOk result
+        (evaluated.new ≡ length (line_numbers (tree_view tree.now))) }
+    ensures within { IfErr result (IfLine
+        (λ _. evaluated.new ≤ length (line_numbers (tree_view tree.now)))) }
 {
+    let mut room = Room {
+        ids: Vec::new(alloc),
+        tested: TestRoom::new(alloc),
+    };
     let mut entries = Vec::new(alloc);
     for node in 0..tree.node_count() {
-        let said = said_at(certificate, places[node as usize]);
-        match entry_for(alloc, world, tree, trace, node, said, evaluated)? {
+        let place = places[node as usize];
+        let said = said_at(certificate, place as usize);
+        match entry_for(alloc, &mut room, world, tree, trace, node, said, evaluated)? {
             Some(entry) => entries.push(entry)?,
-            None => return Ok(None),
+            None => return Err(Unfit::Line(place)),
         }
     }
-    Ok(Some(entries))
+    Ok(entries)
 }

@@ -9,7 +9,7 @@ ghost use Rattle.hv_plan.specs.TreeViews.{child_view};
 ghost use Rattle.hv_order.specs.inside.Writings.{HasId};
 ghost use Rattle.hv_order.specs.inside.Checks.{IsPlaceIn, ArePlacesIn, ArePlacesOf, AreToldApart, AreObjectsOf};
 
-use crate::certify::child_ids;
+use crate::certify::put_ids;
 use crate::memory::Memory;
 use hv_plan::{Child, Tree, place_in, table_of_ids};
 use hv_text::{Name, Seeded};
@@ -89,9 +89,11 @@ fn places_among(alloc: Global, own: &[u64], ids: &[u64]) -> Result<Vec<u32>, Mem
     }
 }
 
-/// The places of the children of these ids; that behind the last for an id of no child.
+/// The places of the children of these ids; that behind the last for an id of no child. A list is lent
+/// for the ids that the children have.
 pub(crate) fn places_of(
     alloc: Global,
+    own: &mut Vec<u64>,
     tree: &Tree<'_, '_>,
     children: &[Child],
     ids: &[u64],
@@ -101,8 +103,8 @@ pub(crate) fn places_of(
     ensures { IfOk result (λ v.
         ArePlacesOf (tree_view tree.now) (map child_view children.now) ids.now v.items) }
 {
-    let own = child_ids(alloc, tree, children)?;
-    let places = places_among(alloc, &own, ids)?;
+    put_ids(own, tree, children)?;
+    let places = places_among(alloc, own, ids)?;
     Ok(places)
 }
 

@@ -13,7 +13,7 @@ use crate::texts::{
     WIDE, WIDE_APART,
 };
 use crate::worlds::{plan_of, tree_of, world_of};
-use hv_match::{Candidates, Matcher, count, exceeds, is_candidate};
+use hv_match::{Candidates, Matcher, Room, count, exceeds, is_candidate};
 use hv_plan::Tree;
 use hv_world::{ObjectId, World};
 use std::alloc::Global;
@@ -76,7 +76,8 @@ fn note_next(
     }
     if has_next {
         let (children, objects) = (candidates.children(), candidates.objects());
-        if !is_candidate(alloc, world, tree, node, children, objects).ok()? {
+        let mut room = Room::new(alloc);
+        if !is_candidate(&mut room, world, tree, node, children, objects).ok()? {
             return None;
         }
         noted.push(lent(alloc, candidates)?).ok()?;

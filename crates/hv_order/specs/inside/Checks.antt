@@ -1,5 +1,5 @@
 -- What the check of a certificate works out, node by node.
-use Rattle.std.specs.Prelude.{◌≡◌, ℕ, suc, zero, ◌+◌, ◌-◌, ◌<◌, ◌≤◌, min, List, map, length, slice_get, slice_index, Option, Some, None, Contains}
+use Rattle.std.specs.Prelude.{◌≡◌, ℕ, suc, ◌+◌, ◌-◌, ◌<◌, ◌≤◌, min, List, map, length, slice_get, slice_index, Option, Some, None, Contains}
 use Rattle.std.specs.List.{AllZip}
 use Rattle.std.specs.Global.{Vec}
 use Rattle.hv_lists.specs.Lists.{Once}
@@ -13,13 +13,16 @@ use Rattle.hv_plan.specs.PlanTrees.{PlanTree, NodeIs, StandsFor, children_at}
 use Rattle.hv_match.specs.Candidates.{IsCandidateAt, method_at}
 use Rattle.hv_order.specs.Settings.{Setting, HoldsAt}
 use Rattle.hv_order.specs.Certificates.{subtask_start}
-use Rattle.hv_order.specs.Certified.{Says, line_numbers}
+use Rattle.hv_order.specs.Certified.{Says, Certifies, line_numbers}
+use Rattle.hv_order.specs.Misfits.{IsPart, IsOther, IsMisfit}
 use Rattle.hv_order.specs.inside.PlanFacts.{OfMethod, child_in}
 use Rattle.hv_order.specs.inside.Writings.{IsIdOf, IsNameIn}
 use Rattle.hv_certificate.specs.declared.certificate.Choice.{Choice}
 use Rattle.hv_certificate.specs.declared.certificate.Certificate.{Certificate}
 use Rattle.hv_order.specs.declared.entries.Entry.{Entry}
 use Rattle.hv_order.specs.declared.entries.Part.{Part}
+use Rattle.hv_order.specs.declared.unfit.Unfit.{Unfit}
+use Rattle.hv_order.specs.declared.unfit.Unfit.TheVariants as unfit
 
 -- p is the place of an id in a list that has each once; where it is not there, p is behind the list
 pub record IsPlaceIn (ids : List ℕ) (i p : ℕ) : Type 0 where
@@ -55,12 +58,7 @@ AreObjectsOf w names (Some os) = AllZip (IsNameIn w) (map object_number os.items
 abbrev pub AreNamed : World → Choice → List ObjectId → Type 0
 AreNamed w s os = AllZip (IsNameIn w) (map object_number os) s.objects.items
 
--- What a certificate says of the node at a place in the order of nodes: the root line stands first
--- and has no index
-abbrev pub IsPart : Certificate → ℕ → Choice → ℕ → Type 0
-IsPart c zero s k = (s ≡ c.root) × (k ≡ 0)
-IsPart c (suc i) s k = (id : ℕ) × (slice_get c.lines.items i ≡ Some (id, s, k))
-
+-- what a certificate says of the node at a place
 abbrev pub IsPartAt : Certificate → ℕ → Part → Type 0
 IsPartAt c k p = IsPart c k p.choice.now p.at
 
@@ -70,6 +68,14 @@ HasIdOf t v l = NodeIs t (λ n. n.id ≡ Some l.0) v
 
 abbrev pub HasLines : PlanTree → Certificate → Type 0
 HasLines t c = AllZip (HasIdOf t) (line_numbers t) c.lines.items
+
+-- so at one place behind that of the root line, or not so
+abbrev pub HasLineAt : PlanTree → Certificate → ℕ → Type 0
+HasLineAt t c place = (v : ℕ) × (l : ℕ × Choice × ℕ) × (slice_get t.order place ≡ Some v)
+    × (slice_get c.lines.items (place - 1) ≡ Some l) × HasIdOf t v l
+
+abbrev pub IsOtherAt : PlanTree → Certificate → ℕ → Type 0
+IsOtherAt t c place = (i : ℕ) × (place ≡ suc i) × IsOther t c i
 
 -- for each node the place at which it stands in their order
 pub record ArePlaces (t : PlanTree) (ps : List ℕ) : Type 0 where
@@ -115,11 +121,15 @@ pub record AreRight (q : Setting) (c : Certificate) (place : ℕ) (v : ℕ) : Ty
 abbrev pub lines_among : PlanTree → ℕ → ℕ
 lines_among t n = min n (length t.nodes - 1)
 
--- the entries of all nodes, or what is said of some node is not right
-abbrev pub HasEntries : Setting → Certificate → List ℕ → Option (Vec Entry) → Type 0
-HasEntries q c ps None =
-    ((v : ℕ) → v < length q.tree.nodes → AreRight q c (slice_index ps v) v) → ⊥
-HasEntries q c ps (Some es) = AreEntries q c ps es.items
+-- what is said of the node of this place is not right
+pub record IsWrong (q : Setting) (c : Certificate) (ps : List ℕ) (place : ℕ) : Type 0 where
+  pub node : ℕ
+  pub is_node : node < length q.tree.nodes
+  pub is_place : slice_index ps node ≡ place
+  pub choice : Choice
+  pub index : ℕ
+  pub part : IsPart c place choice index
+  pub none : (M B : List ℕ) → IsRight q node index choice M B → ⊥
 
 -- the index of a node, and the places of its children for its subtasks
 abbrev pub at_of : Option Entry → ℕ
@@ -171,7 +181,29 @@ pub record KeepsNode
 abbrev pub KeepNodes : World → PlanTree → List Entry → List ℕ → Type 0
 KeepNodes w t es fs = (v : ℕ) (e : Entry) → slice_get es v ≡ Some e → KeepsNode w t es fs v e
 
--- so do those of all nodes, and the root is over when the plan is
+-- those of this node do not
+pub record IsOutOfOrder
+    (w : World) (t : PlanTree) (es : List Entry) (fs : List ℕ) (v : ℕ)
+    : Type 0 where
+  pub entry : Entry
+  pub has_entry : slice_get es v ≡ Some entry
+  pub not : KeepsNode w t es fs v entry → ⊥
+
+-- the children of all nodes start so, and the root is over when the plan is
 pub record KeepAll (w : World) (t : PlanTree) (es : List Entry) (fs : List ℕ) (n : ℕ) : Type 0 where
   pub nodes : KeepNodes w t es fs
   pub until : slice_index fs (length t.nodes - 1) ≤ n
+
+-- those of the node of this place do not, or the root is not over
+pub data IsLate (w : World) (t : PlanTree) (es : List Entry) (fs ps : List ℕ) (n : ℕ) : ℕ → Type 0 where
+  late_child : (v : ℕ) → IsOutOfOrder w t es fs v → IsLate w t es fs ps n (slice_index ps v)
+  late_root : n < slice_index fs (length t.nodes - 1) → IsLate w t es fs ps n 0
+
+-- of the line that does not fit, where there is one
+abbrev pub IfLine : (ℕ → Type 0) → Unfit → Type 0
+IfLine Is (unfit.Line place) = Is place
+IfLine Is unfit.Memory = Unit {0}
+
+-- a certificate is none of a plan, as the line at this place does not fit
+abbrev pub IsRefused : Setting → Certificate → Unfit → Type 0
+IsRefused q c = IfLine (λ place. (Certifies q c → ⊥) × IsMisfit q c place)

@@ -15,10 +15,10 @@ use Rattle.hv_match.specs.inside.Checks.{AreAllPlaces}
 use Rattle.hv_match.specs.inside.Puzzles.{same_values, all_hold}
 use Rattle.hv_match.proofs.Checking.{none, candidate_is, all_places, same_task, constraints_hold}
 use Rattle.hv_match.proofs.check.is_candidate_by.Goals as goal
-use Rattle.hv_match.proofs.check.is_candidate_by.Goals.{then-is_once, else-is_once, then-are_of, else-are_of, then-are_values, else-are_values, then-all_do, else-all_do}
+use Rattle.hv_match.proofs.check.is_candidate_by.Goals.{then-is_once, else-is_once, then-are_of, else-are_of, then-are_values, else-are_values}
 
-pub returns : goal.returns
-returns c =
+pub returns-then-all_do : goal.returns-then-all_do
+returns-then-all_do c =
     let w = world_view c.args.world.now in
     let m = method_view c.args.method.now in
     let n = node_view c.args.node.now in
@@ -26,7 +26,7 @@ returns c =
     let M = c.args.children.now in
     let B = map object_number c.args.objects.now in
     let many : length c.children.result.now ≡ length cs = sym (length-map c.children.result.now child_view) ∙ ap length c.children.ensures ∙ sym (length-map n.children (child_task (tree_view c.args.tree.now))) in
-    let values : c.in_ok-values.values.items ≡ B = c.in_ok-values.ensures in
+    let values : c.in_ok-values.values.now ≡ B = c.in_ok-values.ensures in
     let all : (c.in_ok-is_once.is_once ≡ true → AreAllPlaces (length cs) M) × (AreAllPlaces (length cs) M → c.in_ok-is_once.is_once ≡ true) =
     subst (λ (k : ℕ). (c.in_ok-is_once.is_once ≡ true → AreAllPlaces k M) × (AreAllPlaces k M → c.in_ok-is_once.is_once ≡ true)) many c.in_ok-is_once.ensures in
     let one : (c.if-is_once.value ≡ true → (c.in_ok-is_once.is_once ≡ true) × AreOf w.typing B m.parameters) × (c.in_ok-is_once.is_once ≡ true → AreOf w.typing B m.parameters → c.if-is_once.value ≡ true) = elim c.if-is_once.branch [
@@ -34,25 +34,56 @@ returns c =
       | else-is_once s ↦ (λ e. absurd (none (sym s.value-is ∙ e) s.if-is_once.false), λ o a. absurd (none o s.if-is_once.false))
     ] in
     let two : (c.if-are_of.value ≡ true → (c.if-is_once.value ≡ true) × (same_values B (terms_of m.task) n.objects ≡ true)) × (c.if-is_once.value ≡ true → same_values B (terms_of m.task) n.objects ≡ true → c.if-are_of.value ≡ true) = elim c.if-are_of.branch [
-      | then-are_of s ↦ let is : s.are_values.result ≡ same_values B (terms_of m.task) n.objects = rw (s.deref.ensures.value, values, s.terms.ensures, s.objects.ensures) at s.are_values.ensures in (λ e. (s.if-are_of.true, sym is ∙ sym s.value-is ∙ e), λ o a. s.value-is ∙ is ∙ a)
+      | then-are_of s ↦ let is : s.are_values.result ≡ same_values B (terms_of m.task) n.objects = rw (values, s.terms.ensures, s.objects.ensures) at s.are_values.ensures in (λ e. (s.if-are_of.true, sym is ∙ sym s.value-is ∙ e), λ o a. s.value-is ∙ is ∙ a)
       | else-are_of s ↦ (λ e. absurd (none (sym s.value-is ∙ e) s.if-are_of.false), λ o a. absurd (none o s.if-are_of.false))
     ] in
     let three : (c.if-are_values.value ≡ true → (c.if-are_of.value ≡ true) × AllZip (Does cs B) M m.network.subtasks) × (c.if-are_of.value ≡ true → AllZip (Does cs B) M m.network.subtasks → c.if-are_values.value ≡ true) = elim c.if-are_values.branch [
       | then-are_values s ↦
           let works : map (child_task (tree_view c.args.tree.now)) (map child_view s.children-then-are_values.result.now) ≡ cs = ap (map (child_task (tree_view c.args.tree.now))) s.children-then-are_values.ensures in
           let ss : map subtask_view s.subtasks.result.now ≡ m.network.subtasks = s.subtasks.ensures ∙ ap (λ (z : Network). z.subtasks) c.network-network.ensures in
-          let here = rw (works, s.deref-then-are_values.ensures.value, values) at s.all_do.ensures in
+          let here = rw (works, values) at s.all_do.ensures in
           let is : (s.all_do.result ≡ true → AllZip (Does cs B) M m.network.subtasks) × (AllZip (Does cs B) M m.network.subtasks → s.all_do.result ≡ true) =
           subst (λ (l : List Subtask). (s.all_do.result ≡ true → AllZip (Does cs B) M l) × (AllZip (Does cs B) M l → s.all_do.result ≡ true)) ss here in
           (λ e. (s.if-are_values.true, is.0 (sym s.value-is ∙ e)), λ o a. s.value-is ∙ is.1 a)
       | else-are_values s ↦ (λ e. absurd (none (sym s.value-is ∙ e) s.if-are_values.false), λ o a. absurd (none o s.if-are_values.false))
     ] in
-    let four : (c.if-all_do.result ≡ true → (c.if-are_values.value ≡ true) × (all_hold B m.network.constraints ≡ true)) × (c.if-are_values.value ≡ true → all_hold B m.network.constraints ≡ true → c.if-all_do.result ≡ true) = elim c.if-all_do.branch [
-      | then-all_do s ↦ let ks : map constraint_view s.constraints.result.now ≡ m.network.constraints = s.constraints.ensures ∙ ap (λ (z : Network). z.constraints) c.network-network.ensures in
-          let here = rw (s.deref-then-all_do.ensures.value, values) at s.all_hold.ensures in
-          let is : s.all_hold.result ≡ all_hold B m.network.constraints = subst (λ (l : List Constraint). s.all_hold.result ≡ all_hold B l) ks here in (λ e. (s.if-all_do.true, sym is ∙ sym s.result-is ∙ e), λ o a. s.result-is ∙ is ∙ a)
-      | else-all_do s ↦ (λ e. absurd (none (sym s.result-is ∙ e) s.if-all_do.false), λ o a. absurd (none o s.if-all_do.false))
+    let ks : map constraint_view c.constraints.result.now ≡ m.network.constraints = c.constraints.ensures ∙ ap (λ (z : Network). z.constraints) c.network-network.ensures in
+    let here = rw values at c.all_hold.ensures in
+    let is : c.all_hold.result ≡ all_hold B m.network.constraints = subst (λ (l : List Constraint). c.all_hold.result ≡ all_hold B l) ks here in (
+      λ e. (let r = three.0 c.if-all_do.true in let b = two.0 r.0 in let a = one.0 b.0 in candidate_is w m n.objects cs M B (all.0 a.0) a.1 b.1 r.1 (sym is ∙ e)),
+      λ k. is ∙ constraints_hold w m n.objects cs M B k,
+    )
+
+pub returns-else-all_do : goal.returns-else-all_do
+returns-else-all_do c =
+    let w = world_view c.args.world.now in
+    let m = method_view c.args.method.now in
+    let n = node_view c.args.node.now in
+    let cs = child_tasks (tree_view c.args.tree.now) n in
+    let M = c.args.children.now in
+    let B = map object_number c.args.objects.now in
+    let many : length c.children.result.now ≡ length cs = sym (length-map c.children.result.now child_view) ∙ ap length c.children.ensures ∙ sym (length-map n.children (child_task (tree_view c.args.tree.now))) in
+    let values : c.in_ok-values.values.now ≡ B = c.in_ok-values.ensures in
+    let all : (c.in_ok-is_once.is_once ≡ true → AreAllPlaces (length cs) M) × (AreAllPlaces (length cs) M → c.in_ok-is_once.is_once ≡ true) =
+    subst (λ (k : ℕ). (c.in_ok-is_once.is_once ≡ true → AreAllPlaces k M) × (AreAllPlaces k M → c.in_ok-is_once.is_once ≡ true)) many c.in_ok-is_once.ensures in
+    let one : (c.if-is_once.value ≡ true → (c.in_ok-is_once.is_once ≡ true) × AreOf w.typing B m.parameters) × (c.in_ok-is_once.is_once ≡ true → AreOf w.typing B m.parameters → c.if-is_once.value ≡ true) = elim c.if-is_once.branch [
+      | then-is_once s ↦ (λ e. (s.if-is_once.true, rw s.parameters.ensures at (s.are_of.ensures.0 (sym s.value-is ∙ e))), λ o a. s.value-is ∙ s.are_of.ensures.1 (rw s.parameters.ensures a))
+      | else-is_once s ↦ (λ e. absurd (none (sym s.value-is ∙ e) s.if-is_once.false), λ o a. absurd (none o s.if-is_once.false))
+    ] in
+    let two : (c.if-are_of.value ≡ true → (c.if-is_once.value ≡ true) × (same_values B (terms_of m.task) n.objects ≡ true)) × (c.if-is_once.value ≡ true → same_values B (terms_of m.task) n.objects ≡ true → c.if-are_of.value ≡ true) = elim c.if-are_of.branch [
+      | then-are_of s ↦ let is : s.are_values.result ≡ same_values B (terms_of m.task) n.objects = rw (values, s.terms.ensures, s.objects.ensures) at s.are_values.ensures in (λ e. (s.if-are_of.true, sym is ∙ sym s.value-is ∙ e), λ o a. s.value-is ∙ is ∙ a)
+      | else-are_of s ↦ (λ e. absurd (none (sym s.value-is ∙ e) s.if-are_of.false), λ o a. absurd (none o s.if-are_of.false))
+    ] in
+    let three : (c.if-are_values.value ≡ true → (c.if-are_of.value ≡ true) × AllZip (Does cs B) M m.network.subtasks) × (c.if-are_of.value ≡ true → AllZip (Does cs B) M m.network.subtasks → c.if-are_values.value ≡ true) = elim c.if-are_values.branch [
+      | then-are_values s ↦
+          let works : map (child_task (tree_view c.args.tree.now)) (map child_view s.children-then-are_values.result.now) ≡ cs = ap (map (child_task (tree_view c.args.tree.now))) s.children-then-are_values.ensures in
+          let ss : map subtask_view s.subtasks.result.now ≡ m.network.subtasks = s.subtasks.ensures ∙ ap (λ (z : Network). z.subtasks) c.network-network.ensures in
+          let here = rw (works, values) at s.all_do.ensures in
+          let is : (s.all_do.result ≡ true → AllZip (Does cs B) M m.network.subtasks) × (AllZip (Does cs B) M m.network.subtasks → s.all_do.result ≡ true) =
+          subst (λ (l : List Subtask). (s.all_do.result ≡ true → AllZip (Does cs B) M l) × (AllZip (Does cs B) M l → s.all_do.result ≡ true)) ss here in
+          (λ e. (s.if-are_values.true, is.0 (sym s.value-is ∙ e)), λ o a. s.value-is ∙ is.1 a)
+      | else-are_values s ↦ (λ e. absurd (none (sym s.value-is ∙ e) s.if-are_values.false), λ o a. absurd (none o s.if-are_values.false))
     ] in (
-      λ e. (let d = four.0 e in let r = three.0 d.0 in let b = two.0 r.0 in let a = one.0 b.0 in candidate_is w m n.objects cs M B (all.0 a.0) a.1 b.1 r.1 d.1),
-      λ k. four.1 (three.1 (two.1 (one.1 (all.1 (all_places w m n.objects cs M B k)) k.typed) (same_task w m n.objects cs M B k)) k.done) (constraints_hold w m n.objects cs M B k),
+      λ e. absurd (none e c.if-all_do.false),
+      λ k. three.1 (two.1 (one.1 (all.1 (all_places w m n.objects cs M B k)) k.typed) (same_task w m n.objects cs M B k)) k.done,
     )

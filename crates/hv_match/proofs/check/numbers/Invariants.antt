@@ -3,4 +3,4 @@ use Rattle.hv_world.specs.Bindings.{object_number}
 use Rattle.hv_match.proofs.check.numbers.Given as goal
 
 abbrev pub invariant-loop-object : goal.invariant-loop-object
-invariant-loop-object l = l.numbers.items ≡ map object_number (take l.object-index l.objects)
+invariant-loop-object l = l.room.items ≡ map object_number (take l.object-index l.objects)

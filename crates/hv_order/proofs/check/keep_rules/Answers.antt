@@ -1,44 +1,68 @@
-use Rattle.std.proofs.Common.{ℕ, true, List, length, sym, ap, subst}
-use Rattle.std.specs.Prelude.{is_some}
+use Rattle.std.proofs.Common.{ℕ, true, List, length, sym, subst}
+use Rattle.std.proofs.lemmas.Result.{err_from_is_err_and}
 use Rattle.hv_world.specs.WorldViews.{world_view}
 use Rattle.hv_plan.specs.BuiltTrees.{tree_view}
 use Rattle.hv_plan.specs.PlanTrees.{tree_of}
-use Rattle.hv_match.specs.Candidates.{Tells}
 use Rattle.hv_order.specs.Certificates.{AreFinishes}
-use Rattle.hv_order.specs.inside.Checks.{ArePlaces, KeepAll, index_in, finish_in}
+use Rattle.hv_order.specs.Settings.{setting}
+use Rattle.hv_order.specs.inside.Checks.{ArePlaces, AreEntries, KeepAll, IsLate, index_in, finish_in}
 use Rattle.hv_order.specs.declared.entries.Entry.{Entry}
-use Rattle.hv_order.proofs.Checked.{no_entries, some_entries, by_rules}
-use Rattle.hv_order.proofs.Counting.{in_part, in_full}
+use Rattle.hv_order.proofs.Misfitting.{other_refused, wrong_refused_as, late_refused, certified_by, late_in, keep_in}
 use Rattle.hv_order.proofs.PlanWalks.{is_setting}
 use Rattle.hv_order.proofs.check.keep_rules.Goals as goal
+
+pub returns-in-Some-clause-refused : goal.returns-in-Some-clause-refused
+returns-in-Some-clause-refused c =
+    let w = world_view c.args.world.now in
+    let t = tree_view c.args.tree.now in
+    let p = c.args.trace.now in
+    other_refused (setting t p true) (is_setting w t p true c.requires.trace c.requires.tree c.is_sound.ensures c.requires.top c.requires.small) c.args.certificate.now c.in-Some.place c.in-Some.ensures
+
+pub returns-in_err-entries-clause-refused : goal.returns-in_err-entries-clause-refused
+returns-in_err-entries-clause-refused c =
+    let w = world_view c.args.world.now in
+    let t = tree_view c.args.tree.now in
+    let p = c.args.trace.now in
+    let P : List ℕ → Type 0 = λ ps. ArePlaces t ps in
+    let e = err_from_is_err_and c.from_residual-in_err-entries.result c.from_residual-in_err-entries.ensures.1 in
+    rw (e.1, e.2)
+    (wrong_refused_as (setting t p true) (is_setting w t p true c.requires.trace c.requires.tree c.is_sound.ensures c.requires.top c.requires.small) c.args.certificate.now
+    c.deref.result.now (subst P (sym c.deref.ensures.value) c.in_ok-places.ensures) c.in_err-entries.field-0.0 c.in_err-entries.ensures.wrong)
 
 pub returns-in-None-clause-certified : goal.returns-in-None-clause-certified
 returns-in-None-clause-certified c =
     let w = world_view c.args.world.now in
     let t = tree_view c.args.tree.now in
     let p = c.args.trace.now in
-    no_entries w t p c.requires.trace (is_setting w t p true c.requires.trace c.requires.tree c.is_sound.ensures c.requires.top c.requires.small) c.args.certificate.now
-    c.deref.result.now c.in_ok-entries.field-0 (let P : List ℕ → Type 0 = λ ps. ArePlaces t ps in subst P (sym c.deref.ensures.value) c.in_ok-places.ensures)
-    c.in_ok-entries.ensures.entries c.in-None.is
+    let cert = c.args.certificate.now in
+    let q = setting t p true in
+    let P : List ℕ → Type 0 = λ ps. ArePlaces t ps in
+    let E : List ℕ → Type 0 = λ ps. AreEntries q cert ps c.in_ok-entries.entries.items in
+    let F : List Entry → Type 0 = λ es. AreFinishes (tree_of t) (index_in es) (finish_in c.in_ok-finishes.finishes.items) in
+    let K : List Entry → Type 0 = λ es. KeepAll w t es c.deref-4.result.now (length t.actions) in
+    let L : List ℕ → Type 0 = λ fs. KeepAll w t c.in_ok-entries.entries.items fs (length t.actions) in
+    certified_by q (is_setting w t p true c.requires.trace c.requires.tree c.is_sound.ensures c.requires.top c.requires.small) cert
+    c.in_ok-places.places.items c.in_ok-places.ensures c.in_ok-entries.entries.items c.in_ok-finishes.finishes.items
+    (subst E c.deref.ensures.value c.in_ok-entries.ensures.entries) (subst F c.deref-2.ensures.value c.in_ok-finishes.ensures)
+    c.in_default.ensures
+    (keep_in w t p c.requires.trace c.in_ok-entries.entries.items c.in_ok-finishes.finishes.items
+    (subst L c.deref-4.ensures.value (subst K c.deref-3.ensures.value c.in-None.ensures)))
 
-pub returns-clause-certified : goal.returns-clause-certified
-returns-clause-certified c =
+pub returns-clause-refused : goal.returns-clause-refused
+returns-clause-refused c =
     let w = world_view c.args.world.now in
     let t = tree_view c.args.tree.now in
     let p = c.args.trace.now in
-    let is = is_setting w t p true c.requires.trace c.requires.tree c.is_sound.ensures c.requires.top c.requires.small in
-    let P : List ℕ → Type 0 = λ ps. ArePlaces t ps in
-    let F : List Entry → Type 0 = λ es. AreFinishes (tree_of t) (index_in es) (finish_in c.in_ok-finishes-in-Some.finishes.items) in
-    let K : List Entry → Type 0 = λ es. Tells (KeepAll w t es c.deref-in-Some-3.result.now (length t.actions)) c.keep_all.result in
-    let L : List ℕ → Type 0 = λ fs. Tells (KeepAll w t c.in-Some.entries.items fs (length t.actions)) c.keep_all.result in
-    by_rules w t p c.requires.trace is c.args.certificate.now c.deref.result.now c.in-Some.entries.items c.in_ok-finishes-in-Some.finishes.items c.keep_all.result
-    c.requires.lines (subst P (sym c.deref.ensures.value) c.in_ok-places.ensures)
-    (some_entries w t p c.requires.trace is c.args.certificate.now c.deref.result.now c.in_ok-entries.field-0 c.in-Some.entries c.in_ok-entries.ensures.entries c.in-Some.is)
-    (subst F c.deref-in-Some.ensures.value c.in_ok-finishes-in-Some.ensures)
-    (subst L c.deref-in-Some-3.ensures.value (subst K c.deref-in-Some-2.ensures.value c.keep_all.ensures))
-
-pub returns-in-None-clause-counted : goal.returns-in-None-clause-counted
-returns-in-None-clause-counted c = in_part _ _ c.in_ok-entries.ensures.counted.within
-
-pub returns-clause-counted : goal.returns-clause-counted
-returns-clause-counted c = in_full _ _ c.keep_all.result (c.in_ok-entries.ensures.counted.whole (ap is_some c.in-Some.is))
+    let cert = c.args.certificate.now in
+    let q = setting t p true in
+    let place = c.in-Some-late.place in
+    let E : List ℕ → Type 0 = λ ps. AreEntries q cert ps c.in_ok-entries.entries.items in
+    let F : List Entry → Type 0 = λ es. AreFinishes (tree_of t) (index_in es) (finish_in c.in_ok-finishes.finishes.items) in
+    let K : List Entry → Type 0 = λ es. IsLate w t es c.deref-4.result.now c.deref-5.result.now (length t.actions) place in
+    let L : List ℕ → Type 0 = λ fs. IsLate w t c.in_ok-entries.entries.items fs c.deref-5.result.now (length t.actions) place in
+    let M : List ℕ → Type 0 = λ ps. IsLate w t c.in_ok-entries.entries.items c.in_ok-finishes.finishes.items ps (length t.actions) place in
+    late_refused q (is_setting w t p true c.requires.trace c.requires.tree c.is_sound.ensures c.requires.top c.requires.small) cert
+    c.in_ok-places.places.items c.in_ok-places.ensures c.in_ok-entries.entries.items c.in_ok-finishes.finishes.items
+    (subst E c.deref.ensures.value c.in_ok-entries.ensures.entries) (subst F c.deref-2.ensures.value c.in_ok-finishes.ensures) place
+    (late_in w t p c.requires.trace c.in_ok-entries.entries.items c.in_ok-finishes.finishes.items c.in_ok-places.places.items place
+    (subst M c.deref-5.ensures.value (subst L c.deref-4.ensures.value (subst K c.deref-3.ensures.value c.in-Some-late.ensures))))

@@ -1,10 +1,9 @@
-use Rattle.std.proofs.Common.{true, ap, ◌∙◌, arith}
-use Rattle.std.specs.Prelude.{is_some}
+use Rattle.std.proofs.Common.{ap, arith, refl, true}
+use Rattle.std.specs.Prelude.{is_some, slice_index}
 use Rattle.hv_world.specs.WorldViews.{world_view}
 use Rattle.hv_plan.specs.BuiltTrees.{tree_view}
 use Rattle.hv_order.specs.Settings.{setting}
-use Rattle.hv_order.proofs.Counting.{before, of_all, at_end, in_full}
-use Rattle.hv_order.proofs.EntryRights.{place_there, entry_more}
+use Rattle.hv_order.proofs.EntryRights.{place_there, entry_more, wrong_entry}
 use Rattle.hv_order.proofs.entries.entries.Goals as goal
 
 pub said_at-said-requires : goal.said_at-said-requires
@@ -12,10 +11,10 @@ said_at-said-requires c =
     place_there (world_view c.args.world.now) (tree_view c.args.tree.now) c.requires.tree c.args.certificate.now c.args.places.now c.loop-node.node c.requires.lines c.requires.places
     (omega (arith, c.loop-node-test.true, c.node_count-node-end.ensures))
 
-pub entry_for-requires-clause-counted : goal.entry_for-requires-clause-counted
-entry_for-requires-clause-counted c =
-    c.loop-node.invariant.2
-    ∙ before (tree_view c.args.tree.now) c.loop-node.node (omega (arith, c.loop-node-test.true, c.node_count-node-end.ensures))
+pub returns-in-None-clause-wrong : goal.returns-in-None-clause-wrong
+returns-in-None-clause-wrong c =
+    wrong_entry (setting (tree_view c.args.tree.now) c.args.trace.now true) c.args.certificate.now c.args.places.now c.loop-node.node c.said_at-said.result.at (slice_index c.args.places.now c.loop-node.node)
+    c.said_at-said.result.choice.now c.in_ok-entry.field-0 (omega (arith, c.loop-node-test.true, c.node_count-node-end.ensures)) refl c.said_at-said.ensures c.in_ok-entry.ensures.entry c.in-None.is
 
 pub loop-node-preserved : goal.loop-node-preserved
 loop-node-preserved c =
@@ -23,13 +22,3 @@ loop-node-preserved c =
     (let more = entry_more (setting (tree_view c.args.tree.now) c.args.trace.now true) c.args.certificate.now c.args.places.now c.loop-node.entries.items c.loop-node.node c.said_at-said.result.at
     c.said_at-said.result.choice.now c.in_ok-entry.field-0 c.in-Some.entry c.said_at-said.ensures c.in_ok-entry.ensures.entry c.in-Some.is (c.loop-node.invariant.0, c.loop-node.invariant.1) in
     (more.0, more.1, c.in_ok-entry.ensures.counted.whole (ap is_some c.in-Some.is)))
-
-pub returns-in-None-clause-counted : goal.returns-in-None-clause-counted
-returns-in-None-clause-counted c =
-    of_all (world_view c.args.world.now) (tree_view c.args.tree.now) c.requires.tree _ _ c.in_ok-entry.ensures.counted.within
-
-pub returns-clause-counted : goal.returns-clause-counted
-returns-clause-counted c =
-    in_full _ _ true
-    (at_end (world_view c.args.world.now) (tree_view c.args.tree.now) c.requires.tree c.loop-node.node c.loop-node.evaluated
-    (omega (arith, c.loop-node-test.false, c.loop-node.auto.node-end, c.node_count-node-end.ensures)) c.loop-node.invariant.2)

@@ -7,5 +7,5 @@ use Rattle.hv_order.proofs.named.places_of.Goals as goal
 
 pub returns : goal.returns
 returns c =
-    are_places (tree_view c.args.tree.now) (map child_view c.args.children.now) c.in_ok-own.own.items c.args.ids.now c.in_ok-places.places.items c.in_ok-own.ensures
+    are_places (tree_view c.args.tree.now) (map child_view c.args.children.now) c.put_ids.new.ids.items c.args.ids.now c.in_ok-places.places.items c.in_ok-put_ids.ensures
     (subst (λ (is : List ℕ). ArePlacesIn is c.args.ids.now c.in_ok-places.places.items) c.deref.ensures.value c.in_ok-places.ensures)

@@ -3,7 +3,7 @@ use Rattle.hv_world.specs.WorldViews.{world_view}
 use Rattle.hv_plan.specs.BuiltTrees.{tree_view}
 use Rattle.hv_order.specs.inside.Checks.{KeepsNode}
 use Rattle.hv_order.specs.declared.entries.Entry.{Entry}
-use Rattle.hv_order.proofs.check.keep_nodes.Given as goal
+use Rattle.hv_order.proofs.check.out_of_order.Given as goal
 
 abbrev pub invariant-loop-node : goal.invariant-loop-node
 invariant-loop-node l =

@@ -3,7 +3,7 @@ use Rattle.hv_plan.specs.TreeViews.{child_view}
 use Rattle.hv_plan.specs.declared.tree.Child.TheVariants as children
 use Rattle.hv_order.specs.inside.Writings.{HasId, IsIdOf}
 use Rattle.hv_order.proofs.Writing.{all_at, zip_more}
-use Rattle.hv_order.proofs.certify.child_ids.Goals as goal
+use Rattle.hv_order.proofs.certify.put_ids.Goals as goal
 
 pub child_id-requires : goal.child_id-requires
 child_id-requires c =
