@@ -14,7 +14,7 @@ ghost use Rattle.hv_command.specs.Line.{file_arguments};
 
 use end::{End, status, write_end};
 use hv_command::{Job, JobFault, Mode, job};
-use hv_judge::{Kind, RecheckKind, RunFault, Which, run, run_print, run_recheck};
+use hv_judge::{Kind, RecheckKind, RunFault, Which, run, run_examine, run_print};
 use hv_text::{FromReader, ToWriter};
 use std::alloc::Global;
 use std::fs::{self, File};
@@ -122,6 +122,7 @@ fn judge_files<'a>(rt: &HostRuntime, job: &'a Job) -> End<'a>
 fn recheck_open(
     rt: &HostRuntime,
     files: (File, File, File, File),
+    misfit: bool,
 ) -> Result<RecheckKind, RunFault> {
     let (domain, problem, plan, certificate) = files;
     let mut domain = FromReader::new(domain);
@@ -129,12 +130,13 @@ fn recheck_open(
     let mut plan = FromReader::new(plan);
     let mut certificate = FromReader::new(certificate);
     let mut out = ToWriter::new(io::writer(rt));
-    run_recheck(
+    run_examine(
         rt.alloc(),
         &mut domain,
         &mut problem,
         &mut plan,
         &mut certificate,
+        misfit,
         &mut out,
     )
 }
@@ -155,7 +157,7 @@ fn recheck_files<'a>(rt: &HostRuntime, job: &'a Job) -> End<'a>
         Ok(files) => files,
         Err(name) => return End::CannotRead(name),
     };
-    match recheck_open(rt, files) {
+    match recheck_open(rt, files, job.misfit) {
         Ok(kind) => End::Rechecked(kind),
         Err(RunFault::Read(Which::Domain)) => End::CannotRead(domain.as_str()),
         Err(RunFault::Read(Which::Problem)) => End::CannotRead(problem.as_str()),

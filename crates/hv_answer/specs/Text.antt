@@ -36,6 +36,11 @@ fault_text w f =
     ∷ codes " " ∷ fault_name f.kind ∷ [])
     ++ place_text f.place
 
+-- that a plan does not solve its problem by a certificate, and on which line of it this is seen
+abbrev pub refusal_text : Option ℕ → List ℕ
+refusal_text None = codes "not certified\n"
+refusal_text (Some line) = joined (codes "not certified line " ∷ decimal line ∷ codes "\n" ∷ [])
+
 -- the line of a verdict, without its end
 abbrev pub verdict_words : Verdict → List ℕ
 verdict_words Solves = codes "solves"

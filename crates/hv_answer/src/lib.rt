@@ -6,4 +6,4 @@ mod answer;
 mod write;
 
 pub use answer::{Answer, Cause, CauseKind, Fault, FaultKind, Kind, Place, Verdict, Which};
-pub use write::{write_answer, write_verdict};
+pub use write::{write_answer, write_refusal, write_verdict};

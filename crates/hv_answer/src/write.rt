@@ -7,7 +7,7 @@ ghost use Rattle.hv_text.specs.Names.{text_of};
 ghost use Rattle.hv_text.specs.Io.{AppendsBeginning};
 ghost use Rattle.hv_certificate.specs.Texts.{ids_text, names_text, children_text, objects_text, choice_text, root_text, node_text, nodes_text, certificate_text};
 ghost use Rattle.hv_answer.specs.Kinds.{verdict_of};
-ghost use Rattle.hv_answer.specs.Text.{line_text, place_text, cause_text, fault_text, verdict_words, verdict_text, explanation, answer_text};
+ghost use Rattle.hv_answer.specs.Text.{line_text, place_text, cause_text, fault_text, refusal_text, verdict_words, verdict_text, explanation, answer_text};
 
 use crate::answer::{Answer, Cause, Fault, Place, Verdict, Which};
 use hv_certificate::{Certificate, Choice};
@@ -294,6 +294,24 @@ pub fn write_verdict<W: Sink>(verdict: Verdict, out: &mut W) -> Result<(), Write
 {
     write_words(out, verdict)?;
     write_all(out, b"\n")
+}
+
+/// Writes that a plan does not solve its problem by a certificate, and where a line of the certificate's
+/// text is given, that this one does not fit. Where a write fails, a beginning of that text was
+/// written. No memory is taken.
+pub fn write_refusal<W: Sink>(line: Option<u64>, out: &mut W) -> Result<(), WriteFault>
+    requires { W.failures out.old < 2 ^ 64 - 1 }
+    ensures ok { OnOk result (Appends (W.taken out.old) (W.taken out.new) (refusal_text line)) }
+    ensures err { OnErr result (AppendsBeginning (W.taken out.old) (W.taken out.new)
+        (refusal_text line)) }
+    ensures failures { W.failures out.new ≡ W.failures out.old + (if is_ok result then 0 else 1) }
+{
+    let Some(line) = line else {
+        return write_all(out, b"not certified\n");
+    };
+    let mut number = Buffer::new();
+    let number = number.format(line).as_bytes();
+    write_parts(out, &[b"not certified line ", number, b"\n"])
 }
 
 fn write_explanation<W: Sink>(out: &mut W, answer: &Answer<'_>) -> Result<(), WriteFault>

@@ -29,6 +29,10 @@ limit_rule = record (new_rule (codes "limit")) { long = Some (codes "limit"); de
 abbrev pub explain_rule : Rule
 explain_rule = record (new_rule (codes "explain")) { long = Some (codes "explain"); action = Some SetTrue }
 
+-- `--misfit`
+abbrev pub misfit_rule : Rule
+misfit_rule = record (new_rule (codes "misfit")) { long = Some (codes "misfit"); action = Some SetTrue }
+
 -- a command, given the files of a domain, a problem and a plan
 abbrev pub with_plan_rules : App → App
 with_plan_rules app = with_rule (with_rule (with_rule app (file_rule (codes "domain"))) (file_rule (codes "problem"))) (file_rule (codes "plan"))
@@ -37,9 +41,9 @@ with_plan_rules app = with_rule (with_rule (with_rule app (file_rule (codes "dom
 abbrev pub judge_line : App
 judge_line = with_plan_rules (with_rule (with_rule (new_app (command_of Judge)) limit_rule) explain_rule)
 
--- `recheck DOMAIN PROBLEM PLAN CERTIFICATE`
+-- `recheck [--misfit] DOMAIN PROBLEM PLAN CERTIFICATE`
 abbrev pub recheck_line : App
-recheck_line = with_rule (with_plan_rules (new_app (command_of Recheck))) (file_rule (codes "certificate"))
+recheck_line = with_rule (with_plan_rules (with_rule (new_app (command_of Recheck)) misfit_rule)) (file_rule (codes "certificate"))
 
 -- `print-domain FILE` and its like
 abbrev pub print_line : Text → App
@@ -66,10 +70,15 @@ file_arguments _ = codes "file" ∷ []
 abbrev pub HasFiles : List Text → List Row → Job → Type 0
 HasFiles ids rows job = map (λ file. Some (string_bytes file)) job.files.items ≡ map (λ id. first_of id rows) ids
 
--- the limit and the flag of the job are those of the matches where a plan is judged, and else those of a command that gives neither
+-- whether a flag of this name is given
+abbrev pub IsGiven : Text → List Row → Type 0
+IsGiven id rows = first_of id rows ≡ Some (codes "true")
+
+-- the limit and the flags of the job are those of the matches where the command has them, and else those of a command that gives none
 abbrev pub HasOptions : Mode → List Row → Job → Type 0
-HasOptions Judge rows job = HasLimit rows job.limit × ((job.explain ≡ true) ↔ (first_of (codes "explain") rows ≡ Some (codes "true")))
-HasOptions _ rows job = (job.limit ≡ 1000000) × (job.explain ≡ false)
+HasOptions Judge rows job = HasLimit rows job.limit × ((job.explain ≡ true) ↔ IsGiven (codes "explain") rows) × (job.misfit ≡ false)
+HasOptions Recheck rows job = (job.limit ≡ 1000000) × (job.explain ≡ false) × ((job.misfit ≡ true) ↔ IsGiven (codes "misfit") rows)
+HasOptions _ rows job = (job.limit ≡ 1000000) × (job.explain ≡ false) × (job.misfit ≡ false)
 
 -- the job that a subcommand and its matches name
 abbrev pub IsJobOf : Option (Text × List Row) → Job → Type 0

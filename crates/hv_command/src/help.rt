@@ -39,20 +39,26 @@ pub const RECHECK: &str = "Check the certificate of a plan, without search";
 pub const RECHECK_END: &str =
     "Writes one line, of which these are the forms, each with its exit status:\n  \
     certified                        0  by this certificate the plan solves the problem\n  \
-    not certified                    1  by this certificate it does not\n  \
+    not certified [line L]           1  by this certificate it does not\n  \
     rejected TEXT NUMBER NAME PLACE  3  this text is not written as it should be\n\n\
     The certificate is what judge --explain writes of a plan that solves its problem, with\n\
     its first line. It says how each line of the plan is matched with its method, so that\n\
     nothing is searched for and there is no limit.\n\n\
-    Example:\n  \
+    With --misfit the line of the certificate is said that does not fit the plan, where\n\
+    the fault is not the plan's own.\n\n\
+    Examples:\n  \
     hddlv judge --explain domain.hddl problem.hddl plan.txt > certificate.txt\n  \
-    hddlv recheck domain.hddl problem.hddl plan.txt certificate.txt";
+    hddlv recheck domain.hddl problem.hddl plan.txt certificate.txt\n  \
+    hddlv recheck --misfit domain.hddl problem.hddl plan.txt certificate.txt";
 
 /// What `--limit` is.
 pub const LIMIT: &str = "The most ways to match a line of the plan with its method";
 
 /// What `--explain` does.
 pub const EXPLAIN: &str = "Write the certificate of a plan that solves its problem";
+
+/// What `--misfit` does.
+pub const MISFIT: &str = "Say which line of the certificate does not fit the plan";
 
 /// What the command `print-domain` does.
 pub const PRINT_DOMAIN: &str = "Print a domain in its canonical form";

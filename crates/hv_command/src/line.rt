@@ -3,7 +3,7 @@
 ghost use Rattle.std.specs.Prelude.{◌≡◌, ◌↔◌, ◌∷◌, [], codes, map, IfOk, IfSome, Some, true, false, string_bytes};
 ghost use Rattle.clap.specs.Words.{app_of, subcommand_of, rule_of, rows_of, found_of, first_of, with_rule, with_subcommand};
 ghost use Rattle.clap.specs.declared.builder.command.Command.TheViews.{out-Command};
-ghost use Rattle.hv_command.specs.Line.{line, judge_line, recheck_line, print_line, limit_rule, explain_rule, file_rule, with_plan_rules, command_of, file_arguments, HasFiles, HasLimit, HasOptions, IsJobOf};
+ghost use Rattle.hv_command.specs.Line.{line, judge_line, recheck_line, print_line, limit_rule, explain_rule, misfit_rule, file_rule, with_plan_rules, command_of, file_arguments, HasFiles, HasLimit, IsGiven, HasOptions, IsJobOf};
 
 use crate::help;
 use crate::task::{Job, JobFault, Mode};
@@ -28,6 +28,16 @@ fn explain_arg<'a>(alloc: Global) -> Arg<'a>
     Arg::new(alloc, "explain")
         .long("explain")
         .help(help::EXPLAIN)
+        .action(ArgAction::SetTrue)
+}
+
+fn misfit_arg<'a>(alloc: Global) -> Arg<'a>
+    ensures rule { rule_of result ≡ misfit_rule }
+    ensures local { result.global ≡ false }
+{
+    Arg::new(alloc, "misfit")
+        .long("misfit")
+        .help(help::MISFIT)
         .action(ArgAction::SetTrue)
 }
 
@@ -93,6 +103,7 @@ fn recheck_command<'a>(alloc: Global) -> Result<Command<'a>, AllocError>
     let command = Command::new(alloc, "recheck")
         .about(help::RECHECK)
         .after_help(help::RECHECK_END);
+    let command = with_arg(command, misfit_arg(alloc))?;
     let command = with_plan_args(alloc, command)?;
     let command = with_arg(
         command,
@@ -175,11 +186,11 @@ fn limit_of(matches: &ArgMatches<'_>) -> Result<u64, JobFault>
     }
 }
 
-fn is_explained(matches: &ArgMatches<'_>) -> bool
-    ensures { (result ≡ true) ↔ (first_of (codes "explain") (rows_of (found_of matches.now))
-        ≡ Some (codes "true")) }
+// Whether a flag is given.
+fn is_given(matches: &ArgMatches<'_>, id: &str) -> bool
+    ensures { (result ≡ true) ↔ IsGiven id.now (rows_of (found_of matches.now)) }
 {
-    match matches.get_str("explain") {
+    match matches.get_str(id) {
         Some(text) => text == "true",
         None => false,
     }
@@ -197,12 +208,13 @@ fn judge_job(alloc: Global, matches: &ArgMatches<'_>) -> Result<Job, JobFault>
     let plan = text_of(alloc, matches, "plan")?;
     let files = vec![in alloc; domain, problem, plan]?;
     let limit = limit_of(matches)?;
-    let explain = is_explained(matches);
+    let explain = is_given(matches, "explain");
     Ok(Job {
         mode: Mode::Judge,
         files,
         limit,
         explain,
+        misfit: false,
     })
 }
 
@@ -218,11 +230,13 @@ fn recheck_job(alloc: Global, matches: &ArgMatches<'_>) -> Result<Job, JobFault>
     let plan = text_of(alloc, matches, "plan")?;
     let certificate = text_of(alloc, matches, "certificate")?;
     let files = vec![in alloc; domain, problem, plan, certificate]?;
+    let misfit = is_given(matches, "misfit");
     Ok(Job {
         mode: Mode::Recheck,
         files,
         limit: 1_000_000,
         explain: false,
+        misfit,
     })
 }
 
@@ -230,7 +244,8 @@ fn recheck_job(alloc: Global, matches: &ArgMatches<'_>) -> Result<Job, JobFault>
 fn print_job(alloc: Global, mode: Mode, matches: &ArgMatches<'_>) -> Result<Job, JobFault>
     ensures named { IfOk result (λ job. job.mode ≡ mode) }
     ensures files { IfOk result (HasFiles (codes "file" ∷ []) (rows_of (found_of matches.now))) }
-    ensures options { IfOk result (λ job. (job.limit ≡ 1000000) × (job.explain ≡ false)) }
+    ensures options { IfOk result (λ job. (job.limit ≡ 1000000) × (job.explain ≡ false)
+        × (job.misfit ≡ false)) }
 {
     let file = text_of(alloc, matches, "file")?;
     let files = vec![in alloc; file]?;
@@ -239,6 +254,7 @@ fn print_job(alloc: Global, mode: Mode, matches: &ArgMatches<'_>) -> Result<Job,
         files,
         limit: 1_000_000,
         explain: false,
+        misfit: false,
     })
 }
 

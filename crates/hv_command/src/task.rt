@@ -30,6 +30,8 @@ pub struct Job {
     pub limit: u64,
     /// Whether the certificate of a plan that solves its problem is written.
     pub explain: bool,
+    /// Whether the line of a certificate that does not fit is said.
+    pub misfit: bool,
 }
 
 /// Why the words name no job.

@@ -28,12 +28,22 @@ fn job_with(
         files: names,
         limit,
         explain,
+        misfit: false,
     }))
 }
 
 // A job of words that give no limit and ask for no certificate.
 fn plain(alloc: Global, mode: Mode, files: &[&str]) -> Result<Option<Job>, AllocError> {
     job_with(alloc, mode, files, 1_000_000, false)
+}
+
+// The same job, asked for the line that does not fit.
+fn with_misfit(job: Option<Job>) -> Option<Job> {
+    let job = job?;
+    Some(Job {
+        misfit: true,
+        ..job
+    })
 }
 
 #[test]
@@ -78,6 +88,11 @@ fn words_that_ask_for_a_recheck(rt: HostRuntime) -> Result<(), Fail> {
         named(alloc, &["hddlv", "recheck", "d", "p", "q", "c"]),
         plain(alloc, Mode::Recheck, &["d", "p", "q", "c"])?
     );
+    assert_eq!(rt;
+        named(alloc, &["hddlv", "recheck", "--misfit", "d", "p", "q", "c"]),
+        with_misfit(plain(alloc, Mode::Recheck, &["d", "p", "q", "c"])?)
+    );
+    assert!(rt; is_refused(alloc, &["hddlv", "judge", "--misfit", "d", "p", "q"]));
     assert!(rt; is_refused(alloc, &["hddlv", "recheck"]));
     assert!(rt; is_refused(alloc, &["hddlv", "recheck", "d", "p", "q"]));
     assert!(rt; is_refused(alloc, &["hddlv", "recheck", "d", "p", "q", "c", "r"]));

@@ -1,24 +1,27 @@
 -- What the check of a certificate answers of a plan in a world, and of three texts.
-use Rattle.std.proofs.Common.{◌≡◌, ◌<◌, ◌≤◌, ◌+◌, ℕ, Bool, true, false, List, Option, Some, None, length, sym, ◌∙◌, ap, subst, arith}
-use Rattle.std.specs.Prelude.{drop}
+use Rattle.std.proofs.Common.{◌≡◌, ◌<◌, ◌≤◌, ◌+◌, ℕ, Bool, true, false, List, Option, Some, None, length, refl, sym, ◌∙◌, ap, subst, arith}
+use Rattle.std.specs.Prelude.{drop, is_none, is_some, not, option_map, IfSome}
 use Rattle.hv_lists.proofs.Pairs.{same_length}
 use Rattle.hv_world.specs.Bindings.{GroundAction}
 use Rattle.hv_world.specs.Worlds.{World}
 use Rattle.hv_state.specs.Plans as states
-use Rattle.hv_state.specs.Plans.{IsStop, StopsAt}
+use Rattle.hv_state.specs.Plans.{CanRun, GoalHolds, IsStop, StopsAt}
 use Rattle.hv_state.specs.declared.trace.Stop.{Stop}
 use Rattle.hv_state.specs.declared.trace.Stop.TheVariants as stops
 use Rattle.hv_plan.specs.Values.{Plan}
 use Rattle.hv_plan.specs.PlanTrees.{PlanTree, NodeIs, IsActionOf, IsNodeOf}
+use Rattle.hv_plan.specs.Causes.{IsCause}
+use Rattle.hv_plan.specs.declared.cause.Cause as trees
 use Rattle.hv_match.specs.Candidates.{Tells}
 use Rattle.hv_order.specs.Certified.{Certifies, CountsTo, line_numbers}
+use Rattle.hv_order.specs.Misfits.{IsMisfit}
 use Rattle.hv_order.specs.Settings.{setting}
 use Rattle.hv_certificate.specs.declared.certificate.Certificate.{Certificate}
 use Rattle.hv_answer.specs.declared.answer.Cause.{Cause}
 use Rattle.hv_judge.specs.declared.not_solved.NotSolved.{NotSolved}
 use Rattle.hv_judge.specs.declared.not_solved.NotSolved.TheVariants.{Rejected, Fails, Undecided, Memory}
 use Rattle.hv_judge.specs.Causes.{IsCauseOf}
-use Rattle.hv_judge.specs.Checked.{IsCheckFault, CountsFormulas, count_of}
+use Rattle.hv_judge.specs.Checked.{IsCheckFault, CountsFormulas, TellsLine, certified, no_plan, no_line, count_of}
 use Rattle.hv_judge.specs.declared.checking.Recheck.{Recheck}
 use Rattle.hv_judge.specs.Solutions.{HasTree, ReachesGoal, SolvesBy, run_of, judged_in}
 use Rattle.hv_judge.specs.Verdicts.{HasVerdict}
@@ -28,6 +31,13 @@ use Rattle.hv_judge.proofs.LawPlans.{LawsOfPlans, same_tree, is_solution, no_sol
 
 not_true : {P : Type 0} → false ≡ true → P
 not_true e = absurd (let clash : false ≡ true = e in cc)
+
+-- whether there is none, told by whether there is some
+pub told_none : {A : Type 0} (o : Option A) (b : Bool) → is_some o ≡ not b → b ≡ is_none o
+told_none None true e = refl
+told_none None false e = cc
+told_none (Some x) true e = cc
+told_none (Some x) false e = refl
 
 module _ (laws : LawsOfPlans) (w : World) (p : Plan) (c : Certificate) where
   -- no certificate solves a plan that fails
@@ -53,6 +63,50 @@ module _ (laws : LawsOfPlans) (w : World) (p : Plan) (c : Certificate) where
         (subst (λ x. Certifies (setting t x true) c) (sym ran)
         (subst (λ u. Certifies (judged_in w u) c) same s.certified))),
   )
+
+  -- a plan whose lines form no tree reaches no goal
+  pub no_tree_reaches : (k : trees.Cause) → IsCause w p k → (t : PlanTree) → ReachesGoal w p t → ⊥
+  no_tree_reaches k cause t r =
+      laws.no_cause w p k.kind k.line r.run.tree.forms r.run.tree.fits cause.qualifies
+
+  -- nor does one with an action that is not applicable
+  pub stopped_reaches : (u : PlanTree) → HasTree w p u → (k : ℕ) → StopsAt (run_of w u) k
+      → (t : PlanTree) → ReachesGoal w p t → ⊥
+  stopped_reaches u tree k (inside, stops, before) t r =
+      let same : t ≡ u = same_tree laws w p t u r.run.tree tree in
+      stops (subst (λ x. CanRun (run_of w x)) same r.run.can_run k inside)
+
+  -- nor one behind which the goal is false
+  pub false_reaches : (u : PlanTree) → HasTree w p u → (GoalHolds (run_of w u) → ⊥)
+      → (t : PlanTree) → ReachesGoal w p t → ⊥
+  false_reaches u tree off t r =
+      let same : t ≡ u = same_tree laws w p t u r.run.tree tree in
+      off (subst (λ x. GoalHolds (run_of w x)) same r.goal)
+
+  -- no line is told of such a plan
+  pub no_line_told : (b : Bool) (o : Option ℕ) → b ≡ false → o ≡ None
+      → ((t : PlanTree) → ReachesGoal w p t → ⊥) → TellsLine w p c b o
+  no_line_told b o off none reaches =
+      subst (λ x. TellsLine w p c x o) (sym off)
+      (subst (λ x. TellsLine w p c false x) (sym none) (no_plan reaches))
+
+  -- the line that does not fit is told, by its place in the order of nodes
+  pub line_told : (t : PlanTree) (r : states.Plan) (o : Option ℕ) → ReachesGoal w p t → r ≡ run_of w t
+      → IfSome o (IsMisfit (setting t r true) c) → (b : Bool) (line : Option ℕ) → b ≡ is_none o
+      → line ≡ option_map (λ k. k + 2) o → TellsLine w p c b line
+  line_told t r None reaches ran misfit b line off is =
+      subst (λ x. TellsLine w p c x line) (sym off)
+      (subst (λ x. TellsLine w p c true x) (sym is) certified)
+  line_told t r (Some k) reaches ran misfit b line off is =
+      subst (λ x. TellsLine w p c x line) (sym off)
+      (subst (λ x. TellsLine w p c false x) (sym is)
+      (no_line (k + 2) (record {
+        tree = t;
+        reaches = reaches;
+        place = k;
+        is_line = refl;
+        misfit = subst (λ x. IsMisfit (setting t x true) c k) ran misfit;
+      })))
 
 -- a rejection is that of the judge
 pub check_ends : (domain problem plan : List ℕ) (e : NotSolved)

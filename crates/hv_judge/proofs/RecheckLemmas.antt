@@ -11,14 +11,14 @@ use Rattle.hv_certificate.specs.declared.fault.CertFault.{CertFault}
 use Rattle.hv_certificate.specs.declared.fault.CertFault.TheVariants as certificates
 use Rattle.hv_answer.specs.declared.answer.Fault.{Fault}
 use Rattle.hv_answer.specs.declared.answer.Which.{Which}
-use Rattle.hv_judge.specs.declared.checking.Recheck.{Recheck}
+use Rattle.hv_judge.specs.declared.checking.Examined.{Examined}
 use Rattle.hv_judge.specs.declared.not_solved.NotSolved.{NotSolved}
 use Rattle.hv_judge.specs.declared.not_solved.NotSolved.TheVariants.{Rejected, Fails, Undecided, Memory}
 use Rattle.hv_judge.specs.declared.rechecking.RecheckKind.{RecheckKind}
 use Rattle.hv_judge.specs.declared.rechecking.RecheckKind.TheVariants as kinds
 use Rattle.hv_judge.specs.declared.running.RunFault.{RunFault}
-use Rattle.hv_judge.specs.Checked.{Rechecked, IsRecheckOf, IsRejectedOfFour, not_judged, not_of_form, IsRecheckFault}
-use Rattle.hv_judge.specs.Rechecks.{IsRecheckLine, says_certified, says_not_certified, says_rejected, found_line, IsFoundLine}
+use Rattle.hv_judge.specs.Checked.{Rechecked, AreExamined, IsExaminedOf, IsRejectedOfFour, not_judged, not_of_form, IsRecheckFault}
+use Rattle.hv_judge.specs.Rechecks.{IsRecheckLine, says_certified, says_not_certified, says_rejected, said_line, IsFoundLine}
 use Rattle.hv_judge.specs.Rechecks.{IsHaltFrom, text_failed, text_given}
 use Rattle.hv_judge.specs.Rejections.{first_too_long}
 use Rattle.hv_judge.specs.Runs.{rejection, IsRejection, IsFailureOf}
@@ -54,41 +54,51 @@ module _ (domain problem plan cert : List ℕ) where
       subst (λ x. IsRecheckFault domain problem plan cert x) (sym is) (cert_ends f few spelled fault)
 
   -- what is found by the certificate's text
-  pub ends_as : (r : Result Recheck CheckFault) → length cert ≤ MOST_BYTES
+  pub ends_as : (r : Result Examined CheckFault) → length cert ≤ MOST_BYTES
       → IsSpelledAs domain problem plan (λ w q. Unit {0}) → IfErr r (IsCertEnd cert)
       → IfErr r (IsRecheckFault domain problem plan cert)
   ends_as (Ok found) few spelled h = tt
   ends_as (Err e) few spelled h = text_ends e few spelled h
 
-  pub finds_as : (r : Result Recheck CheckFault) (w : World) (q : Plan)
-      → ((found : Recheck) → IsRecheckOf cert found w q → Rechecked domain problem plan cert found)
-      → IfOk r (λ found. IsRecheckOf cert found w q) → IfOk r (Rechecked domain problem plan cert)
+  pub finds_as : (r : Result Examined CheckFault) (w : World) (q : Plan)
+      → ((found : Examined) → IsExaminedOf cert found w q → AreExamined domain problem plan cert found)
+      → IfOk r (λ found. IsExaminedOf cert found w q) → IfOk r (AreExamined domain problem plan cert)
   finds_as (Ok found) w q spelled h = spelled found h
   finds_as (Err e) w q spelled h = tt
 
   -- a line of a kind
-  as_line : (k x : RecheckKind) (line bytes : List ℕ) → k ≡ x → line ≡ bytes
-      → IsRecheckLine domain problem plan cert x bytes → IsRecheckLine domain problem plan cert k line
-  as_line k x line bytes same equal h =
-      subst (λ y. IsRecheckLine domain problem plan cert y line) (sym same)
-      (subst (λ y. IsRecheckLine domain problem plan cert x y) (sym equal) h)
+  module _ (misfit : Bool) where
+    as_line : (k x : RecheckKind) (text bytes : List ℕ) → k ≡ x → text ≡ bytes
+        → IsRecheckLine misfit domain problem plan cert x bytes
+        → IsRecheckLine misfit domain problem plan cert k text
+    as_line k x text bytes same equal h =
+        subst (λ y. IsRecheckLine misfit domain problem plan cert y text) (sym same)
+        (subst (λ y. IsRecheckLine misfit domain problem plan cert x y) (sym equal) h)
 
-  found_by : (b : Bool) (n : ℕ)
-      → Rechecked domain problem plan cert (record { certified = b; evaluated = n })
-      → (k : RecheckKind) (line : List ℕ) → IsFoundLine b k line
-      → IsRecheckLine domain problem plan cert k line
-  found_by true n h k line (kind, is) = as_line k kinds.Certified line (found_line true) kind is (says_certified n h)
-  found_by false n h k line (kind, is) = as_line k kinds.NotCertified line (found_line false) kind is (says_not_certified n h)
+    found_by : (b : Bool) (n : ℕ) (o : Option ℕ)
+        → AreExamined domain problem plan cert
+        (record { recheck = record { certified = b; evaluated = n }; misfit = o })
+        → (k : RecheckKind) (text : List ℕ) → IsFoundLine b (said_line misfit o) k text
+        → IsRecheckLine misfit domain problem plan cert k text
+    found_by true n o h k text (kind, is) = as_line k kinds.Certified text _ kind is (says_certified n o h)
+    found_by false n o h k text (kind, is) = as_line k kinds.NotCertified text _ kind is (says_not_certified n o h)
 
-  pub found_as : (r : Recheck) → Rechecked domain problem plan cert r
-      → (k : RecheckKind) (line : List ℕ) → IsFoundLine r.certified k line
-      → IsRecheckLine domain problem plan cert k line
-  found_as r h k line is = found_by r.certified r.evaluated h k line is
+    pub found_as : (e : Examined) (o : Option ℕ) → AreExamined domain problem plan cert e
+        → o ≡ said_line misfit e.misfit
+        → (k : RecheckKind) (text : List ℕ) → IsFoundLine e.recheck.certified o k text
+        → IsRecheckLine misfit domain problem plan cert k text
+    found_as e o h line k text is =
+        found_by e.recheck.certified e.recheck.evaluated e.misfit h k text
+        (subst (λ x. IsFoundLine e.recheck.certified x k text) line is)
 
-  pub rejected_as : (w : Which) (f : Fault) → IsRejectedOfFour domain problem plan cert w f
-      → (k : RecheckKind) (line : List ℕ) → IsRejection kinds.Rejected w f k line
-      → IsRecheckLine domain problem plan cert k line
-  rejected_as w f h k line (kind, is) = as_line k kinds.Rejected line (rejection w f) kind is (says_rejected w f h)
+    pub rejected_as : (w : Which) (f : Fault) → IsRejectedOfFour domain problem plan cert w f
+        → (k : RecheckKind) (text : List ℕ) → IsRejection kinds.Rejected w f k text
+        → IsRecheckLine misfit domain problem plan cert k text
+    rejected_as w f h k text (kind, is) = as_line k kinds.Rejected text (rejection w f) kind is (says_rejected w f h)
+
+  -- the answer alone
+  pub rechecked : (e : Examined) → AreExamined domain problem plan cert e → Rechecked domain problem plan cert e.recheck
+  rechecked e (d, p, q, spelled, h) = (d, p, q, spelled, h.is_recheck)
 
 -- a reader where nothing is written
 pub halt_read : {R : Type 0} (w : Which) (left : R → Option (List ℕ)) (r r' : R) (Alone : Type 0)

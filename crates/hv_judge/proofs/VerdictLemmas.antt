@@ -21,10 +21,8 @@ use Rattle.hv_certificate.specs.declared.certificate.Certificate.{Certificate}
 use Rattle.hv_order.specs.declared.solution.Unsolved.{Unsolved}
 use Rattle.hv_order.specs.declared.solution.Unsolved.TheVariants as unsolved
 use Rattle.hv_answer.specs.declared.answer.Verdict.TheVariants as verdicts
-use Rattle.hv_answer.specs.declared.answer.CauseKind.{CauseKind}
 use Rattle.hv_answer.specs.declared.answer.CauseKind.TheVariants as causes
 use Rattle.hv_judge.specs.declared.not_solved.NotSolved.{NotSolved}
-use Rattle.hv_judge.specs.declared.not_solved.NotSolved.TheVariants.{Fails}
 use Rattle.hv_judge.specs.Solutions.{HasTree, IsRun, ReachesGoal, SolvesBy, run_of, judged_in}
 use Rattle.hv_answer.specs.Places.{cause_nowhere}
 use Rattle.hv_judge.specs.Causes.{IsCauseOf, by_tree, by_action, by_goal, by_binding, by_order, by_precondition, IsWithinLimit}
@@ -88,9 +86,11 @@ module _ (w : World) (p : Plan) (t : PlanTree) (limit : ℕ) (r : states.Plan) (
   run_is = ran ∙ ap (states.plan w) same
 
   -- the goal is false
+  pub goal_false : b ≡ false → GoalHolds (run_of w t) → ⊥
+  goal_false f g = not_both b (tells.1 (subst GoalHolds (sym run_is) g)) f
+
   pub no_goal : b ≡ false → IsCauseOf w p limit (cause_nowhere causes.GoalFalse)
-  no_goal f =
-      by_goal t is_run (λ g. not_both b (tells.1 (subst GoalHolds (sym run_is) g)) f)
+  no_goal f = by_goal t is_run (goal_false f)
 
   -- it is true
   pub reaches_goal : b ≡ true → ReachesGoal w p t

@@ -1,9 +1,11 @@
 -- The check of a certificate: what may be answered of one that is given, as a value or as a text.
-use Rattle.std.specs.Prelude.{◌≡◌, ◌+◌, ◌<◌, ◌≤◌, ℕ, Bool, true, List, length, Option, None, Some}
+use Rattle.std.specs.Prelude.{◌≡◌, ◌+◌, ◌<◌, ◌≤◌, ℕ, Bool, true, false, List, length, Option, None, Some}
 use Rattle.hv_text.specs.declared.fault.TheConstants.{MOST_BYTES}
 use Rattle.hv_world.specs.Worlds.{World}
 use Rattle.hv_plan.specs.Values.{Plan}
+use Rattle.hv_plan.specs.PlanTrees.{PlanTree}
 use Rattle.hv_match.specs.Candidates.{Tells}
+use Rattle.hv_order.specs.Misfits.{IsMisfit}
 use Rattle.hv_certificate.specs.Forms.{IsCertText, IsCertFault}
 use Rattle.hv_certificate.specs.declared.certificate.Certificate.{Certificate}
 use Rattle.hv_certificate.specs.declared.fault.CertFault.TheVariants as certificates
@@ -13,10 +15,11 @@ use Rattle.hv_answer.specs.declared.answer.Which.{Which}
 use Rattle.hv_answer.specs.declared.answer.Which.TheVariants as which
 use Rattle.hv_judge.specs.declared.checking.CheckFault.{CheckFault}
 use Rattle.hv_judge.specs.declared.checking.CheckFault.TheVariants as faults
+use Rattle.hv_judge.specs.declared.checking.Examined.{Examined}
 use Rattle.hv_judge.specs.declared.checking.Recheck.{Recheck}
 use Rattle.hv_answer.specs.Places.{fault_nowhere, fault_on}
 use Rattle.hv_judge.specs.Rejections.{IsRejected, first_too_long}
-use Rattle.hv_judge.specs.Solutions.{SolvesBy}
+use Rattle.hv_judge.specs.Solutions.{ReachesGoal, SolvesBy, judged_in}
 use Rattle.hv_judge.specs.Verdicts.{IsSpelledAs}
 
 -- The three texts spell a plan and the world that it is for, and the answer says whether the plan
@@ -49,6 +52,32 @@ pub record IsRecheckOf (cert : List ℕ) (r : Recheck) (w : World) (p : Plan) : 
   pub says : IsCertText cert certificate
   pub certified : Tells (SolvesBy w p certificate) r.certified
   pub evaluated : CountsFormulas w p r
+
+-- A line of the text of a certificate that does not fit the plan, by its number in the text: the plan
+-- reaches the goal, and what the line says of its node does not fit. The first line is `solves`, and
+-- the others have the order of the nodes
+pub record IsMisfitLine (w : World) (p : Plan) (c : Certificate) (line : ℕ) : Type 0 where
+  pub tree : PlanTree
+  pub reaches : ReachesGoal w p tree
+  pub place : ℕ
+  pub is_line : line ≡ place + 2
+  pub misfit : IsMisfit (judged_in w tree) c place
+
+-- which line is told where a plan solves its problem by the certificate, or does not; none where it
+-- does, and where no certificate could help the plan
+pub data TellsLine (w : World) (p : Plan) (c : Certificate) : Bool → Option ℕ → Type 0 where
+  certified : TellsLine w p c true None
+  no_plan : ((t : PlanTree) → ReachesGoal w p t → ⊥) → TellsLine w p c false None
+  no_line : (line : ℕ) → IsMisfitLine w p c line → TellsLine w p c false (Some line)
+
+-- what the examination of the text of a certificate says of a plan in a world
+pub record IsExaminedOf (cert : List ℕ) (e : Examined) (w : World) (p : Plan) : Type 0 where
+  pub is_recheck : IsRecheckOf cert e.recheck w p
+  pub line : TellsLine w p is_recheck.certificate e.recheck.certified e.misfit
+
+-- the same of three texts, which spell a plan and the world that it is for
+abbrev pub AreExamined : List ℕ → List ℕ → List ℕ → List ℕ → Examined → Type 0
+AreExamined domain problem plan cert e = IsSpelledAs domain problem plan (IsExaminedOf cert e)
 
 -- The three texts spell a plan and the world that it is for, the fourth is the text of a certificate,
 -- and the answer says whether the plan solves its problem by that certificate

@@ -1,5 +1,5 @@
 -- What a recheck over four readers and a writer does.
-use Rattle.std.specs.Prelude.{◌≡◌, ℕ, Bool, true, false, List, Option, codes}
+use Rattle.std.specs.Prelude.{◌≡◌, ℕ, Bool, true, false, List, Option, None, codes}
 use Rattle.hv_text.specs.Io.{IsRead}
 use Rattle.hv_text.specs.declared.fault.TheConstants.{MOST_BYTES}
 use Rattle.hv_answer.specs.declared.answer.Fault.{Fault}
@@ -8,47 +8,57 @@ use Rattle.hv_answer.specs.declared.answer.Which.TheVariants as texts
 use Rattle.hv_judge.specs.declared.rechecking.RecheckKind.{RecheckKind}
 use Rattle.hv_judge.specs.declared.rechecking.RecheckKind.TheVariants as kinds
 use Rattle.hv_judge.specs.declared.running.RunFault.{RunFault}
-use Rattle.hv_judge.specs.Checked.{Rechecked, IsRejectedOfFour}
+use Rattle.hv_answer.specs.Text.{refusal_text}
+use Rattle.hv_judge.specs.Checked.{AreExamined, IsRejectedOfFour}
 use Rattle.hv_judge.specs.Runs.{rejection, ComesOf, IsFailedRead, IsWant}
 
--- the line that is written of four texts, and its kind
-pub data IsRecheckLine (domain problem plan cert : List ℕ) : RecheckKind → List ℕ → Type 0 where
-  says_certified : (n : ℕ)
-      → Rechecked domain problem plan cert (record { certified = true; evaluated = n })
-      → IsRecheckLine domain problem plan cert kinds.Certified (codes "certified\n")
-  says_not_certified : (n : ℕ)
-      → Rechecked domain problem plan cert (record { certified = false; evaluated = n })
-      → IsRecheckLine domain problem plan cert kinds.NotCertified (codes "not certified\n")
+-- the line of a certificate that is said, where it is asked for
+abbrev pub said_line : Bool → Option ℕ → Option ℕ
+said_line true line = line
+said_line false line = None
+
+-- the line that is written of four texts, and its kind; `misfit` asks for the certificate's line
+pub data IsRecheckLine (misfit : Bool) (domain problem plan cert : List ℕ)
+    : RecheckKind → List ℕ → Type 0 where
+  says_certified : (n : ℕ) (line : Option ℕ)
+      → AreExamined domain problem plan cert
+      (record { recheck = record { certified = true; evaluated = n }; misfit = line })
+      → IsRecheckLine misfit domain problem plan cert kinds.Certified (codes "certified\n")
+  says_not_certified : (n : ℕ) (line : Option ℕ)
+      → AreExamined domain problem plan cert
+      (record { recheck = record { certified = false; evaluated = n }; misfit = line })
+      → IsRecheckLine misfit domain problem plan cert kinds.NotCertified
+      (refusal_text (said_line misfit line))
   says_rejected : (w : Which) (f : Fault) → IsRejectedOfFour domain problem plan cert w f
-      → IsRecheckLine domain problem plan cert kinds.Rejected (rejection w f)
+      → IsRecheckLine misfit domain problem plan cert kinds.Rejected (rejection w f)
 
 -- the readers of the certificate, of the plan before it, of the problem before these, and of the
 -- domain before these
 abbrev pub IsRecheckOfCertificate : {D : Type 0} → (D → Option (List ℕ)) → D → D
-    → List ℕ → List ℕ → List ℕ → RecheckKind → List ℕ → Type 0
-IsRecheckOfCertificate left_d d d' domain problem plan =
+    → Bool → List ℕ → List ℕ → List ℕ → RecheckKind → List ℕ → Type 0
+IsRecheckOfCertificate left_d d d' misfit domain problem plan =
     ComesOf texts.Certificate left_d d d' (Unit {0}) kinds.Rejected
-    (IsRecheckLine domain problem plan)
+    (IsRecheckLine misfit domain problem plan)
 
 abbrev pub IsRecheckOfPlan : {C D : Type 0} → (C → Option (List ℕ)) → C → C
-    → (D → Option (List ℕ)) → D → D → List ℕ → List ℕ → RecheckKind → List ℕ → Type 0
-IsRecheckOfPlan left_c c c' left_d d d' domain problem =
+    → (D → Option (List ℕ)) → D → D → Bool → List ℕ → List ℕ → RecheckKind → List ℕ → Type 0
+IsRecheckOfPlan left_c c c' left_d d d' misfit domain problem =
     ComesOf texts.Plan left_c c c' (d' ≡ d) kinds.Rejected
-    (IsRecheckOfCertificate left_d d d' domain problem)
+    (IsRecheckOfCertificate left_d d d' misfit domain problem)
 
 abbrev pub IsRecheckOfProblem : {B C D : Type 0} → (B → Option (List ℕ)) → B → B
-    → (C → Option (List ℕ)) → C → C → (D → Option (List ℕ)) → D → D → List ℕ
+    → (C → Option (List ℕ)) → C → C → (D → Option (List ℕ)) → D → D → Bool → List ℕ
     → RecheckKind → List ℕ → Type 0
-IsRecheckOfProblem left_b b b' left_c c c' left_d d d' domain =
+IsRecheckOfProblem left_b b b' left_c c c' left_d d d' misfit domain =
     ComesOf texts.Problem left_b b b' ((c' ≡ c) × (d' ≡ d)) kinds.Rejected
-    (IsRecheckOfPlan left_c c c' left_d d d' domain)
+    (IsRecheckOfPlan left_c c c' left_d d d' misfit domain)
 
 abbrev pub IsRecheckOf : {A B C D : Type 0} → (A → Option (List ℕ)) → A → A
     → (B → Option (List ℕ)) → B → B → (C → Option (List ℕ)) → C → C
-    → (D → Option (List ℕ)) → D → D → RecheckKind → List ℕ → Type 0
-IsRecheckOf left_a a a' left_b b b' left_c c c' left_d d d' =
+    → (D → Option (List ℕ)) → D → D → Bool → RecheckKind → List ℕ → Type 0
+IsRecheckOf left_a a a' left_b b b' left_c c c' left_d d d' misfit =
     ComesOf texts.Domain left_a a a' ((b' ≡ b) × (c' ≡ c) × (d' ≡ d)) kinds.Rejected
-    (IsRecheckOfProblem left_b b b' left_c c c' left_d d d')
+    (IsRecheckOfProblem left_b b b' left_c c c' left_d d d' misfit)
 
 -- one reader where nothing is written: it was not read to its end, and those behind it are left
 -- `Alone`; or it was, and `Next` says why
@@ -87,9 +97,9 @@ abbrev pub found_kind : Bool → RecheckKind
 found_kind true = kinds.Certified
 found_kind false = kinds.NotCertified
 
-abbrev pub found_line : Bool → List ℕ
-found_line true = codes "certified\n"
-found_line false = codes "not certified\n"
+abbrev pub found_text : Bool → Option ℕ → List ℕ
+found_text true line = codes "certified\n"
+found_text false line = refusal_text line
 
-abbrev pub IsFoundLine : Bool → RecheckKind → List ℕ → Type 0
-IsFoundLine certified k line = (k ≡ found_kind certified) × (line ≡ found_line certified)
+abbrev pub IsFoundLine : Bool → Option ℕ → RecheckKind → List ℕ → Type 0
+IsFoundLine certified line k text = (k ≡ found_kind certified) × (text ≡ found_text certified line)

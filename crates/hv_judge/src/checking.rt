@@ -1,11 +1,11 @@
 //! The check of a certificate that is given.
 
-ghost use Rattle.std.specs.Prelude.{◌≡◌, ◌<◌, ◌+◌, false, length, IfOk, IfErr};
+ghost use Rattle.std.specs.Prelude.{◌≡◌, ◌<◌, ◌+◌, None, false, length, option_map, IfOk, IfErr};
 ghost use Rattle.hv_world.specs.WorldViews.{world_view};
 ghost use Rattle.hv_plan.specs.LineViews.{plan_view};
 ghost use Rattle.hv_match.specs.Candidates.{Tells};
 ghost use Rattle.hv_order.specs.Settings.{HasNoPrecondition};
-ghost use Rattle.hv_judge.specs.Checked.{Checked, IsCheckFault, CountsFormulas, count_of};
+ghost use Rattle.hv_judge.specs.Checked.{Checked, IsCheckFault, CountsFormulas, TellsLine, count_of};
 ghost use Rattle.hv_judge.specs.Solutions.{SolvesBy};
 
 use crate::judgement::{first_too_long, read_world};
@@ -35,16 +35,41 @@ pub struct Recheck {
     pub evaluated: u64,
 }
 
-impl Recheck {
-    // The plan does not solve the problem by the certificate; so many formulas told that.
-    fn not_certified(evaluated: u64) -> Recheck
-        ensures certified { result.certified ≡ false }
-        ensures evaluated { result.evaluated ≡ evaluated }
+/// What the check of a certificate found, with the line that tells it.
+#[derive(Clone, Copy, Debug, PartialEq, Eq)]
+pub struct Examined {
+    /// Whether the plan solves the problem by the certificate, and how many formulas tell that.
+    pub recheck: Recheck,
+    /// Where it does not, a line of the certificate's text that does not fit, counted from 1. None
+    /// where the plan by itself solves the problem by no certificate: its lines form no tree, an
+    /// action is not applicable, or the goal is not true behind the last.
+    pub misfit: Option<u64>,
+}
+
+impl Examined {
+    // No certificate helps the plan; so many formulas told that.
+    fn no_plan(evaluated: u64) -> Examined
+        ensures certified { result.recheck.certified ≡ false }
+        ensures evaluated { result.recheck.evaluated ≡ evaluated }
+        ensures misfit { result.misfit ≡ None }
     {
-        Recheck {
-            certified: false,
-            evaluated,
+        Examined {
+            recheck: Recheck {
+                certified: false,
+                evaluated,
+            },
+            misfit: None,
         }
+    }
+}
+
+// The line of a certificate's text for a place in the order of nodes: the first line is `solves`.
+fn text_line(place: Option<u32>) -> Option<u64>
+    ensures { result ≡ option_map (λ p. p + 2) place }
+{
+    match place {
+        Some(place) => Some(u64::from(place) + 2),
+        None => None,
     }
 }
 
@@ -121,15 +146,18 @@ pub(crate) fn check_plan<'s>(
     world: &World<'s>,
     plan: &PlanText<'s>,
     certificate: &Certificate<'s>,
-) -> Result<Recheck, Memory>
+) -> Result<Examined, Memory>
     requires top { HasNoPrecondition (world_view world.now) }
     requires small { length (plan_view plan.now).actions
         + length (plan_view plan.now).decompositions < 4294967295 }
     ensures certified { IfOk result (λ found.
         Tells (SolvesBy (world_view world.now) (plan_view plan.now) certificate.now)
-        found.certified) }
-    ensures evaluated { IfOk result
-        (CountsFormulas (world_view world.now) (plan_view plan.now)) }
+        found.recheck.certified) }
+    ensures evaluated { IfOk result (λ found.
+        CountsFormulas (world_view world.now) (plan_view plan.now) found.recheck) }
+    ensures line { IfOk result (λ found.
+        TellsLine (world_view world.now) (plan_view plan.now) certificate.now
+        found.recheck.certified found.misfit) }
 {
     a_plan_has_one_tree();
     a_tree_or_a_cause();
@@ -137,22 +165,25 @@ pub(crate) fn check_plan<'s>(
     certified_plans_are_solved();
     let tree = match Tree::build(alloc, world, plan) {
         Ok(tree) => tree,
-        Err(TreeFault::Cause(_)) => return Ok(Recheck::not_certified(0)),
+        Err(TreeFault::Cause(_)) => return Ok(Examined::no_plan(0)),
         Err(TreeFault::Memory) => return Err(Memory),
     };
     let trace = match Trace::<BitState>::run(alloc, world, tree.actions()) {
         Ok(trace) => trace,
-        Err(Stop::Inapplicable(action)) => return Ok(Recheck::not_certified(action as u64 + 1)),
+        Err(Stop::Inapplicable(action)) => return Ok(Examined::no_plan(action as u64 + 1)),
         Err(Stop::Memory) => return Err(Memory),
     };
     let evaluated = tree.actions().len() as u64 + goal_count(world);
     if !trace.goal_holds() {
-        return Ok(Recheck::not_certified(evaluated));
+        return Ok(Examined::no_plan(evaluated));
     }
     match certifies(alloc, world, &tree, &trace, certificate) {
-        Ok(found) => Ok(Recheck {
-            certified: found.certified,
-            evaluated: evaluated + found.evaluated,
+        Ok(found) => Ok(Examined {
+            recheck: Recheck {
+                certified: found.misfit.is_none(),
+                evaluated: evaluated + found.evaluated,
+            },
+            misfit: text_line(found.misfit),
         }),
         Err(_) => Err(Memory),
     }
@@ -183,5 +214,5 @@ pub fn check<'s>(
     let world = read_world(alloc, domain, problem)?;
     let plan = read_plan(alloc, plan)?;
     let found = check_plan(alloc, &world, &plan, certificate)?;
-    Ok(found.certified)
+    Ok(found.recheck.certified)
 }

@@ -13,7 +13,7 @@ mod rejection;
 mod running;
 mod verdict;
 
-pub use checking::{CheckFault, Recheck, check};
+pub use checking::{CheckFault, Examined, Recheck, check};
 pub use hv_answer::{
     Answer, Cause, CauseKind, Fault, FaultKind, Kind, Place, Verdict, Which, write_answer,
     write_verdict,
@@ -24,5 +24,5 @@ pub use law::{
     a_certificate_of_a_solution, a_solution_or_none, one_answer, one_recheck, values_or_a_rejection,
 };
 pub use printing::{Printed, run_print};
-pub use rechecking::{RecheckKind, recheck, run_recheck};
+pub use rechecking::{RecheckKind, examine, recheck, run_examine, run_recheck};
 pub use running::{RunFault, run};

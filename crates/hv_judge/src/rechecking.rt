@@ -1,21 +1,21 @@
 //! The check of the text of a certificate, also over readers and a writer.
 
-ghost use Rattle.std.specs.Prelude.{◌≡◌, ◌<◌, ◌+◌, ◌-◌, ◌^◌, length, IfOk, IfErr};
+ghost use Rattle.std.specs.Prelude.{◌≡◌, ◌<◌, ◌+◌, ◌-◌, ◌^◌, false, length, IfOk, IfErr};
 ghost use Rattle.hv_world.specs.WorldViews.{world_view};
 ghost use Rattle.hv_plan.specs.LineViews.{plan_view};
 ghost use Rattle.hv_order.specs.Settings.{HasNoPrecondition};
 ghost use Rattle.hv_answer.specs.declared.answer.Which.TheVariants as texts;
 ghost use Rattle.hv_answer.specs.declared.answer.Which.{Which};
-ghost use Rattle.hv_judge.specs.Checked.{Rechecked, IsRecheckFault, IsRecheckOf as IsFound};
-ghost use Rattle.hv_judge.specs.Rechecks.{IsRecheckLine, IsFoundLine, IsRecheckOfCertificate, IsRecheckOfPlan, IsRecheckOfProblem, IsRecheckOf, IsRecheckHaltOfCertificate, IsRecheckHaltOfPlan, IsRecheckHaltOfProblem, IsRecheckHaltOf};
+ghost use Rattle.hv_judge.specs.Checked.{Rechecked, AreExamined, IsExaminedOf, IsRecheckFault};
+ghost use Rattle.hv_judge.specs.Rechecks.{IsRecheckLine, IsFoundLine, said_line, IsRecheckOfCertificate, IsRecheckOfPlan, IsRecheckOfProblem, IsRecheckOf, IsRecheckHaltOfCertificate, IsRecheckHaltOfPlan, IsRecheckHaltOfProblem, IsRecheckHaltOf};
 ghost use Rattle.hv_judge.specs.inside.CheckEnds.{IsCertEnd};
 ghost use Rattle.hv_judge.specs.declared.rechecking.RecheckKind.TheVariants as kinds;
 ghost use Rattle.hv_judge.specs.Runs.{reads_failed, writes_failed, failures_at, Wrote, IsRejection, IsUnread, IfHalted, IsWant, IsFailureOf};
 
-use crate::checking::{CheckFault, Recheck, check_plan};
+use crate::checking::{CheckFault, Examined, Recheck, check_plan};
 use crate::judgement::{first_too_long, read_world};
 use crate::running::RunFault;
-use hv_answer::{Fault, Verdict, Which, write_verdict};
+use hv_answer::{Fault, Verdict, Which, write_refusal, write_verdict};
 use hv_certificate::read_cert;
 use hv_plan::{PlanText, plans_are_small, read_plan};
 use hv_text::{MOST_BYTES, ReadFault, Sink, Source, read_all, write_all};
@@ -28,16 +28,45 @@ fn check_text<'s>(
     world: &World<'s>,
     plan: &PlanText<'s>,
     certificate: &'s [u8],
-) -> Result<Recheck, CheckFault>
+) -> Result<Examined, CheckFault>
     requires top { HasNoPrecondition (world_view world.now) }
     requires small { length (plan_view plan.now).actions
         + length (plan_view plan.now).decompositions < 4294967295 }
-    ensures ok { IfOk result (λ found. IsFound
+    ensures ok { IfOk result (λ found. IsExaminedOf
         certificate.entry.now found (world_view world.now) (plan_view plan.now)) }
     ensures err { IfErr result (IsCertEnd certificate.entry.now) }
 {
     let certificate = read_cert(alloc, certificate)?;
     Ok(check_plan(alloc, world, plan, &certificate)?)
+}
+
+/// Checks the text of a certificate as `recheck` does, and tells the line that does not fit.
+///
+/// # Errors
+///
+/// As those of `recheck`.
+pub fn examine<'s>(
+    alloc: Global,
+    domain: &'s [u8],
+    problem: &'s [u8],
+    plan: &'s [u8],
+    certificate: &'s [u8],
+) -> Result<Examined, CheckFault>
+    ensures ok { IfOk result (AreExamined
+        domain.entry.now problem.entry.now plan.entry.now certificate.entry.now) }
+    ensures err { IfErr result (IsRecheckFault
+        domain.entry.now problem.entry.now plan.entry.now certificate.entry.now) }
+{
+    plans_are_small();
+    if let Some(which) = first_too_long(domain, problem, plan) {
+        return Err(CheckFault::Rejected(which, Fault::too_long()));
+    }
+    if certificate.len() > MOST_BYTES {
+        return Err(CheckFault::Rejected(Which::Certificate, Fault::too_long()));
+    }
+    let world = read_world(alloc, domain, problem)?;
+    let plan = read_plan(alloc, plan)?;
+    check_text(alloc, &world, &plan, certificate)
 }
 
 /// Checks the text of a certificate, which is read and then checked as by `check`; no formula is
@@ -60,16 +89,10 @@ pub fn recheck<'s>(
     ensures err { IfErr result (IsRecheckFault
         domain.entry.now problem.entry.now plan.entry.now certificate.entry.now) }
 {
-    plans_are_small();
-    if let Some(which) = first_too_long(domain, problem, plan) {
-        return Err(CheckFault::Rejected(which, Fault::too_long()));
+    match examine(alloc, domain, problem, plan, certificate) {
+        Ok(found) => Ok(found.recheck),
+        Err(fault) => Err(fault),
     }
-    if certificate.len() > MOST_BYTES {
-        return Err(CheckFault::Rejected(Which::Certificate, Fault::too_long()));
-    }
-    let world = read_world(alloc, domain, problem)?;
-    let plan = read_plan(alloc, plan)?;
-    check_text(alloc, &world, &plan, certificate)
 }
 
 /// What was said of a certificate.
@@ -83,10 +106,17 @@ pub enum RecheckKind {
     Rejected,
 }
 
+// The line of a certificate that is said, where it is asked for.
+fn said_line(misfit: bool, line: Option<u64>) -> Option<u64>
+    ensures { result ≡ said_line misfit line }
+{
+    if misfit { line } else { None }
+}
+
 // Writes what was found of a certificate.
-fn tell<W: Sink>(certified: bool, out: &mut W) -> Result<RecheckKind, RunFault>
+fn tell<W: Sink>(certified: bool, line: Option<u64>, out: &mut W) -> Result<RecheckKind, RunFault>
     requires { W.failures out.old < 2 ^ 64 - 1 }
-    ensures wrote { Wrote (IsFoundLine certified) W.taken out.old out.new result }
+    ensures wrote { Wrote (IsFoundLine certified line) W.taken out.old out.new result }
     ensures reads { (w : Which) → reads_failed w result ≡ 0 }
     ensures halted { IfHalted (λ _. ⊥) result }
     ensures writes { W.failures out.new ≡ W.failures out.old + writes_failed result }
@@ -95,7 +125,7 @@ fn tell<W: Sink>(certified: bool, out: &mut W) -> Result<RecheckKind, RunFault>
         write_all(out, b"certified\n")?;
         return Ok(RecheckKind::Certified);
     }
-    write_all(out, b"not certified\n")?;
+    write_refusal(line, out)?;
     Ok(RecheckKind::NotCertified)
 }
 
@@ -137,17 +167,23 @@ fn recheck_texts<W: Sink>(
     problem: &[u8],
     plan: &[u8],
     certificate: &[u8],
+    misfit: bool,
     out: &mut W,
 ) -> Result<RecheckKind, RunFault>
     requires { W.failures out.old < 2 ^ 64 - 1 }
-    ensures wrote { Wrote (IsRecheckLine domain.now problem.now plan.now certificate.now)
+    ensures wrote { Wrote
+        (IsRecheckLine misfit domain.now problem.now plan.now certificate.now)
         W.taken out.old out.new result }
     ensures reads { (w : Which) → reads_failed w result ≡ 0 }
     ensures halted { IfHalted IsWant result }
     ensures writes { W.failures out.new ≡ W.failures out.old + writes_failed result }
 {
-    match recheck(alloc, domain, problem, plan, certificate) {
-        Ok(found) => tell(found.certified, out),
+    match examine(alloc, domain, problem, plan, certificate) {
+        Ok(found) => tell(
+            found.recheck.certified,
+            said_line(misfit, found.misfit),
+            out,
+        ),
         Err(CheckFault::Rejected(which, fault)) => reject(which, fault, out),
         Err(CheckFault::Memory) => Err(RunFault::Memory),
     }
@@ -160,13 +196,14 @@ fn recheck_certificate<D: Source, W: Sink>(
     problem: &[u8],
     plan: &[u8],
     certificate: &mut D,
+    misfit: bool,
     out: &mut W,
 ) -> Result<RecheckKind, RunFault>
     requires certificate { D.failures certificate.old < 2 ^ 64 - 1 }
     requires out { W.failures out.old < 2 ^ 64 - 1 }
     ensures wrote { Wrote
         (IsRecheckOfCertificate D.left certificate.old certificate.new
-        domain.now problem.now plan.now) W.taken out.old out.new result }
+        misfit domain.now problem.now plan.now) W.taken out.old out.new result }
     ensures reads_domain { reads_failed texts.Domain result ≡ 0 }
     ensures reads_problem { reads_failed texts.Problem result ≡ 0 }
     ensures reads_plan { reads_failed texts.Plan result ≡ 0 }
@@ -177,7 +214,7 @@ fn recheck_certificate<D: Source, W: Sink>(
     ensures writes { W.failures out.new ≡ W.failures out.old + writes_failed result }
 {
     match read_all(alloc, certificate, MOST_BYTES) {
-        Ok(certificate) => recheck_texts(alloc, domain, problem, plan, &certificate, out),
+        Ok(certificate) => recheck_texts(alloc, domain, problem, plan, &certificate, misfit, out),
         Err(fault) => reject_unread(Which::Certificate, fault, out),
     }
 }
@@ -189,6 +226,7 @@ fn recheck_plan<C: Source, D: Source, W: Sink>(
     problem: &[u8],
     plan: &mut C,
     certificate: &mut D,
+    misfit: bool,
     out: &mut W,
 ) -> Result<RecheckKind, RunFault>
     requires plan { C.failures plan.old < 2 ^ 64 - 1 }
@@ -196,7 +234,7 @@ fn recheck_plan<C: Source, D: Source, W: Sink>(
     requires out { W.failures out.old < 2 ^ 64 - 1 }
     ensures wrote { Wrote
         (IsRecheckOfPlan C.left plan.old plan.new D.left certificate.old certificate.new
-        domain.now problem.now) W.taken out.old out.new result }
+        misfit domain.now problem.now) W.taken out.old out.new result }
     ensures reads_domain { reads_failed texts.Domain result ≡ 0 }
     ensures reads_problem { reads_failed texts.Problem result ≡ 0 }
     ensures reads_plan { C.failures plan.new
@@ -211,7 +249,7 @@ fn recheck_plan<C: Source, D: Source, W: Sink>(
     ensures writes { W.failures out.new ≡ W.failures out.old + writes_failed result }
 {
     match read_all(alloc, plan, MOST_BYTES) {
-        Ok(plan) => recheck_certificate(alloc, domain, problem, &plan, certificate, out),
+        Ok(plan) => recheck_certificate(alloc, domain, problem, &plan, certificate, misfit, out),
         Err(fault) => reject_unread(Which::Plan, fault, out),
     }
 }
@@ -223,6 +261,7 @@ fn recheck_problem<B: Source, C: Source, D: Source, W: Sink>(
     problem: &mut B,
     plan: &mut C,
     certificate: &mut D,
+    misfit: bool,
     out: &mut W,
 ) -> Result<RecheckKind, RunFault>
     requires problem { B.failures problem.old < 2 ^ 64 - 1 }
@@ -231,7 +270,7 @@ fn recheck_problem<B: Source, C: Source, D: Source, W: Sink>(
     requires out { W.failures out.old < 2 ^ 64 - 1 }
     ensures wrote { Wrote
         (IsRecheckOfProblem B.left problem.old problem.new C.left plan.old plan.new
-        D.left certificate.old certificate.new domain.now) W.taken out.old out.new result }
+        D.left certificate.old certificate.new misfit domain.now) W.taken out.old out.new result }
     ensures reads_domain { reads_failed texts.Domain result ≡ 0 }
     ensures reads_problem { B.failures problem.new
         ≡ B.failures problem.old + reads_failed texts.Problem result }
@@ -248,8 +287,60 @@ fn recheck_problem<B: Source, C: Source, D: Source, W: Sink>(
     ensures writes { W.failures out.new ≡ W.failures out.old + writes_failed result }
 {
     match read_all(alloc, problem, MOST_BYTES) {
-        Ok(problem) => recheck_plan(alloc, domain, &problem, plan, certificate, out),
+        Ok(problem) => recheck_plan(alloc, domain, &problem, plan, certificate, misfit, out),
         Err(fault) => reject_unread(Which::Problem, fault, out),
+    }
+}
+
+/// Reads a domain, a problem, a plan and a certificate, in this order, checks the certificate, and
+/// writes a line, as `run_recheck` does. Where `misfit` is asked for, the line of the certificate that
+/// does not fit stands behind `not certified`, unless no certificate helps the plan.
+///
+/// # Errors
+///
+/// As those of `run_recheck`.
+pub fn run_examine<A: Source, B: Source, C: Source, D: Source, W: Sink>(
+    alloc: Global,
+    domain: &mut A,
+    problem: &mut B,
+    plan: &mut C,
+    certificate: &mut D,
+    misfit: bool,
+    out: &mut W,
+) -> Result<RecheckKind, RunFault>
+    requires domain { A.failures domain.old < 2 ^ 64 - 1 }
+    requires problem { B.failures problem.old < 2 ^ 64 - 1 }
+    requires plan { C.failures plan.old < 2 ^ 64 - 1 }
+    requires certificate { D.failures certificate.old < 2 ^ 64 - 1 }
+    requires out { W.failures out.old < 2 ^ 64 - 1 }
+    ensures wrote { Wrote
+        (IsRecheckOf A.left domain.old domain.new B.left problem.old problem.new
+        C.left plan.old plan.new D.left certificate.old certificate.new misfit)
+        W.taken out.old out.new result }
+    ensures reads_domain { A.failures domain.new
+        ≡ A.failures domain.old + reads_failed texts.Domain result }
+    ensures reads_problem { B.failures problem.new
+        ≡ B.failures problem.old + reads_failed texts.Problem result }
+    ensures reads_plan { C.failures plan.new
+        ≡ C.failures plan.old + reads_failed texts.Plan result }
+    ensures reads_certificate { D.failures certificate.new
+        ≡ D.failures certificate.old + reads_failed texts.Certificate result }
+    // where nothing is said, each reader has moved on by what it gave
+    ensures halted { IfHalted
+        (IsRecheckHaltOf A.left domain.old domain.new B.left problem.old problem.new
+        C.left plan.old plan.new D.left certificate.old certificate.new) result }
+    // a reader behind one that failed is left alone
+    ensures later_problem { 0 < reads_failed texts.Domain result → problem.new ≡ problem.old }
+    ensures later_plan { 0 < reads_failed texts.Domain result + reads_failed texts.Problem result
+        → plan.new ≡ plan.old }
+    ensures later_certificate { 0 < reads_failed texts.Domain result
+        + reads_failed texts.Problem result + reads_failed texts.Plan result
+        → certificate.new ≡ certificate.old }
+    ensures writes { W.failures out.new ≡ W.failures out.old + writes_failed result }
+{
+    match read_all(alloc, domain, MOST_BYTES) {
+        Ok(domain) => recheck_problem(alloc, &domain, problem, plan, certificate, misfit, out),
+        Err(fault) => reject_unread(Which::Domain, fault, out),
     }
 }
 
@@ -276,7 +367,7 @@ pub fn run_recheck<A: Source, B: Source, C: Source, D: Source, W: Sink>(
     requires out { W.failures out.old < 2 ^ 64 - 1 }
     ensures wrote { Wrote
         (IsRecheckOf A.left domain.old domain.new B.left problem.old problem.new
-        C.left plan.old plan.new D.left certificate.old certificate.new)
+        C.left plan.old plan.new D.left certificate.old certificate.new false)
         W.taken out.old out.new result }
     ensures reads_domain { A.failures domain.new
         ≡ A.failures domain.old + reads_failed texts.Domain result }
@@ -299,8 +390,5 @@ pub fn run_recheck<A: Source, B: Source, C: Source, D: Source, W: Sink>(
         → certificate.new ≡ certificate.old }
     ensures writes { W.failures out.new ≡ W.failures out.old + writes_failed result }
 {
-    match read_all(alloc, domain, MOST_BYTES) {
-        Ok(domain) => recheck_problem(alloc, &domain, problem, plan, certificate, out),
-        Err(fault) => reject_unread(Which::Domain, fault, out),
-    }
+    run_examine(alloc, domain, problem, plan, certificate, false, out)
 }

@@ -6,7 +6,7 @@ use hv_fixtures::{
     MIDDLE, MIDDLE_UNORDERED, ONE, PLAN1, TRANSPORT, TWO, UP_DOWN, UP_DOWN_FOR_UP,
     UP_DOWN_WITHOUT_GOAL,
 };
-use hv_judge::{Recheck, recheck};
+use hv_judge::{Recheck, examine, recheck};
 use std::test::Fail;
 
 /// The certificate of the plan of `transport`.
@@ -54,6 +54,73 @@ fn what_is_not_certified_takes_no_more(rt: HostRuntime) -> Result<(), Fail> {
         let found = recheck(alloc, domain, problem, plan, certificate)?;
         assert!(rt; !found.certified);
         assert!(rt; found.evaluated <= most);
+    }
+    Ok(())
+}
+
+const LINE_LEFT_OUT: &[u8] = b"solves\nroot children 10 objects\n\
+    10 children 11 1 12 3 objects p1 t1 a b pre 0\n12 children 2 objects t1 a b pre 1\n";
+
+const LAST_LEFT_OUT: &[u8] = b"solves\nroot children 10 objects\n\
+    10 children 11 1 12 3 objects p1 t1 a b pre 0\n11 children objects t1 a pre 0\n";
+
+const ONE_TOO_MANY: &[u8] = b"solves\nroot children 10 objects\n\
+    10 children 11 1 12 3 objects p1 t1 a b pre 0\n11 children objects t1 a pre 0\n\
+    12 children 2 objects t1 a b pre 1\n13 children objects pre 1\n";
+
+const OTHER_ROOT: &[u8] = b"solves\nroot children 11 objects\n\
+    10 children 11 1 12 3 objects p1 t1 a b pre 0\n11 children objects t1 a pre 0\n\
+    12 children 2 objects t1 a b pre 1\n";
+
+const CHILD_TWICE: &[u8] = b"solves\nroot children 10 objects\n\
+    10 children 11 1 12 12 objects p1 t1 a b pre 0\n11 children objects t1 a pre 0\n\
+    12 children 2 objects t1 a b pre 1\n";
+
+const UNKNOWN_OBJECT: &[u8] = b"solves\nroot children 10 objects\n\
+    10 children 11 1 12 3 objects p1 t1 a b pre 0\n11 children objects t9 a pre 0\n\
+    12 children 2 objects t1 a b pre 1\n";
+
+const NOT_YET_TRUE: &[u8] = b"solves\nroot children 10 objects\n\
+    10 children 11 1 12 3 objects p1 t1 a b pre 0\n11 children objects t1 a pre 0\n\
+    12 children 2 objects t1 a b pre 3\n";
+
+const TOO_EARLY: &[u8] = b"solves\nroot children 10 objects\n\
+    10 children 11 1 12 3 objects p1 t1 a b pre 0\n11 children objects t1 a pre 0\n\
+    12 children 2 objects t1 a b pre 0\n";
+
+// Ids first, then what a line says by itself, then the order, for which the line of the method is told.
+#[test]
+fn the_line_that_does_not_fit(rt: HostRuntime) -> Result<(), Fail> {
+    let alloc = rt.alloc();
+    for (certificate, line) in [
+        (LINE_LEFT_OUT, 4),
+        (LAST_LEFT_OUT, 5),
+        (ONE_TOO_MANY, 6),
+        (OTHER_ROOT, 2),
+        (CHILD_TWICE, 3),
+        (UNKNOWN_OBJECT, 4),
+        (NOT_YET_TRUE, 5),
+        (TOO_EARLY, 3),
+    ] {
+        let found = examine(alloc, TRANSPORT, ONE, PLAN1, certificate)?;
+        assert!(rt; !found.recheck.certified);
+        assert_eq!(rt; found.misfit, Some(line));
+    }
+    Ok(())
+}
+
+// A right certificate, and plans that none helps.
+#[test]
+fn no_line_that_does_not_fit(rt: HostRuntime) -> Result<(), Fail> {
+    let alloc = rt.alloc();
+    for (domain, problem, plan, certificate) in [
+        (TRANSPORT, ONE, PLAN1, DELIVERED.as_bytes()),
+        (TWO, UP_DOWN, DOWN_THEN_UP, ONE_THEN_TWO),
+        (TWO, UP_DOWN, TWO_PARENTS, ONE_THEN_TWO),
+        (TWO, UP_DOWN_FOR_UP, UP_THEN_DOWN, ONE_THEN_TWO),
+    ] {
+        let found = examine(alloc, domain, problem, plan, certificate)?;
+        assert_eq!(rt; found.misfit, None);
     }
     Ok(())
 }

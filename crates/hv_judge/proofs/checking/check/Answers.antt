@@ -40,7 +40,7 @@ returns-clause-ok c =
     spelled c.args.domain.now c.args.problem.now c.args.plan.now 0
     (world_view c.in_ok-world.world) (plan_view c.in_ok-plan.plan)
     (sym c.first_too_long.ensures ∙ c.in_default.is) c.in_ok-world.ensures.ok
-    c.in_ok-plan.ensures.ok (λ w q. Tells (SolvesBy w q c.args.certificate.now) c.in_ok-found.found.certified) c.in_ok-found.ensures.certified
+    c.in_ok-plan.ensures.ok (λ w q. Tells (SolvesBy w q c.args.certificate.now) c.in_ok-found.found.recheck.certified) c.in_ok-found.ensures.certified
 
 pub returns-in_err-found-clause-err : goal.returns-in_err-found-clause-err
 returns-in_err-found-clause-err c =

@@ -4,10 +4,13 @@ use Rattle.hv_judge.proofs.rechecking.check_text.Goals as goal
 
 pub returns-clause-ok : goal.returns-clause-ok
 returns-clause-ok c = record {
-  certificate = c.in_ok-certificate.certificate;
-  says = c.in_ok-certificate.ensures.ok;
-  certified = c.in_ok-check_plan.ensures.certified;
-  evaluated = c.in_ok-check_plan.ensures.evaluated;
+  is_recheck = record {
+    certificate = c.in_ok-certificate.certificate;
+    says = c.in_ok-certificate.ensures.ok;
+    certified = c.in_ok-check_plan.ensures.certified;
+    evaluated = c.in_ok-check_plan.ensures.evaluated;
+  };
+  line = c.in_ok-check_plan.ensures.line;
 }
 
 pub returns-in_err-certificate-clause-err : goal.returns-in_err-certificate-clause-err

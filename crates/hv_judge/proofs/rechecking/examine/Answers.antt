@@ -4,11 +4,11 @@ use Rattle.hv_world.specs.WorldViews.{world_view}
 use Rattle.hv_plan.specs.LineViews.{plan_view}
 use Rattle.hv_text.specs.declared.fault.TheConstants.{MOST_BYTES}
 use Rattle.hv_answer.specs.declared.answer.Which.TheVariants as which
-use Rattle.hv_judge.specs.Checked.{IsRecheckOf, IsRejectedOfFour, too_long, certificate_too_long}
+use Rattle.hv_judge.specs.Checked.{IsExaminedOf, IsRejectedOfFour, too_long, certificate_too_long}
 use Rattle.hv_judge.specs.inside.Ends.{plan_end}
 use Rattle.hv_judge.proofs.RecheckLemmas.{judged_ends, ends_as, finds_as}
 use Rattle.hv_judge.proofs.JudgementLemmas.{pair_rejected, plan_rejected, spelled}
-use Rattle.hv_judge.proofs.rechecking.recheck.Goals as goal
+use Rattle.hv_judge.proofs.rechecking.examine.Goals as goal
 
 pub returns-clause-ok : goal.returns-clause-ok
 returns-clause-ok c =
@@ -17,7 +17,7 @@ returns-clause-ok c =
     (λ found is. spelled c.args.domain.now c.args.problem.now c.args.plan.now 0
     (world_view c.in_ok-world.world) (plan_view c.in_ok-plan.plan)
     (sym c.first_too_long.ensures ∙ c.in_default.is) c.in_ok-world.ensures.ok
-    c.in_ok-plan.ensures.ok (IsRecheckOf c.args.certificate.now found) is)
+    c.in_ok-plan.ensures.ok (IsExaminedOf c.args.certificate.now found) is)
     c.check_text.ensures.ok
 
 pub returns-clause-err : goal.returns-clause-err

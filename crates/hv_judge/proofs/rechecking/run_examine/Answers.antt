@@ -2,7 +2,7 @@ use Rattle.std.proofs.Common.{refl}
 use Rattle.hv_answer.specs.declared.answer.Which.TheVariants as texts
 use Rattle.hv_judge.proofs.RunLemmas.{wrote_as, from_read, from_unread, halted_as}
 use Rattle.hv_judge.proofs.RecheckLemmas.{halt_read, halt_unread}
-use Rattle.hv_judge.proofs.rechecking.run_recheck.Goals as goal
+use Rattle.hv_judge.proofs.rechecking.run_examine.Goals as goal
 
 pub returns-in-Ok-clause-wrote : goal.returns-in-Ok-clause-wrote
 returns-in-Ok-clause-wrote g c =
