@@ -146,9 +146,9 @@ fn is_candidate_by(
     )
 }
 
-/// Whether these are a candidate of a node, tested in this room: for each subtask in written order the place of its
-/// child among the node's children, and for each parameter of the method its object. Nothing is
-/// searched. Err only for want of memory.
+/// Whether these are a candidate of a node, tested in this room: for each subtask in written order
+/// the place of its child among the node's children, and for each parameter of the method its
+/// object. Nothing is searched. Err only for want of memory.
 pub fn is_candidate(
     room: &mut Room,
     world: &World<'_>,

@@ -4,9 +4,10 @@ use crate::name::Name;
 use crate::refusal::Memory;
 use std::alloc::Global;
 
-/// For each of some names two places where it may stand in a list, by a hash that is cheap. A place is
-/// looked at before it is taken, and a name that stands at neither is looked up in a table: so nothing
-/// hangs on the hash but time, and where a text makes names collide, two looks are lost for each.
+/// For each of some names two places where it may stand in a list, by a hash that is cheap. A place
+/// is looked at before it is taken, and a name that stands at neither is looked up in a table: so
+/// nothing hangs on the hash but time, and where a text makes names collide, two looks are lost for
+/// each.
 #[derive(Drop)]
 pub struct Hints {
     buckets: Vec<[u32; 2]>,
@@ -21,7 +22,8 @@ fn hash_of(name: Name<'_>) -> u64 {
     hash
 }
 
-// Puts a place into a bucket; the second gives way where both are taken.
+// Puts a place into a bucket, where 0 also says that nothing was put there. The second gives way
+// where both are taken.
 fn put(bucket: &mut [u32; 2], place: u32) {
     if bucket[0] == 0 {
         bucket[0] = place;

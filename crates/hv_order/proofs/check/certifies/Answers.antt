@@ -1,1 +1,0 @@
-use Rattle.hv_order.proofs.check.certifies.Goals as goal
