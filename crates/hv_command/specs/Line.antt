@@ -25,13 +25,9 @@ file_rule id = record (new_rule id) { required = true }
 abbrev pub limit_rule : Rule
 limit_rule = record (new_rule (codes "limit")) { long = Some (codes "limit"); defaults = codes "1000000" ∷ []; parser = Some (parser.Unsigned 0 18446744073709551615) }
 
--- `--explain`
-abbrev pub explain_rule : Rule
-explain_rule = record (new_rule (codes "explain")) { long = Some (codes "explain"); action = Some SetTrue }
-
--- `--misfit`
-abbrev pub misfit_rule : Rule
-misfit_rule = record (new_rule (codes "misfit")) { long = Some (codes "misfit"); action = Some SetTrue }
+-- a flag, as `--explain`
+abbrev pub flag_rule : Text → Rule
+flag_rule id = record (new_rule id) { long = Some id; action = Some SetTrue }
 
 -- a command, given the files of a domain, a problem and a plan
 abbrev pub with_plan_rules : App → App
@@ -39,11 +35,11 @@ with_plan_rules app = with_rule (with_rule (with_rule app (file_rule (codes "dom
 
 -- `judge [--limit N] [--explain] DOMAIN PROBLEM PLAN`
 abbrev pub judge_line : App
-judge_line = with_plan_rules (with_rule (with_rule (new_app (command_of Judge)) limit_rule) explain_rule)
+judge_line = with_plan_rules (with_rule (with_rule (new_app (command_of Judge)) limit_rule) (flag_rule (codes "explain")))
 
 -- `recheck [--misfit] DOMAIN PROBLEM PLAN CERTIFICATE`
 abbrev pub recheck_line : App
-recheck_line = with_rule (with_plan_rules (with_rule (new_app (command_of Recheck)) misfit_rule)) (file_rule (codes "certificate"))
+recheck_line = with_rule (with_plan_rules (with_rule (new_app (command_of Recheck)) (flag_rule (codes "misfit")))) (file_rule (codes "certificate"))
 
 -- `print-domain FILE` and its like
 abbrev pub print_line : Text → App

@@ -3,7 +3,7 @@
 ghost use Rattle.std.specs.Prelude.{◌≡◌, ◌↔◌, ◌∷◌, [], codes, map, IfOk, IfSome, Some, true, false, string_bytes};
 ghost use Rattle.clap.specs.Words.{app_of, subcommand_of, rule_of, rows_of, found_of, first_of, with_rule, with_subcommand};
 ghost use Rattle.clap.specs.declared.builder.command.Command.TheViews.{out-Command};
-ghost use Rattle.hv_command.specs.Line.{line, judge_line, recheck_line, print_line, limit_rule, explain_rule, misfit_rule, file_rule, with_plan_rules, command_of, file_arguments, HasFiles, HasLimit, IsGiven, HasOptions, IsJobOf};
+ghost use Rattle.hv_command.specs.Line.{line, judge_line, recheck_line, print_line, limit_rule, flag_rule, file_rule, with_plan_rules, command_of, file_arguments, HasFiles, HasLimit, IsGiven, HasOptions, IsJobOf};
 
 use crate::help;
 use crate::task::{Job, JobFault, Mode};
@@ -21,23 +21,13 @@ fn limit_arg<'a>(alloc: Global) -> Arg<'a>
         .value_parser(clap::value_parser!(u64))
 }
 
-fn explain_arg<'a>(alloc: Global) -> Arg<'a>
-    ensures rule { rule_of result ≡ explain_rule }
+fn flag_arg<'a>(alloc: Global, id: &'a str, help: &'a str) -> Arg<'a>
+    ensures rule { rule_of result ≡ flag_rule id.entry.now }
     ensures local { result.global ≡ false }
 {
-    Arg::new(alloc, "explain")
-        .long("explain")
-        .help(help::EXPLAIN)
-        .action(ArgAction::SetTrue)
-}
-
-fn misfit_arg<'a>(alloc: Global) -> Arg<'a>
-    ensures rule { rule_of result ≡ misfit_rule }
-    ensures local { result.global ≡ false }
-{
-    Arg::new(alloc, "misfit")
-        .long("misfit")
-        .help(help::MISFIT)
+    Arg::new(alloc, id)
+        .long(id)
+        .help(help)
         .action(ArgAction::SetTrue)
 }
 
@@ -91,7 +81,7 @@ fn judge_command<'a>(alloc: Global) -> Result<Command<'a>, AllocError>
         .about(help::JUDGE)
         .after_help(help::JUDGE_END);
     let command = with_arg(command, limit_arg(alloc))?;
-    let command = with_arg(command, explain_arg(alloc))?;
+    let command = with_arg(command, flag_arg(alloc, "explain", help::EXPLAIN))?;
     let command = with_plan_args(alloc, command)?;
     Ok(command)
 }
@@ -103,7 +93,7 @@ fn recheck_command<'a>(alloc: Global) -> Result<Command<'a>, AllocError>
     let command = Command::new(alloc, "recheck")
         .about(help::RECHECK)
         .after_help(help::RECHECK_END);
-    let command = with_arg(command, misfit_arg(alloc))?;
+    let command = with_arg(command, flag_arg(alloc, "misfit", help::MISFIT))?;
     let command = with_plan_args(alloc, command)?;
     let command = with_arg(
         command,

@@ -89,10 +89,8 @@ pub fn recheck<'s>(
     ensures err { IfErr result (IsRecheckFault
         domain.entry.now problem.entry.now plan.entry.now certificate.entry.now) }
 {
-    match examine(alloc, domain, problem, plan, certificate) {
-        Ok(found) => Ok(found.recheck),
-        Err(fault) => Err(fault),
-    }
+    let found = examine(alloc, domain, problem, plan, certificate)?;
+    Ok(found.recheck)
 }
 
 /// What was said of a certificate.
