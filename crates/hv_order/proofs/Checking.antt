@@ -1,10 +1,8 @@
 -- What the check of a certificate finds: a certificate certifies the plan exactly where its lines are
 -- those of the plan, what it says of each node is right, and all nodes keep the rules.
-use Rattle.std.proofs.Common.{◌≡◌, ℕ, zero, suc, ◌<◌, ◌≤◌, ◌⊎◌, inl, inr, List, [], ◌∷◌, Option, Some, None, true, length, drop, slice_get, refl, sym, ap, ◌∙◌, subst, arith, Contains}
+use Rattle.std.proofs.Common.{◌≡◌, ℕ, zero, suc, ◌<◌, ◌≤◌, ◌⊎◌, inl, inr, List, [], ◌∷◌, Some, None, true, length, drop, slice_get, refl, sym, ap, ◌∙◌, subst, arith, Contains}
 use Rattle.std.specs.Prelude.{slice_index}
 use Rattle.std.specs.List.{AllZip}
-use Rattle.std.proofs.lemmas.Option.{slice_get_within}
-use Rattle.hv_lists.proofs.Places.{member_at}
 use Rattle.hv_lists.proofs.Pairs.{same_length, paired_at}
 use Rattle.hv_world.specs.Orders.{Before, IsDirect}
 use Rattle.hv_world.specs.Worlds.{Method}
@@ -17,21 +15,20 @@ use Rattle.hv_order.specs.Sequences.{HasSequenceAt, index_in}
 use Rattle.hv_order.specs.Schedules.{IsSchedule}
 use Rattle.hv_order.specs.Certificates.{subtask_start, AreFinishes, KeepsRules}
 use Rattle.hv_order.specs.Settings.{Setting, last, child_for, HoldsAt, AmountsTo}
-use Rattle.hv_order.specs.Certified.{IsChildId, IsNameOf, Says, SaysLine, Certifies, line_numbers}
+use Rattle.hv_order.specs.Certified.{IsChildId, Says, SaysLine, Certifies, line_numbers}
 use Rattle.hv_order.specs.inside.PlanFacts.{IsSetting, OfMethod}
 use Rattle.hv_order.specs.inside.Checks as checks
 use Rattle.hv_order.specs.Misfits.{IsPart}
-use Rattle.hv_order.specs.inside.Checks.{HasIdOf, HasLines, ArePlaces, binding_of, AreEntries, AreRight, finish_in, child_at, KeepsDirect, KeepsNode, KeepAll}
+use Rattle.hv_order.specs.inside.Checks.{HasIdOf, HasLines, ArePlaces, matching_in, AreEntries, AreRight, finish_in, child_at, KeepsDirect, KeepsNode, KeepAll}
 use Rattle.hv_certificate.specs.declared.certificate.Choice.{Choice}
 use Rattle.hv_certificate.specs.declared.certificate.Certificate.{Certificate}
-use Rattle.hv_order.specs.declared.entries.Entry.{Entry}
 use Rattle.hv_order.proofs.Certificates.{check_law, same_schedule}
 use Rattle.hv_order.proofs.Indices.{index_law}
 use Rattle.hv_order.proofs.Deciding.{meaning_of}
 use Rattle.hv_order.proofs.NodeParts.{IsCandidateHere, candidate_here, is_candidate_at, children_are, method_is, of_method, from_method, sound_network, order_decided, truth_decided, matching, order_count, meanings_are_orders}
 use Rattle.hv_order.proofs.OrderChains.{before_within, direct_before, chained}
 use Rattle.hv_order.proofs.RootNode.{always}
-use Rattle.hv_order.proofs.ToldApart.{one_stand, same_firsts, one_child_id, one_object}
+use Rattle.hv_order.proofs.ToldApart.{one_stand, same_firsts, one_child_id}
 use Rattle.hv_order.proofs.TreeLines.{below_root, within_order}
 use Rattle.hv_order.proofs.Writing.{zip_weaker}
 
@@ -57,15 +54,6 @@ in_lines t i v e = by t.order e
     by : (xs : List ℕ) → slice_get xs (suc i) ≡ Some v → slice_get (drop 1 xs) i ≡ Some v
     by [] f = absurd (let clash : None ≡ Some v = f in cc)
     by (x ∷ xs) f = f
-
--- the places of a node's children for its subtasks, and its objects, by its entry
-abbrev matching_in : Option Entry → List ℕ
-matching_in None = []
-matching_in (Some e) = e.places.items
-
-abbrev binding_in : Option Entry → List ℕ
-binding_in None = []
-binding_in (Some e) = binding_of e
 
 module _ (q : Setting) (is : IsSetting q) where
   root_is : root_number q.tree ≡ is.tree.is_tree.root
@@ -204,203 +192,181 @@ module _ (q : Setting) (is : IsSetting q) where
   in_tree v lt = omega (arith, lt)
 
   -- where lines, entries and rules are right, it is a certificate
-  module _ (c : Certificate) (ps : List ℕ) (es : List Entry) (fs : List ℕ) (places : ArePlaces q.tree ps) (are : AreEntries q c ps es)
-      (fin : AreFinishes (tree_of q.tree) (checks.index_in es) (finish_in fs)) where
+  module _ (c : Certificate) (ps : List ℕ) (Ms : List (List ℕ)) (ks fs : List ℕ) (places : ArePlaces q.tree ps) (are : AreEntries q c ps Ms ks)
+      (fin : AreFinishes (tree_of q.tree) (slice_index ks) (finish_in fs)) where
     abbrev at : ℕ → ℕ
-    at v = checks.index_in es v
+    at = slice_index ks
 
-    entry_at : (v : ℕ) → v < length q.tree.nodes → (e : Entry) × (slice_get es v ≡ Some e)
-    entry_at v lt = member_at es v (omega (arith, lt, are.as_many))
+    abbrev matching_at : ℕ → List ℕ
+    matching_at = matching_in Ms
 
-    pub at_is : (v : ℕ) (e : Entry) → slice_get es v ≡ Some e → at v ≡ e.at
-    at_is v e f = ap checks.at_of f
+    root_entry : (s : Choice) → IsPart c (slice_index ps (root_number q.tree)) s (at (root_number q.tree)) → (s ≡ c.root) × (at (root_number q.tree) ≡ 0)
+    root_entry s part = let P : ℕ → Type 0 = λ k. IsPart c k s (at (root_number q.tree)) in subst P (root_place ps places) part
 
     root_at : at (root_number q.tree) ≡ 0
-    root_at =
-        let (e, f) = entry_at (root_number q.tree) root_below in
-        let w = are.each (root_number q.tree) e f in
-        let P : ℕ → Type 0 = λ k. IsPart c k w.choice e.at in
-        at_is (root_number q.tree) e f ∙ (subst P (root_place ps places) w.part).1
+    root_at = let w = are.each (root_number q.tree) root_below in (root_entry w.choice w.part).1
 
     pub spans : (x : Item) → subtask_start at x ≤ finish_in fs x
     spans (Act k) = omega arith
     spans (Task v) = fin.own v
     spans (Pre v) = omega arith
 
-    module _ (lines : HasLines q.tree c) (keep : KeepAll q.plan.world q.tree es fs (last q)) where
-      abbrev meaning_by : (v : ℕ) (o : Option Entry) → slice_get es v ≡ o → Meaning
-      meaning_by v None f = free_meaning
-      meaning_by v (Some e) f = (meant v e.places.items (binding_of e) (candidate_here q v e.places.items (binding_of e) (are.each v e f).right.candidate)).0
+    line_entry : (i v : ℕ) (s : Choice) (l : ℕ × Choice × ℕ) → slice_index ps v ≡ suc i → slice_get c.lines.items i ≡ Some l → IsPart c (slice_index ps v) s (at v)
+        → (s ≡ l.1) × (l.2 ≡ at v)
+    line_entry i v s l place at_l part =
+        let P : ℕ → Type 0 = λ k. IsPart c k s (at v) in
+        let (number, there) = subst P place part in
+        let both : Some (number, s, at v) ≡ Some l = sym there ∙ at_l in
+        let same : (number, s, at v) ≡ l = cc in
+        (ap (λ (x : ℕ × Choice × ℕ). x.1) same, ap (λ (x : ℕ × Choice × ℕ). x.2) (sym same))
+
+    module _ (lines : HasLines q.tree c) (keep : KeepAll q.plan.world q.tree Ms ks fs (last q)) where
+      abbrev Bound : ℕ → Type 0
+      Bound v = (v < length q.tree.nodes) ⊎ (length q.tree.nodes ≤ v)
+
+      bound : (v : ℕ) → Bound v
+      bound v = by v (length q.tree.nodes)
+        where
+          by : (v n : ℕ) → (v < n) ⊎ (n ≤ v)
+          by v n = grind arith
+
+      abbrev binding_by : (v : ℕ) → Bound v → List ℕ
+      binding_by v (inl lt) = (are.each v lt).binding
+      binding_by v (inr past) = []
+
+      abbrev binding_at : ℕ → List ℕ
+      binding_at v = binding_by v (bound v)
+
+      candidate_at : (v : ℕ) (lt : v < length q.tree.nodes) → IsCandidateHere q v (matching_at v) (are.each v lt).binding
+      candidate_at v lt = candidate_here q v (matching_at v) (are.each v lt).binding (are.each v lt).right.candidate
+
+      abbrev meaning_by : (v : ℕ) → Bound v → Meaning
+      meaning_by v (inl lt) = (meant v (matching_at v) (are.each v lt).binding (candidate_at v lt)).0
+      meaning_by v (inr past) = free_meaning
 
       abbrev meaning_at : ℕ → Meaning
-      meaning_at v = meaning_by v (slice_get es v) refl
+      meaning_at v = meaning_by v (bound v)
 
       abbrev choice : meanings.Choice
       choice = record { root = meaning_at (root_number q.tree); line = meaning_at }
 
-      amounts_by : (v : ℕ) (o : Option Entry) (f : slice_get es v ≡ o) → v < length q.tree.nodes → AmountsTo q v (matching_in o) (binding_in o) (meaning_by v o f)
-      amounts_by v None f lt = absurd (let (e, g) = entry_at v lt in let clash : None ≡ Some e = sym f ∙ g in cc)
-      amounts_by v (Some e) f lt = (meant v e.places.items (binding_of e) (candidate_here q v e.places.items (binding_of e) (are.each v e f).right.candidate)).1
+      amounts_by : (v : ℕ) (o : Bound v) → v < length q.tree.nodes → AmountsTo q v (matching_at v) (binding_by v o) (meaning_by v o)
+      amounts_by v (inl lt) less = (meant v (matching_at v) (are.each v lt).binding (candidate_at v lt)).1
+      amounts_by v (inr past) less = absurd (omega (arith, past, less))
 
-      amounts : (v : ℕ) → v < length q.tree.nodes → AmountsTo q v (matching_in (slice_get es v)) (binding_in (slice_get es v)) (meaning_at v)
-      amounts v lt = amounts_by v (slice_get es v) refl lt
-
-      rules_of : (v : ℕ) (lt : v < length q.tree.nodes) → KeepsDirect es fs (children_at q.tree.nodes v) (matching_in (slice_get es v)) (amounts v lt).method.network.order
-      rules_of v lt =
-          let (e, f) = entry_at v lt in
-          let a = amounts v lt in
-          let P : List ℕ → Type 0 = λ M. KeepsDirect es fs (children_at q.tree.nodes v) M a.method.network.order in
-          subst P (sym (ap matching_in f)) ((keep.nodes v e f).order a.method (method_is q is v a.node a.has_node a.method a.has_method))
+      amounts : (v : ℕ) → v < length q.tree.nodes → AmountsTo q v (matching_at v) (binding_at v) (meaning_at v)
+      amounts v lt = amounts_by v (bound v) lt
 
       ordered_at : (v : ℕ) → v < length q.tree.nodes → (x y : Item) → (meaning_at v).before x y ≡ true → finish_in fs x ≤ subtask_start at y
-      ordered_at v lt = ordered v (matching_in (slice_get es v)) (binding_in (slice_get es v)) (meaning_at v) (amounts v lt) at (finish_in fs) spans (rules_of v lt)
+      ordered_at v lt =
+          let a = amounts v lt in
+          ordered v (matching_at v) (binding_at v) (meaning_at v) a at (finish_in fs) spans ((keep.nodes v lt).order a.method (method_is q is v a.node a.has_node a.method a.has_method))
+
+      holds_by : (v : ℕ) (o : Bound v) → v < length q.tree.nodes → OfMethod q v (λ x. HoldsAt q x (binding_by v o) (at v))
+      holds_by v (inl lt) less = (are.each v lt).right.holds
+      holds_by v (inr past) less = absurd (omega (arith, past, less))
 
       rules : KeepsRules (tree_of q.tree) choice at (finish_in fs) (last q)
       rules = record {
-        holds = λ v r. holds v (in_tree v (below v r));
-        from = λ v x r m. from v x (in_tree v (below v r)) m;
+        holds = λ v r. let lt = in_tree v (below v r) in true_of v (matching_at v) (binding_at v) (meaning_at v) (amounts v lt) (at v) (holds_by v (bound v) lt);
+        from = λ v x r m. (keep.nodes v (in_tree v (below v r))).behind x m;
         order = λ v x y r m k h. ordered_at v (in_tree v (below v r)) x y h;
         until = λ x m. let a = fin.child (root_number q.tree) x m in let b = keep.until in omega (arith, a, b);
         root_order = λ x y m k h. ordered_at (root_number q.tree) root_below x y h;
       }
-        where
-          holds : (v : ℕ) → v < length q.tree.nodes → (meaning_at v).true_at (at v) ≡ true
-          holds v lt =
-              let (e, f) = entry_at v lt in
-              let P : List ℕ → Type 0 = λ B. OfMethod q v (λ x. HoldsAt q x B (at v)) in
-              let Q : ℕ → Type 0 = λ k. OfMethod q v (λ x. HoldsAt q x (binding_of e) k) in
-              true_of v (matching_in (slice_get es v)) (binding_in (slice_get es v)) (meaning_at v) (amounts v lt) (at v)
-              (subst P (sym (ap binding_in f)) (subst Q (sym (at_is v e f)) (are.each v e f).right.holds))
 
-          from : (v : ℕ) (x : Item) → v < length q.tree.nodes → Contains (children_at q.tree.nodes v) x → at v ≤ subtask_start at x
-          from v x lt m =
-              let (e, f) = entry_at v lt in
-              let P : ℕ → Type 0 = λ k. k ≤ subtask_start at x in
-              subst P (sym (at_is v e f)) ((keep.nodes v e f).behind x m)
+      record IsSaid (v : ℕ) (B : List ℕ) : Type 0 where
+        said : Choice
+        part : IsPart c (slice_index ps v) said (at v)
+        says : Says q v (matching_at v) B said
 
-      says_at : (v : ℕ) (e : Entry) (f : slice_get es v ≡ Some e) → Says q v (matching_in (slice_get es v)) (binding_in (slice_get es v)) (are.each v e f).choice
-      says_at v e f = rw f (are.each v e f).right.says
+      said_by : (v : ℕ) (o : Bound v) → v < length q.tree.nodes → IsSaid v (binding_by v o)
+      said_by v (inl lt) less = record { said = (are.each v lt).choice; part = (are.each v lt).part; says = (are.each v lt).right.says }
+      said_by v (inr past) less = absurd (omega (arith, past, less))
 
       says_line : (i v : ℕ) (l : ℕ × Choice × ℕ) → slice_get (line_numbers q.tree) i ≡ Some v → slice_get c.lines.items i ≡ Some l → HasIdOf q.tree v l
-          → SaysLine q (λ v. matching_in (slice_get es v)) (λ v. binding_in (slice_get es v)) at v l
+          → SaysLine q matching_at binding_at at v l
       says_line i v l at_v at_l id =
-          let lt = within_order q.plan.world q.tree is.tree (suc i) v (behind_root q.tree i v at_v) in
-          let (e, f) = entry_at v lt in
-          let w = are.each v e f in
-          let P : ℕ → Type 0 = λ k. IsPart c k w.choice e.at in
-          let (number, there) = subst P (line_place ps places i v at_v) w.part in
-          let both : Some (number, w.choice, e.at) ≡ Some l = sym there ∙ at_l in
-          let same : (number, w.choice, e.at) ≡ l = cc in
-          let Q : Choice → Type 0 = λ s. Says q v (matching_in (slice_get es v)) (binding_in (slice_get es v)) s in
-          record {
-            id = id;
-            choice = subst Q (ap (λ (x : ℕ × Choice × ℕ). x.1) same) (says_at v e f);
-            index = ap (λ (x : ℕ × Choice × ℕ). x.2) (sym same) ∙ sym (at_is v e f);
-          }
+          let w = said_by v (bound v) (within_order q.plan.world q.tree is.tree (suc i) v (behind_root q.tree i v at_v)) in
+          let (choice, index) = line_entry i v w.said l (line_place ps places i v at_v) at_l w.part in
+          let Q : Choice → Type 0 = λ s. Says q v (matching_at v) (binding_at v) s in
+          record { id = id; choice = subst Q choice w.says; index = index }
+
+      says_root : Says q (root_number q.tree) (matching_at (root_number q.tree)) (binding_at (root_number q.tree)) c.root
+      says_root =
+          let w = said_by (root_number q.tree) (bound (root_number q.tree)) root_below in
+          let Q : Choice → Type 0 = λ s. Says q (root_number q.tree) (matching_at (root_number q.tree)) (binding_at (root_number q.tree)) s in
+          subst Q (root_entry w.said w.part).0 w.says
 
       pub certified : Certifies q c
       certified = record {
-        matching = λ v. matching_in (slice_get es v);
-        binding = λ v. binding_in (slice_get es v);
+        matching = matching_at;
+        binding = binding_at;
         at = at;
         choice = choice;
         root = amounts (root_number q.tree) root_below;
         nodes = λ v lt. amounts v (in_tree v lt);
         says_root = says_root;
-        says_lines = zip_each (HasIdOf q.tree) (SaysLine q (λ v. matching_in (slice_get es v)) (λ v. binding_in (slice_get es v)) at) (line_numbers q.tree) c.lines.items lines says_line;
+        says_lines = zip_each (HasIdOf q.tree) (SaysLine q matching_at binding_at at) (line_numbers q.tree) c.lines.items lines says_line;
         sequence =
             (check_law (tree_of q.tree) choice at (finish_in fs) (root_number q.tree) (last q) tree
-            (orders_all choice (λ v. matching_in (slice_get es v)) (λ v. binding_in (slice_get es v)) (amounts (root_number q.tree) root_below) (λ v lt. amounts v (in_tree v lt)))
+            (orders_all choice matching_at binding_at (amounts (root_number q.tree) root_below) (λ v lt. amounts v (in_tree v lt)))
             fin within all_actions).1 rules;
       }
-        where
-          says_root : Says q (root_number q.tree) (matching_in (slice_get es (root_number q.tree))) (binding_in (slice_get es (root_number q.tree))) c.root
-          says_root =
-              let (e, f) = entry_at (root_number q.tree) root_below in
-              let w = are.each (root_number q.tree) e f in
-              let P : ℕ → Type 0 = λ k. IsPart c k w.choice e.at in
-              let Q : Choice → Type 0 = λ s. Says q (root_number q.tree) (matching_in (slice_get es (root_number q.tree))) (binding_in (slice_get es (root_number q.tree))) s in
-              subst Q (subst P (root_place ps places) w.part).0 (says_at (root_number q.tree) e f)
 
     -- what a certificate says of a node is what its entry says
     module _ (cert : Certifies q c) where
-      record IsSame (v : ℕ) (e : Entry) : Type 0 where
-        matching_is : cert.matching v ≡ e.places.items
-        binding_is : cert.binding v ≡ binding_of e
+      one_matching : (v : ℕ) (B : List ℕ) (s : Choice) → Says q v (cert.matching v) (cert.binding v) s → Says q v (matching_at v) B s → cert.matching v ≡ matching_at v
+      one_matching v B s a b = same_firsts (IsChildId q v) (cert.matching v) (matching_at v) s.children.items (λ x y i. one_child_id q is.tree v x y i) a.children b.children
 
-      one_saying : (v : ℕ) (e : Entry) (s : Choice) → Says q v (cert.matching v) (cert.binding v) s → Says q v e.places.items (binding_of e) s → IsSame v e
-      one_saying v e s a b = record {
-        matching_is = same_firsts (IsChildId q v) (cert.matching v) e.places.items s.children.items (λ x y i. one_child_id q is.tree v x y i) a.children b.children;
-        binding_is = same_firsts (IsNameOf q) (cert.binding v) (binding_of e) s.objects.items (λ x y n. one_object q.plan.world is.sound x y n) a.objects b.objects;
-      }
+      same_root : cert.matching (root_number q.tree) ≡ matching_at (root_number q.tree)
+      same_root =
+          let w = are.each (root_number q.tree) root_below in
+          let Q : Choice → Type 0 = λ s. Says q (root_number q.tree) (matching_at (root_number q.tree)) w.binding s in
+          one_matching (root_number q.tree) w.binding c.root cert.says_root (subst Q (root_entry w.choice w.part).0 w.right.says)
 
-      same_root : (e : Entry) → slice_get es (root_number q.tree) ≡ Some e → IsSame (root_number q.tree) e
-      same_root e f =
-          let w = are.each (root_number q.tree) e f in
-          let P : ℕ → Type 0 = λ k. IsPart c k w.choice e.at in
-          let Q : Choice → Type 0 = λ s. Says q (root_number q.tree) e.places.items (binding_of e) s in
-          one_saying (root_number q.tree) e c.root cert.says_root (subst Q (subst P (root_place ps places) w.part).0 w.right.says)
-
-      record IsSameLine (v : ℕ) (e : Entry) : Type 0 where
-        is_same : IsSame v e
-        index_is : cert.at v ≡ e.at
-
-      same_line : (v : ℕ) (e : Entry) → v < root_number q.tree → slice_get es v ≡ Some e → IsSameLine v e
-      same_line v e lt f =
-          let w = are.each v e f in
+      same_line : (v : ℕ) → v < root_number q.tree → (cert.matching v ≡ matching_at v) × (cert.at v ≡ at v)
+      same_line v lt =
+          let w = are.each v (in_tree v lt) in
           let h = line_at ps places v lt in
           let (l, at_l, said) = paired_at (SaysLine q cert.matching cert.binding cert.at) (line_numbers q.tree) c.lines.items h.line v cert.says_lines h.stands in
-          let P : ℕ → Type 0 = λ k. IsPart c k w.choice e.at in
-          let (number, there) = subst P h.place w.part in
-          let both : Some (number, w.choice, e.at) ≡ Some l = sym there ∙ at_l in
-          let same : (number, w.choice, e.at) ≡ l = cc in
-          let Q : Choice → Type 0 = λ s. Says q v e.places.items (binding_of e) s in
-          record {
-            is_same = one_saying v e l.1 said.choice (subst Q (ap (λ (x : ℕ × Choice × ℕ). x.1) same) w.right.says);
-            index_is = sym said.index ∙ ap (λ (x : ℕ × Choice × ℕ). x.2) (sym same);
-          }
-
-      same_index : (v : ℕ) → Reached (tree_of q.tree) (Task v) → cert.at v ≡ at v
-      same_index v r =
-          let lt = below v r in
-          let (e, f) = entry_at v (in_tree v lt) in
-          (same_line v e lt f).index_is ∙ sym (at_is v e f)
+          let (choice, index) = line_entry h.line v w.choice l h.place at_l w.part in
+          let Q : Choice → Type 0 = λ s. Says q v (matching_at v) w.binding s in
+          (one_matching v w.binding l.1 said.choice (subst Q choice w.right.says), sym said.index ∙ index)
 
       sequence : HasSequenceAt (tree_of q.tree) cert.choice at (last q)
-      sequence = record { found = cert.sequence.found; indices = λ v r. cert.sequence.indices v r ∙ same_index v r }
+      sequence = record { found = cert.sequence.found; indices = λ v r. cert.sequence.indices v r ∙ (same_line v (below v r)).1 }
 
       kept_rules : KeepsRules (tree_of q.tree) cert.choice at (finish_in fs) (last q)
       kept_rules =
           (check_law (tree_of q.tree) cert.choice at (finish_in fs) (root_number q.tree) (last q) tree
           (orders_all cert.choice cert.matching cert.binding cert.root cert.nodes) fin within all_actions).0 sequence
 
-      node_kept : (v : ℕ) (e : Entry) (m : Meaning) → slice_get es v ≡ Some e → IsSame v e → AmountsTo q v (cert.matching v) (cert.binding v) m
+      node_kept : (v : ℕ) (m : Meaning) → cert.matching v ≡ matching_at v → AmountsTo q v (cert.matching v) (cert.binding v) m
           → ((x : Item) → Contains (children_at q.tree.nodes v) x → at v ≤ subtask_start at x)
           → ((x y : Item) → Contains (children_at q.tree.nodes v) x → Contains (children_at q.tree.nodes v) y → m.before x y ≡ true → finish_in fs x ≤ subtask_start at y)
-          → KeepsNode q.plan.world q.tree es fs v e
-      node_kept v e m f same a from rule = record {
-        behind = λ x k. let P : ℕ → Type 0 = λ i. i ≤ subtask_start at x in subst P (at_is v e f) (from x k);
+          → KeepsNode q.plan.world q.tree ks fs v (matching_at v)
+      node_kept v m same a from rule = record {
+        behind = from;
         order = λ n g.
             let method : a.method ≡ n = method_one v a.method n (method_is q is v a.node a.has_node a.method a.has_method) g in
-            let P : List ℕ → Type 0 = λ M. KeepsDirect es fs (children_at q.tree.nodes v) M n.network.order in
-            let Q : Method → Type 0 = λ n. KeepsDirect es fs (children_at q.tree.nodes v) (cert.matching v) n.network.order in
-            subst P same.matching_is (subst Q method (direct_kept v (cert.matching v) (cert.binding v) m a at (finish_in fs) spans rule));
+            let P : List ℕ → Type 0 = λ M. KeepsDirect ks fs (children_at q.tree.nodes v) M n.network.order in
+            let Q : Method → Type 0 = λ n. KeepsDirect ks fs (children_at q.tree.nodes v) (cert.matching v) n.network.order in
+            subst P same (subst Q method (direct_kept v (cert.matching v) (cert.binding v) m a at (finish_in fs) spans rule));
       }
 
-      keeps : (v : ℕ) (e : Entry) → slice_get es v ≡ Some e → (v ≡ root_number q.tree) ⊎ (v < root_number q.tree) → KeepsNode q.plan.world q.tree es fs v e
-      keeps v e f (inl same) =
-          let P : ℕ → Type 0 = λ u. slice_get es u ≡ Some e in
-          let g : slice_get es (root_number q.tree) ≡ Some e = subst P same f in
-          let Q : ℕ → Type 0 = λ u. KeepsNode q.plan.world q.tree es fs u e in
+      keeps : (v : ℕ) → (v ≡ root_number q.tree) ⊎ (v < root_number q.tree) → KeepsNode q.plan.world q.tree ks fs v (matching_at v)
+      keeps v (inl same) =
+          let Q : ℕ → Type 0 = λ u. KeepsNode q.plan.world q.tree ks fs u (matching_at u) in
           subst Q (sym same)
-          (node_kept (root_number q.tree) e cert.choice.root g (same_root e g) cert.root (λ x m. omega (arith, root_at)) (λ x y m k h. kept_rules.root_order x y m k h))
-      keeps v e f (inr lt) =
-          node_kept v e (cert.choice.line v) f (same_line v e lt f).is_same (cert.nodes v lt) (λ x m. kept_rules.from v x (reached v lt) m)
+          (node_kept (root_number q.tree) cert.choice.root same_root cert.root (λ x m. omega (arith, root_at)) (λ x y m k h. kept_rules.root_order x y m k h))
+      keeps v (inr lt) =
+          node_kept v (cert.choice.line v) (same_line v lt).0 (cert.nodes v lt) (λ x m. kept_rules.from v x (reached v lt) m)
           (λ x y m k h. kept_rules.order v x y (reached v lt) m k h)
 
-      pub keep_all : KeepAll q.plan.world q.tree es fs (last q)
+      pub keep_all : KeepAll q.plan.world q.tree Ms ks fs (last q)
       keep_all = record {
-        nodes = λ v e f. keeps v e f (root_or_line v (let lt = slice_get_within es v e f in omega (arith, lt, are.as_many)));
+        nodes = λ v lt. keeps v (root_or_line v lt);
         until = fin.least (root_number q.tree) (last q) (omega (arith, root_at)) (λ x m. kept_rules.until x m);
       }
 

@@ -1,13 +1,15 @@
 -- What is said of a node is right exactly where its places and objects are a candidate, and the
 -- precondition is true.
-use Rattle.std.proofs.Common.{◌≡◌, ℕ, zero, suc, ◌+◌, ◌<◌, ◌⊎◌, inl, inr, Bool, true, false, List, [], ◌∷◌, ◌++◌, Option, Some, None, length, map, slice_get, refl, sym, ap, ◌∙◌, subst, arith, All, length-append}
+use Rattle.std.proofs.Common.{◌≡◌, ℕ, zero, suc, ◌+◌, ◌<◌, Bool, true, false, List, [], ◌∷◌, ◌++◌, Some, length, map, slice_get, refl, sym, ap, ◌∙◌, subst, arith, All, length-append, below_more}
 use Rattle.std.specs.Prelude.{slice_index}
 use Rattle.std.specs.List.{AllZip}
-use Rattle.std.specs.Global.{Vec}
+use Rattle.std.proofs.Math.ListN.{get_or-append}
+use Rattle.std.proofs.Math.Seq.{get_or-append_seam}
 use Rattle.std.proofs.lemmas.Option.{slice_get_within}
 use Rattle.std.proofs.lemmas.List.Elements.{All-head, All-tail, All-nil, All-cons}
 use Rattle.std.proofs.lemmas.List.{length-map}
 use Rattle.hv_lists.proofs.Pairs.{same_length}
+use Rattle.hv_lists.proofs.Places.{push_front, push_last}
 use Rattle.hv_world.specs.Bindings.{object_number}
 use Rattle.hv_world.specs.Bounds.{IsSound}
 use Rattle.hv_world.specs.Worlds.{World}
@@ -20,13 +22,13 @@ use Rattle.hv_order.specs.Settings.{Setting, setting, HoldsAt}
 use Rattle.hv_order.specs.Certified.{IsChildId, IsNameOf, line_numbers}
 use Rattle.hv_order.specs.inside.PlanFacts.{OfMethod}
 use Rattle.hv_order.specs.inside.Writings.{HasId}
-use Rattle.hv_order.specs.inside.Checks.{AreObjectsOf, IsPlaceOf, ArePlacesOf, AreNamed, HasIdOf, HasLines, ArePlaces, IsRight, IsEntryFor, IsEntryOf, AreEntries, IsWrong, binding_of}
+use Rattle.hv_order.specs.inside.Checks.{AreObjectsOf, IsPlaceOf, ArePlacesOf, AreNamed, HasIdOf, HasLines, ArePlaces, IsRight, IsEntryFor, IsEntryOf, AreEntries, IsWrong, matching_in}
 use Rattle.hv_order.specs.Misfits.{IsPart}
 use Rattle.hv_certificate.specs.declared.certificate.Choice.{Choice}
 use Rattle.hv_certificate.specs.declared.certificate.Certificate.{Certificate}
-use Rattle.hv_order.specs.declared.entries.Entry.{Entry}
 use Rattle.hv_order.proofs.Checked.{told_no}
 use Rattle.hv_order.proofs.EntryLemmas.{count_lines}
+use Rattle.hv_order.proofs.Members.{not_true}
 use Rattle.hv_order.proofs.NodeParts.{candidate_here}
 use Rattle.hv_order.proofs.ToldApart.{one_object, same_firsts}
 use Rattle.hv_order.proofs.TreeLines.{child_has_id}
@@ -64,16 +66,17 @@ module _ (w : World) (t : PlanTree) (v k : ℕ) (s : Choice) where
   abbrev q : Setting
   q = setting t (states.plan w t.actions) true
 
-  pub unknown : (p : states.Plan) → p ≡ states.plan w t.actions → (o : Option (Vec ObjectId)) → AreObjectsOf w s.objects.items o → o ≡ None → IsEntryFor (setting t p true) v k s None
-  unknown p e None none f = subst (λ x. IsEntryFor (setting t x true) v k s None) (sym e) (λ M B r. none B r.says.objects)
-  unknown p e (Some os) named f = absurd (let clash : Some os ≡ None = f in cc)
+  pub unknown : (p : states.Plan) → p ≡ states.plan w t.actions → (os : List ObjectId) (b : Bool) → AreObjectsOf w s.objects.items os b → b ≡ false
+      → (M : List ℕ) → IsEntryFor (setting t p true) v k s M false
+  unknown p e os true named f N = absurd (not_true (sym f))
+  unknown p e os false none f N = subst (λ x. IsEntryFor (setting t x true) v k s N false) (sym e) (λ M B r. none B r.says.objects)
 
-  pub known : (o : Option (Vec ObjectId)) (os : Vec ObjectId) → AreObjectsOf w s.objects.items o → o ≡ Some os → AreNamed w s os.items
-  known None os none f = absurd (let clash : None ≡ Some os = f in cc)
-  known (Some xs) os named f = let same : xs ≡ os = cc in subst (λ (x : Vec ObjectId). AreNamed w s x.items) same named
+  pub known : (os : List ObjectId) (b : Bool) → AreObjectsOf w s.objects.items os b → b ≡ true → AreNamed w s.objects.items os
+  known os true named f = named
+  known os false none f = absurd (not_true f)
 
   module _ (sound : IsSound w) (n : Node) (has : slice_get t.nodes v ≡ Some n) (xs : List Item) (children : xs ≡ n.children)
-      (os : List ObjectId) (named : AreNamed w s os) (ps : List ℕ) (places : ArePlacesOf t xs s.children.items ps) where
+      (os : List ObjectId) (named : AreNamed w s.objects.items os) (ps : List ℕ) (places : ArePlacesOf t xs s.children.items ps) where
     same_places : (M : List ℕ) → AllZip (IsChildId q v) M s.children.items → M ≡ ps
     same_places M zip = same_two (IsChildId q v) (IsPlaceOf t xs) M ps s.children.items one zip places
       where
@@ -97,18 +100,18 @@ module _ (w : World) (t : PlanTree) (v k : ℕ) (s : Choice) where
         let R : List ℕ → Type 0 = λ B. OfMethod q v (λ m. HoldsAt q m B k) in
         none (subst Q second (subst P first r.candidate)) (subst R second r.holds)
 
-    pub no_candidate : (p : states.Plan) → p ≡ states.plan w t.actions → (b : Bool) → Tells (IsCandidateAt w t v ps (map object_number os)) b → b ≡ false → IsEntryFor (setting t p true) v k s None
-    no_candidate p e b tells off =
-        subst (λ x. IsEntryFor (setting t x true) v k s None) (sym e)
+    pub no_candidate : (p : states.Plan) → p ≡ states.plan w t.actions → (b : Bool) → Tells (IsCandidateAt w t v ps (map object_number os)) b → b ≡ false → (M : List ℕ) → IsEntryFor (setting t p true) v k s M false
+    no_candidate p e b tells off N =
+        subst (λ x. IsEntryFor (setting t x true) v k s N false) (sym e)
         (not_right (λ c h. told_no (IsCandidateAt w t v ps (map object_number os)) b tells off c))
 
-    pub not_there : (p : states.Plan) → p ≡ states.plan w t.actions → (b : Bool) → Tells (OfMethod (setting t p true) v (λ m. HoldsAt (setting t p true) m (map object_number os) k)) b → b ≡ false → IsEntryFor (setting t p true) v k s None
-    not_there p e b tells off =
+    not_there : (p : states.Plan) → p ≡ states.plan w t.actions → (b : Bool) → Tells (OfMethod (setting t p true) v (λ m. HoldsAt (setting t p true) m (map object_number os) k)) b → b ≡ false → (M : List ℕ) → IsEntryFor (setting t p true) v k s M false
+    not_there p e b tells off N =
         let P : states.Plan → Type 0 = λ x. Tells (OfMethod (setting t x true) v (λ m. HoldsAt (setting t x true) m (map object_number os) k)) b in
-        subst (λ x. IsEntryFor (setting t x true) v k s None) (sym e)
+        subst (λ x. IsEntryFor (setting t x true) v k s N false) (sym e)
         (not_right (λ c h. told_no (OfMethod q v (λ m. HoldsAt q m (map object_number os) k)) b (subst P e tells) off h))
 
-    pub is_right : (p : states.Plan) → p ≡ states.plan w t.actions → (a b : Bool) → Tells (IsCandidateAt w t v ps (map object_number os)) a → a ≡ true
+    is_right : (p : states.Plan) → p ≡ states.plan w t.actions → (a b : Bool) → Tells (IsCandidateAt w t v ps (map object_number os)) a → a ≡ true
         → Tells (OfMethod (setting t p true) v (λ m. HoldsAt (setting t p true) m (map object_number os) k)) b → b ≡ true → IsRight (setting t p true) v k s ps (map object_number os)
     is_right p e a b candidate on holds there =
         let P : states.Plan → Type 0 = λ x. Tells (OfMethod (setting t x true) v (λ m. HoldsAt (setting t x true) m (map object_number os) k)) b in
@@ -134,6 +137,12 @@ module _ (w : World) (t : PlanTree) (v k : ℕ) (s : Choice) where
             let P : List Item → Type 0 = λ ys. slice_get ys x ≡ Some y in
             record { node = n; has_node = has; child = y; has_child = subst P children at; stands = stands }
 
+    -- a candidate is right exactly where the precondition is true
+    pub by_truth : (p : states.Plan) → p ≡ states.plan w t.actions → (a b : Bool) → Tells (IsCandidateAt w t v ps (map object_number os)) a → a ≡ true
+        → Tells (OfMethod (setting t p true) v (λ m. HoldsAt (setting t p true) m (map object_number os) k)) b → IsEntryFor (setting t p true) v k s ps b
+    by_truth p e a true candidate on holds = (map object_number os, is_right p e a true candidate on holds refl)
+    by_truth p e a false candidate on holds = not_there p e false holds refl ps
+
 -- what is said at a place is one thing
 pub one_part : (c : Certificate) (place : ℕ) (s u : Choice) (k m : ℕ) → IsPart c place s k → IsPart c place u m → (s ≡ u) × (k ≡ m)
 one_part c zero s u k m (a, b) (d, e) = (a ∙ sym d, b ∙ sym e)
@@ -143,47 +152,50 @@ one_part c (suc i) s u k m (x, a) (y, b) =
     (ap (λ (z : ℕ × Choice × ℕ). z.1) same, ap (λ (z : ℕ × Choice × ℕ). z.2) same)
 
 module _ (q : Setting) (c : Certificate) (ps : List ℕ) where
-  pub wrong_entry : (v k place : ℕ) (s : Choice) (o : Option Entry) → v < length q.tree.nodes → slice_index ps v ≡ place → IsPart c place s k → IsEntryFor q v k s o → o ≡ None → IsWrong q c ps place
-  wrong_entry v k place s None lt is part none e = record { node = v; is_node = lt; is_place = is; choice = s; index = k; part = part; none = none }
-  wrong_entry v k place s (Some e) lt is part right f = absurd (let clash : Some e ≡ None = f in cc)
+  pub wrong_entry : (v k place : ℕ) (s : Choice) (M : List ℕ) (b : Bool) → v < length q.tree.nodes → slice_index ps v ≡ place → IsPart c place s k → IsEntryFor q v k s M b → b ≡ false
+      → IsWrong q c ps place
+  wrong_entry v k place s M true lt is part right e = absurd (not_true (sym e))
+  wrong_entry v k place s M false lt is part none e = record { node = v; is_node = lt; is_place = is; choice = s; index = k; part = part; none = none }
 
-  entry_is : (v k : ℕ) (s : Choice) (o : Option Entry) (e : Entry) → IsPart c (slice_index ps v) s k → IsEntryFor q v k s o → o ≡ Some e → IsEntryOf q c (slice_index ps v) v e
-  entry_is v k s None e part none f = absurd (let clash : None ≡ Some e = f in cc)
-  entry_is v k s (Some d) e part (right, index) f =
-      let same : d ≡ e = cc in
-      let P : ℕ → Type 0 = λ m. IsPart c (slice_index ps v) s m in
-      let Q : ℕ → Type 0 = λ m. IsRight q v m s d.places.items (binding_of d) in
-      subst (λ (x : Entry). IsEntryOf q c (slice_index ps v) v x) same (record { choice = s; part = subst P (sym index) part; right = subst Q (sym index) right })
+  entry_is : (v k : ℕ) (s : Choice) (M : List ℕ) (b : Bool) → IsPart c (slice_index ps v) s k → IsEntryFor q v k s M b → b ≡ true → IsEntryOf q c (slice_index ps v) v M k
+  entry_is v k s M true part (B, right) e = record { choice = s; binding = B; part = part; right = right }
+  entry_is v k s M false part none e = absurd (not_true e)
 
-  abbrev pub AreFirstEntries : List Entry → ℕ → Type 0
-  AreFirstEntries es k = (length es ≡ k) × ((v : ℕ) (e : Entry) → slice_get es v ≡ Some e → IsEntryOf q c (slice_index ps v) v e)
+  -- what the certificate says of the first nodes
+  pub record AreFirstEntries (Ms : List (List ℕ)) (ks : List ℕ) (n : ℕ) : Type 0 where
+    pub matchings : length Ms ≡ n
+    pub as_many : length ks ≡ n
+    pub each : (v : ℕ) → v < n → IsEntryOf q c (slice_index ps v) v (matching_in Ms v) (slice_index ks v)
 
-  pushed : (es : List Entry) (x : Entry) (v : ℕ) (y : Entry) → slice_get (es ++ x ∷ []) v ≡ Some y → (slice_get es v ≡ Some y) ⊎ ((v ≡ length es) × (x ≡ y))
-  pushed [] x zero y e = inr (refl, (let both : Some x ≡ Some y = e in cc))
-  pushed [] x (suc v) y e = absurd (let clash : None ≡ Some y = e in cc)
-  pushed (z ∷ zs) x zero y e = inl e
-  pushed (z ∷ zs) x (suc v) y e = by (pushed zs x v y e)
+  pub no_entries : AreFirstEntries [] [] 0
+  no_entries = record { matchings = refl; as_many = refl; each = λ v lt. absurd (omega (arith, lt)) }
+
+  pub entry_more : (Ms : List (List ℕ)) (ks : List ℕ) (v k : ℕ) (s : Choice) (M : List ℕ) (b : Bool) → IsPart c (slice_index ps v) s k → IsEntryFor q v k s M b → b ≡ true
+      → AreFirstEntries Ms ks v → AreFirstEntries (Ms ++ M ∷ []) (ks ++ k ∷ []) (v + 1)
+  entry_more Ms ks v k s M b part for on first = record {
+    matchings = length-append Ms (M ∷ []) ∙ ap (λ n. n + 1) first.matchings;
+    as_many = length-append ks (k ∷ []) ∙ ap (λ n. n + 1) first.as_many;
+    each = below_more (λ u. IsEntryOf q c (slice_index ps u) u (matching_in (Ms ++ M ∷ []) u) (slice_index (ks ++ k ∷ []) u)) v earlier here;
+  }
     where
-      by : (slice_get zs v ≡ Some y) ⊎ ((v ≡ length zs) × (x ≡ y)) → (slice_get (z ∷ zs) (suc v) ≡ Some y) ⊎ ((suc v ≡ length (z ∷ zs)) × (x ≡ y))
-      by (inl f) = inl f
-      by (inr (f, g)) = inr (ap suc f, g)
+      earlier : (u : ℕ) → u < v → IsEntryOf q c (slice_index ps u) u (matching_in (Ms ++ M ∷ []) u) (slice_index (ks ++ k ∷ []) u)
+      earlier u lt =
+          let matching : matching_in (Ms ++ M ∷ []) u ≡ matching_in Ms u = get_or-append Ms (M ∷ []) [] u (omega (arith, lt, first.matchings)) in
+          let index : slice_index (ks ++ k ∷ []) u ≡ slice_index ks u = push_front ks k u (omega (arith, lt, first.as_many)) in
+          let P : List ℕ → Type 0 = λ N. IsEntryOf q c (slice_index ps u) u N (slice_index (ks ++ k ∷ []) u) in
+          let Q : ℕ → Type 0 = λ i. IsEntryOf q c (slice_index ps u) u (matching_in Ms u) i in
+          subst P (sym matching) (subst Q (sym index) (first.each u lt))
 
-  pub entry_more : (es : List Entry) (v k : ℕ) (s : Choice) (o : Option Entry) (e : Entry) → IsPart c (slice_index ps v) s k → IsEntryFor q v k s o → o ≡ Some e
-      → AreFirstEntries es v → AreFirstEntries (es ++ e ∷ []) (v + 1)
-  entry_more es v k s o e part for f first = (length-append es (e ∷ []) ∙ ap (λ n. n + 1) first.0, each)
-    where
-      each : (u : ℕ) (d : Entry) → slice_get (es ++ e ∷ []) u ≡ Some d → IsEntryOf q c (slice_index ps u) u d
-      each u d at = by (pushed es e u d at)
-        where
-          by : (slice_get es u ≡ Some d) ⊎ ((u ≡ length es) × (e ≡ d)) → IsEntryOf q c (slice_index ps u) u d
-          by (inl g) = first.1 u d g
-          by (inr (g, h)) =
-              let here : v ≡ u = sym first.0 ∙ sym g in
-              let P : ℕ → Type 0 = λ n. IsEntryOf q c (slice_index ps n) n d in
-              subst P here (subst (λ (x : Entry). IsEntryOf q c (slice_index ps v) v x) h (entry_is v k s o e part for f))
+      here : IsEntryOf q c (slice_index ps v) v (matching_in (Ms ++ M ∷ []) v) (slice_index (ks ++ k ∷ []) v)
+      here =
+          let matching : matching_in (Ms ++ M ∷ []) v ≡ M = ap (matching_in (Ms ++ M ∷ [])) (sym first.matchings) ∙ get_or-append_seam Ms M [] [] in
+          let index : slice_index (ks ++ k ∷ []) v ≡ k = ap (slice_index (ks ++ k ∷ [])) (sym first.as_many) ∙ push_last ks k in
+          let P : List ℕ → Type 0 = λ N. IsEntryOf q c (slice_index ps v) v N (slice_index (ks ++ k ∷ []) v) in
+          let Q : ℕ → Type 0 = λ i. IsEntryOf q c (slice_index ps v) v M i in
+          subst P (sym matching) (subst Q (sym index) (entry_is v k s M b part for on))
 
-  pub all_entries : (es : List Entry) (k : ℕ) → k ≡ length q.tree.nodes → AreFirstEntries es k → AreEntries q c ps es
-  all_entries es k e first = record { as_many = first.0 ∙ e; each = first.1 }
+  pub all_entries : (Ms : List (List ℕ)) (ks : List ℕ) (n : ℕ) → n ≡ length q.tree.nodes → AreFirstEntries Ms ks n → AreEntries q c ps Ms ks
+  all_entries Ms ks n e first = record { as_many = first.as_many ∙ e; each = λ v lt. first.each v (omega (arith, lt, e)) }
 
 -- there is a line for each place behind the first
 pub place_there : (w : World) (t : PlanTree) (is : IsTreeIn w t) (c : Certificate) (ps : List ℕ) (v : ℕ) → HasLines t c → ArePlaces t ps → v < length t.nodes → slice_index ps v < length c.lines.items + 1

@@ -1,25 +1,23 @@
 -- Which line of a certificate does not fit, and what all of them say where each fits.
-use Rattle.std.proofs.Common.{◌≡◌, ℕ, ◌<◌, ◌≤◌, ◌⊎◌, inl, inr, List, Some, true, length, slice_get, sym, ap, subst, arith}
+use Rattle.std.proofs.Common.{◌≡◌, ℕ, ◌<◌, ◌⊎◌, inl, inr, List, Some, true, length, slice_get, sym, ap, subst, arith}
 use Rattle.std.specs.Prelude.{slice_index}
-use Rattle.std.proofs.lemmas.Option.{slice_get_within}
 use Rattle.hv_lists.proofs.Places.{member_at}
 use Rattle.hv_lists.proofs.Pairs.{same_length, paired_at}
 use Rattle.hv_world.specs.Worlds.{World, Method}
 use Rattle.hv_state.specs.Plans as states
 use Rattle.hv_plan.specs.PlanTrees.{PlanTree, children_at, tree_of}
 use Rattle.hv_order.specs.Meanings.{Meaning}
-use Rattle.hv_order.specs.Certificates.{subtask_start, AreFinishes}
+use Rattle.hv_order.specs.Certificates.{AreFinishes}
 use Rattle.hv_order.specs.Settings.{Setting, last, AmountsTo}
 use Rattle.hv_order.specs.Certified.{Says, Certifies, line_numbers}
 use Rattle.hv_order.specs.Misfits.{IsPart, AreTimes, StartInOrder, IsMisfit, other_line, no_candidate, out_of_order, too_late}
 use Rattle.hv_order.specs.inside.PlanFacts.{IsSetting}
-use Rattle.hv_order.specs.inside.Checks.{HasIdOf, HasLines, IsOtherAt, ArePlaces, IsRight, IsEntryOf, AreEntries, IsWrong, KeepsDirect, KeepsNode, KeepAll, IsLate, late_child, late_root, IfLine, IsRefused, binding_of, index_in, finish_in}
+use Rattle.hv_order.specs.inside.Checks.{HasIdOf, HasLines, IsOtherAt, ArePlaces, IsRight, AreEntries, IsWrong, KeepsDirect, KeepsNode, KeepAll, IsLate, late_child, late_root, IfLine, IsRefused, matching_in, finish_in}
 use Rattle.hv_certificate.specs.declared.certificate.Choice.{Choice}
 use Rattle.hv_certificate.specs.declared.certificate.Certificate.{Certificate}
-use Rattle.hv_order.specs.declared.entries.Entry.{Entry}
 use Rattle.hv_order.specs.declared.unfit.Unfit.{Unfit}
 use Rattle.hv_order.specs.declared.unfit.Unfit.TheVariants as unfit
-use Rattle.hv_order.proofs.Checking.{certified, keep_all, lines_of, all_right, place_is, meant, here, holds_of, direct_kept, method_one, spans, at_is}
+use Rattle.hv_order.proofs.Checking.{certified, keep_all, lines_of, all_right, place_is, meant, here, holds_of, direct_kept, method_one, spans}
 use Rattle.hv_order.proofs.EntryRights.{one_part}
 use Rattle.hv_order.proofs.NodeParts.{candidate_here, is_candidate_at, method_is}
 use Rattle.hv_order.proofs.TreeLines.{within_order}
@@ -68,70 +66,62 @@ module _ (q : Setting) (is : IsSetting q) (c : Certificate) where
     wrong_refused_as (unfit.Line place) h = wrong_refused place h
     wrong_refused_as unfit.Memory h = tt
 
-    module _ (es : List Entry) (fs : List ℕ) (are : AreEntries q c ps es) (fin : AreFinishes (tree_of q.tree) (index_in es) (finish_in fs)) where
-      times : AreTimes q c (index_in es) (finish_in fs)
+    module _ (Ms : List (List ℕ)) (ks fs : List ℕ) (are : AreEntries q c ps Ms ks) (fin : AreFinishes (tree_of q.tree) (slice_index ks) (finish_in fs)) where
+      times : AreTimes q c (slice_index ks) (finish_in fs)
       times = record { starts = starts; finishes = fin }
         where
-          starts : (place v : ℕ) → slice_get q.tree.order place ≡ Some v → (s : Choice) × IsPart c place s (index_in es v)
+          starts : (place v : ℕ) → slice_get q.tree.order place ≡ Some v → (s : Choice) × IsPart c place s (slice_index ks v)
           starts place v stands =
               let lt = within_order q.plan.world q.tree is.tree place v stands in
-              let (e, f) = member_at es v (omega (arith, lt, are.as_many)) in
-              let h = are.each v e f in
-              let P : ℕ → Type 0 = λ k. IsPart c k h.choice e.at in
-              let Q : ℕ → Type 0 = λ k. IsPart c place h.choice k in
-              (h.choice, subst Q (sym (at_is q is c ps es fs places are fin v e f)) (subst P (place_is q is ps places place v lt stands) h.part))
+              let h = are.each v lt in
+              let P : ℕ → Type 0 = λ k. IsPart c k h.choice (slice_index ks v) in
+              (h.choice, subst P (place_is q is ps places place v lt stands) h.part)
 
       -- one by which a node starts too early, or the root is over too late
-      pub late_refused : (place : ℕ) → IsLate q.plan.world q.tree es fs ps (last q) place → (Certifies q c → ⊥) × IsMisfit q c place
+      pub late_refused : (place : ℕ) → IsLate q.plan.world q.tree Ms ks fs ps (last q) place → (Certifies q c → ⊥) × IsMisfit q c place
       late_refused place late = (not_certified late, misfit late)
         where
-          not_certified : {k : ℕ} → IsLate q.plan.world q.tree es fs ps (last q) k → Certifies q c → ⊥
-          not_certified (late_child v o) cert = o.not ((keep_all q is c ps es fs places are fin cert).nodes v o.entry o.has_entry)
-          not_certified (late_root lt) cert = let until = (keep_all q is c ps es fs places are fin cert).until in omega (arith, lt, until)
+          not_certified : {k : ℕ} → IsLate q.plan.world q.tree Ms ks fs ps (last q) k → Certifies q c → ⊥
+          not_certified (late_child v o) cert = o.not ((keep_all q is c ps Ms ks fs places are fin cert).nodes v o.is_node)
+          not_certified (late_root lt) cert = let until = (keep_all q is c ps Ms ks fs places are fin cert).until in omega (arith, lt, until)
 
-          kept : (v : ℕ) (e : Entry) (m : Meaning) → AmountsTo q v e.places.items (binding_of e) m → index_in es v ≡ e.at → StartInOrder q (index_in es) (finish_in fs) v m → KeepsNode q.plan.world q.tree es fs v e
-          kept v e m a index s = record {
-            behind = λ x k. let P : ℕ → Type 0 = λ i. i ≤ subtask_start (index_in es) x in subst P index (s.from x k);
+          kept : (v : ℕ) (M B : List ℕ) (m : Meaning) → AmountsTo q v M B m → StartInOrder q (slice_index ks) (finish_in fs) v m → KeepsNode q.plan.world q.tree ks fs v M
+          kept v M B m a s = record {
+            behind = s.from;
             order = λ n g.
                 let method : a.method ≡ n = method_one q is v a.method n (method_is q is v a.node a.has_node a.method a.has_method) g in
-                let P : Method → Type 0 = λ n. KeepsDirect es fs (children_at q.tree.nodes v) e.places.items n.network.order in
-                subst P method (direct_kept q is v e.places.items (binding_of e) m a (index_in es) (finish_in fs) (spans q is c ps es fs places are fin) s.order);
+                let P : Method → Type 0 = λ n. KeepsDirect ks fs (children_at q.tree.nodes v) M n.network.order in
+                subst P method (direct_kept q is v M B m a (slice_index ks) (finish_in fs) (spans q is c ps Ms ks fs places are fin) s.order);
           }
 
-          misfit : {k : ℕ} → IsLate q.plan.world q.tree es fs ps (last q) k → IsMisfit q c k
-          misfit (late_root lt) = too_late (index_in es) (finish_in fs) times lt
-          misfit (late_child v o) = early v o.entry o.has_entry (are.each v o.entry o.has_entry) o.not
-            where
-              early : (v : ℕ) (e : Entry) → slice_get es v ≡ Some e → IsEntryOf q c (slice_index ps v) v e → (KeepsNode q.plan.world q.tree es fs v e → ⊥) → IsMisfit q c (slice_index ps v)
-              early v e f h not =
-                  let M = e.places.items in
-                  let B = binding_of e in
-                  let (m, a) = meant q is v M B (candidate_here q v M B h.right.candidate) in
-                  let index : index_in es v ≡ e.at = at_is q is c ps es fs places are fin v e f in
-                  let P : ℕ → Type 0 = λ k. IsPart c (slice_index ps v) h.choice k in
-                  out_of_order (slice_index ps v) v h.choice M B m (index_in es) (finish_in fs)
-                  (places.each v (let less = slice_get_within es v e f in omega (arith, less, are.as_many)))
-                  (subst P (sym index) h.part) h.right.says a times (λ s. not (kept v e m a index s))
+          misfit : {k : ℕ} → IsLate q.plan.world q.tree Ms ks fs ps (last q) k → IsMisfit q c k
+          misfit (late_root lt) = too_late (slice_index ks) (finish_in fs) times lt
+          misfit (late_child v o) =
+              let h = are.each v o.is_node in
+              let M = matching_in Ms v in
+              let (m, a) = meant q is v M h.binding (candidate_here q v M h.binding h.right.candidate) in
+              out_of_order (slice_index ps v) v h.choice M h.binding m (slice_index ks) (finish_in fs) (places.each v o.is_node) h.part h.right.says a times
+              (λ s. o.not (kept v M h.binding m a s))
 
-      pub certified_by : HasLines q.tree c → KeepAll q.plan.world q.tree es fs (last q) → Certifies q c
-      certified_by lines keep = certified q is c ps es fs places are fin lines keep
+      pub certified_by : HasLines q.tree c → KeepAll q.plan.world q.tree Ms ks fs (last q) → Certifies q c
+      certified_by lines keep = certified q is c ps Ms ks fs places are fin lines keep
 
 -- the same of a world and the states of its plan
-module _ (w : World) (t : PlanTree) (p : states.Plan) (of_plan : p ≡ states.plan w t.actions) (es : List Entry) (fs : List ℕ) where
+module _ (w : World) (t : PlanTree) (p : states.Plan) (of_plan : p ≡ states.plan w t.actions) (Ms : List (List ℕ)) (ks fs : List ℕ) where
   world_is : w ≡ p.world
   world_is = sym (ap (λ (x : states.Plan). x.world) of_plan)
 
   last_is : length t.actions ≡ length p.actions
   last_is = sym (ap (λ (x : states.Plan). length x.actions) of_plan)
 
-  pub late_in : (ps : List ℕ) (place : ℕ) → IsLate w t es fs ps (length t.actions) place → IsLate p.world t es fs ps (length p.actions) place
+  pub late_in : (ps : List ℕ) (place : ℕ) → IsLate w t Ms ks fs ps (length t.actions) place → IsLate p.world t Ms ks fs ps (length p.actions) place
   late_in ps place late =
-      let P : World → Type 0 = λ x. IsLate x t es fs ps (length t.actions) place in
-      let Q : ℕ → Type 0 = λ n. IsLate p.world t es fs ps n place in
+      let P : World → Type 0 = λ x. IsLate x t Ms ks fs ps (length t.actions) place in
+      let Q : ℕ → Type 0 = λ n. IsLate p.world t Ms ks fs ps n place in
       subst Q last_is (subst P world_is late)
 
-  pub keep_in : KeepAll w t es fs (length t.actions) → KeepAll p.world t es fs (length p.actions)
+  pub keep_in : KeepAll w t Ms ks fs (length t.actions) → KeepAll p.world t Ms ks fs (length p.actions)
   keep_in keep =
-      let P : World → Type 0 = λ x. KeepAll x t es fs (length t.actions) in
-      let Q : ℕ → Type 0 = λ n. KeepAll p.world t es fs n in
+      let P : World → Type 0 = λ x. KeepAll x t Ms ks fs (length t.actions) in
+      let Q : ℕ → Type 0 = λ n. KeepAll p.world t Ms ks fs n in
       subst Q last_is (subst P world_is keep)

@@ -1,5 +1,5 @@
 -- The children and the objects that a certificate names.
-use Rattle.std.proofs.Common.{◌≡◌, ℕ, zero, suc, ◌+◌, ◌<◌, Bool, true, false, List, [], ◌∷◌, ◌++◌, Option, Some, None, length, map, take, get_or, slice_get, refl, sym, ap, ◌∙◌, subst}
+use Rattle.std.proofs.Common.{◌≡◌, ℕ, zero, suc, ◌+◌, ◌<◌, Bool, true, false, List, [], ◌∷◌, ◌++◌, Option, Some, None, Result, Ok, Err, OnOk, length, map, take, get_or, slice_get, refl, sym, ap, ◌∙◌, subst}
 use Rattle.std.specs.Prelude.{bytes_eq, if◌then◌else◌}
 use Rattle.std.specs.Option.{option_map}
 use Rattle.std.specs.List.{AllZip}
@@ -23,7 +23,7 @@ use Rattle.hv_plan.proofs.Cited.{place_is}
 use Rattle.std.proofs.Common.{nat_eq, eqb-true}
 use Rattle.std.proofs.lemmas.List.Sums.{passes_at_first}
 use Rattle.hv_order.specs.inside.Writings.{IsIdOf, IsNameIn}
-use Rattle.hv_order.specs.inside.Checks.{IsPlaceIn, IsPlaceOf, ArePlacesOf}
+use Rattle.hv_order.specs.inside.Checks.{IsPlaceIn, ArePlacesIn, IsPlaceOf, ArePlacesOf}
 use Rattle.hv_order.proofs.ToldApart.{one_id}
 
 -- where an id stands in a list that has each once
@@ -40,7 +40,7 @@ is_place ids i p once e = record {
         sym (subst P (sym e) (eqb-true i (get_or ids (place_of ids i) 0) (passes_at_first (nat_eq i) ids 0 w)))
 
 -- the places of ids are those of the children that begin with them
-pub are_places : (t : PlanTree) (xs : List Item) (own ids ps : List ℕ) → AllZip (IsIdOf t) xs own → AllZip (λ p i. IsPlaceIn own i p) ps ids → ArePlacesOf t xs ids ps
+are_places : (t : PlanTree) (xs : List Item) (own ids ps : List ℕ) → AllZip (IsIdOf t) xs own → AllZip (λ p i. IsPlaceIn own i p) ps ids → ArePlacesOf t xs ids ps
 are_places t xs own [] [] zip all = tt
 are_places t xs own [] (p ∷ ps) zip all = absurd all
 are_places t xs own (i ∷ ids) [] zip all = absurd all
@@ -62,6 +62,11 @@ are_places t xs own (i ∷ ids) (p ∷ ps) zip all = (one, are_places t xs own i
           let P : ℕ → Type 0 = λ k. slice_get own x ≡ Some k in
           all.0.only x (subst P (one_id t j i y id stands) there);
     }
+
+pub are_put : {T E : Type 0} (t : PlanTree) (xs : List Item) (own seen ids ps : List ℕ) (r : Result T E) → AllZip (IsIdOf t) xs own → seen ≡ own → OnOk r (ArePlacesIn seen ids ps)
+    → OnOk r (ArePlacesOf t xs ids ps)
+are_put t xs own seen ids ps (Ok x) zip same all = are_places t xs own ids ps zip (subst (λ is. ArePlacesIn is ids ps) same all)
+are_put t xs own seen ids ps (Err e) zip same all = tt
 
 -- a name that no object has
 pub no_object : (w : World) → IsSound w → (names : List Name) (i : ℕ) (n : Name) (o : Option ObjectId) → i < length names → n ≡ get_or names i n

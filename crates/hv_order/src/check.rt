@@ -1,6 +1,6 @@
 //! The check of a certificate, node by node and without a search.
 
-ghost use Rattle.std.specs.Prelude.{◌≡◌, ◌<◌, ◌≤◌, true, length, map, IfOk, IfErr, OnOk, IfSome, MatchOption, is_none};
+ghost use Rattle.std.specs.Prelude.{◌≡◌, ◌<◌, ◌≤◌, true, length, map, slice_index, IfOk, IfErr, OnOk, IfSome, MatchOption, is_none};
 ghost use Rattle.hv_world.specs.WorldViews.{world_view};
 ghost use Rattle.hv_state.specs.Plans.{plan};
 ghost use Rattle.hv_plan.specs.BuiltTrees.{tree_view};
@@ -11,9 +11,9 @@ ghost use Rattle.hv_order.specs.Settings.{setting, HasNoPrecondition};
 ghost use Rattle.hv_order.specs.Certificates.{AreFinishes, subtask_start};
 ghost use Rattle.hv_order.specs.Certified.{Certifies, line_numbers, CountsTo};
 ghost use Rattle.hv_order.specs.Misfits.{IsMisfit};
-ghost use Rattle.hv_order.specs.inside.Checks.{ArePlaces, index_in, finish_in, child_at, IsLatest, AreOver, KeepsDirect, StartBehind, KeepsNode, KeepNodes, IsOutOfOrder, KeepAll, IsLate, IfLine, IsRefused};
+ghost use Rattle.hv_order.specs.inside.Checks.{ArePlaces, matching_in, finish_in, child_at, IsLatest, AreOver, KeepsDirect, StartBehind, KeepsNode, KeepNodes, IsOutOfOrder, KeepAll, IsLate, IfLine, IsRefused};
 
-use crate::entries::{Entry, entries, other_line, places};
+use crate::entries::{NodeEntries, entries, other_line, places};
 use crate::memory::Memory;
 use crate::node_methods::{method_of, node_of};
 use crate::unfit::Unfit;
@@ -24,13 +24,13 @@ use hv_world::{Order, World};
 use std::alloc::Global;
 
 // Where a child starts: an action in the state of its number, a node at its own index.
-fn start_of(entries: &[Entry], child: Child) -> u64
-    ensures { result ≡ subtask_start (index_in entries.now) (child_view child) }
+fn start_of(starts: &[u32], child: Child) -> u64
+    ensures { result ≡ subtask_start (slice_index starts.now) (child_view child) }
 {
     match child {
         Child::Action(action) => u64::from(action),
-        Child::Node(node) => match entries.get(node as usize) {
-            Some(entry) => u64::from(entry.at),
+        Child::Node(node) => match starts.get(node as usize) {
+            Some(start) => u64::from(*start),
             None => 0,
         },
     }
@@ -65,17 +65,17 @@ fn finishes(
     alloc: Global,
     _world: &World<'_>,
     tree: &Tree<'_, '_>,
-    entries: &[Entry],
+    starts: &[u32],
 ) -> Result<Vec<u64>, Memory>
     requires tree { IsTreeIn (world_view _world.now) (tree_view tree.now) }
-    requires as_many { length entries.now ≡ length (tree_view tree.now).nodes }
+    requires as_many { length starts.now ≡ length (tree_view tree.now).nodes }
     ensures { IfOk result (λ v. AreFinishes
-        (tree_of (tree_view tree.now)) (index_in entries.now) (finish_in v.items)) }
+        (tree_of (tree_view tree.now)) (slice_index starts.now) (finish_in v.items)) }
 {
-    let mut finishes = Vec::new(alloc);
+    let mut finishes = Vec::with_capacity(alloc, starts.len())?;
     for node in 0..tree.node_count() {
         let children = node_of(tree, node).children();
-        finishes.push(latest(&finishes, children, entries[node as usize].at))?;
+        finishes.push(latest(&finishes, children, starts[node as usize]))?;
     }
     Ok(finishes)
 }
@@ -116,17 +116,17 @@ fn are_over(
 
 // Whether each subtask starts when those directly before it are over.
 fn keeps_order(
-    entries: &[Entry],
+    starts: &[u32],
     finishes: &[u64],
     children: &[Child],
     places: &[u32],
     order: &Order,
 ) -> bool
     ensures { Tells (KeepsDirect
-        entries.now finishes.now (map child_view children.now) places.now order.now) result }
+        starts.now finishes.now (map child_view children.now) places.now order.now) result }
 {
     for subtask in 0..places.len() {
-        let start = start_of(entries, child_for(children, places, subtask));
+        let start = start_of(starts, child_for(children, places, subtask));
         if !are_over(
             finishes,
             children,
@@ -141,11 +141,11 @@ fn keeps_order(
 }
 
 // Whether none of these children starts before an index.
-fn start_behind(entries: &[Entry], children: &[Child], at: u32) -> bool
-    ensures { Tells (StartBehind entries.now (map child_view children.now) at) result }
+fn start_behind(starts: &[u32], children: &[Child], at: u32) -> bool
+    ensures { Tells (StartBehind starts.now (map child_view children.now) at) result }
 {
     for child in children {
-        if start_of(entries, *child) < u64::from(at) {
+        if start_of(starts, *child) < u64::from(at) {
             return false;
         }
     }
@@ -156,61 +156,71 @@ fn start_behind(entries: &[Entry], children: &[Child], at: u32) -> bool
 fn keeps_node(
     world: &World<'_>,
     tree: &Tree<'_, '_>,
-    entries: &[Entry],
+    entries: &NodeEntries,
     finishes: &[u64],
     node: u32,
-    entry: &Entry,
 ) -> bool
     requires tree { IsTreeIn (world_view world.now) (tree_view tree.now) }
     requires node { node < length (tree_view tree.now).nodes }
-    ensures { Tells (KeepsNode (world_view world.now) (tree_view tree.now)
-        entries.now finishes.now node entry.now) result }
+    requires as_many { length entries.now.starts.items ≡ length (tree_view tree.now).nodes }
+    ensures { Tells (KeepsNode (world_view world.now) (tree_view tree.now) entries.now.starts.items
+        finishes.now node (matching_in entries.now.matchings node)) result }
 {
+    let starts: &[u32] = &entries.starts;
     let children = node_of(tree, node).children();
     let order = method_of(world, tree, node).network().order();
-    start_behind(entries, children, entry.at)
-        && keeps_order(entries, finishes, children, &entry.places, order)
+    start_behind(starts, children, starts[node as usize])
+        && keeps_order(
+            starts,
+            finishes,
+            children,
+            entries.matchings.at(node as usize),
+            order,
+        )
 }
 
 // A node whose children do not; None where those of all nodes do.
 fn out_of_order(
     world: &World<'_>,
     tree: &Tree<'_, '_>,
-    entries: &[Entry],
+    entries: &NodeEntries,
     finishes: &[u64],
 ) -> Option<u32>
     requires tree { IsTreeIn (world_view world.now) (tree_view tree.now) }
-    requires as_many { length entries.now ≡ length (tree_view tree.now).nodes }
+    requires as_many { length entries.now.starts.items ≡ length (tree_view tree.now).nodes }
     ensures order { MatchOption result
-        (KeepNodes (world_view world.now) (tree_view tree.now) entries.now finishes.now)
-        (IsOutOfOrder (world_view world.now) (tree_view tree.now) entries.now finishes.now) }
+        (KeepNodes (world_view world.now) (tree_view tree.now)
+        entries.now.matchings entries.now.starts.items finishes.now)
+        (IsOutOfOrder (world_view world.now) (tree_view tree.now)
+        entries.now.matchings entries.now.starts.items finishes.now) }
     ensures node { IfSome result (λ v. v < length (tree_view tree.now).nodes) }
 {
     for node in 0..tree.node_count() {
-        let entry = &entries[node as usize];
-        if !keeps_node(world, tree, entries, finishes, node, entry) {
+        if !keeps_node(world, tree, entries, finishes, node) {
             return Some(node);
         }
     }
     None
 }
 
-// The place of a node that does not keep the rules, or of the root line where it is not over when the
-// plan is; None where all nodes keep them.
+// The place of a node that does not keep the rules, or of the root line where it is not over when
+// the plan is; None where all nodes keep them.
 fn late(
     world: &World<'_>,
     tree: &Tree<'_, '_>,
-    entries: &[Entry],
+    entries: &NodeEntries,
     finishes: &[u64],
     places: &[u32],
 ) -> Option<u32>
     requires tree { IsTreeIn (world_view world.now) (tree_view tree.now) }
-    requires as_many { length entries.now ≡ length (tree_view tree.now).nodes }
+    requires as_many { length entries.now.starts.items ≡ length (tree_view tree.now).nodes }
     requires places { ArePlaces (tree_view tree.now) places.now }
     ensures { MatchOption result
-        (KeepAll (world_view world.now) (tree_view tree.now) entries.now finishes.now
+        (KeepAll (world_view world.now) (tree_view tree.now)
+        entries.now.matchings entries.now.starts.items finishes.now
         (length (tree_view tree.now).actions))
-        (IsLate (world_view world.now) (tree_view tree.now) entries.now finishes.now places.now
+        (IsLate (world_view world.now) (tree_view tree.now)
+        entries.now.matchings entries.now.starts.items finishes.now places.now
         (length (tree_view tree.now).actions)) }
 {
     let root = Child::Node(tree.node_count() - 1);
@@ -250,7 +260,7 @@ fn keep_rules<'s>(
     }
     let places = places(alloc, world, tree)?;
     let entries = entries(alloc, world, tree, trace, certificate, &places, evaluated)?;
-    let finishes = finishes(alloc, world, tree, &entries)?;
+    let finishes = finishes(alloc, world, tree, &entries.starts)?;
     match late(world, tree, &entries, &finishes, &places) {
         None => Ok(()),
         Some(place) => Err(Unfit::Line(place)),

@@ -1,6 +1,6 @@
 //! What a certificate says of each node, with numbers for ids and names, where it is right.
 
-ghost use Rattle.std.specs.Prelude.{◌≡◌, ◌+◌, ◌<◌, ◌≤◌, true, false, length, map, option_map, IfOk, IfErr, OnOk, MatchOption, is_some};
+ghost use Rattle.std.specs.Prelude.{◌≡◌, ◌+◌, ◌<◌, ◌≤◌, ◌++◌, ◌∷◌, [], true, false, length, map, IfOk, IfErr, OnOk, MatchOption};
 ghost use Rattle.hv_world.specs.Bindings.{object_number};
 ghost use Rattle.hv_world.specs.WorldViews.{world_view};
 ghost use Rattle.hv_state.specs.Plans.{plan};
@@ -10,33 +10,60 @@ ghost use Rattle.hv_match.specs.Candidates.{Tells};
 ghost use Rattle.hv_order.specs.Settings.{setting, HoldsAt, HasNoPrecondition};
 ghost use Rattle.hv_order.specs.Certified.{line_numbers, CountsTo};
 ghost use Rattle.hv_order.specs.inside.PlanFacts.{OfMethod};
-ghost use Rattle.hv_order.specs.inside.Checks.{HasLines, HasLineAt, IsOtherAt, ArePlaces, IsPartAt, IsEntryFor, AreEntries, IsWrong, IfLine, AreNamed, lines_among};
+ghost use Rattle.hv_order.specs.inside.Checks.{HasLines, HasLineAt, IsOtherAt, ArePlaces, IsPartAt, IsEntryFor, AreEntries, IsWrong, IfLine, lines_among};
 
 use crate::lines::{child_id, number_at};
 use crate::memory::Memory;
-use crate::named::{objects_of, places_of};
+use crate::named::{put_objects, put_places};
 use crate::node_methods::{method_of, node_of};
 use crate::unfit::Unfit;
 use hv_certificate::{Certificate, Choice};
 use hv_match::{Room as TestRoom, is_candidate};
 use hv_plan::{Child, Tree};
 use hv_state::{BitState, Trace};
+use hv_text::Lists;
 use hv_world::{Binding, ObjectId, World};
 use std::alloc::Global;
 
-/// What a certificate says of a node: for each subtask the place of its child among the node's
-/// children, for each parameter its object, and the index of the precondition.
+/// What a certificate says of the nodes: of each the index of its precondition, and for each of its
+/// subtasks the place of its child among the node's children.
 #[derive(Drop)]
-pub struct Entry {
-    pub places: Vec<u32>,
-    pub objects: Vec<ObjectId>,
-    pub at: u32,
+pub struct NodeEntries {
+    pub starts: Vec<u32>,
+    pub matchings: Lists<u32>,
 }
 
-/// Room that is used again for one entry after another.
+impl NodeEntries {
+    // Of no nodes, with room for so many.
+    fn with_room(alloc: Global, nodes: usize) -> Result<NodeEntries, Memory>
+        ensures starts { IfOk result (λ v. v.starts.items ≡ []) }
+        ensures matchings { IfOk result (λ v. v.matchings ≡ []) }
+    {
+        Ok(NodeEntries {
+            starts: Vec::with_capacity(alloc, nodes)?,
+            matchings: Lists::with_capacity(alloc, nodes)?,
+        })
+    }
+
+    // Puts what is said of one more node behind the others.
+    fn push(&mut self, start: u32, matching: &[u32]) -> Result<(), Memory>
+        ensures starts { OnOk result
+            (self.new.starts.items ≡ self.old.starts.items ++ start ∷ []) }
+        ensures matchings { OnOk result
+            (self.new.matchings ≡ self.old.matchings ++ matching.now ∷ []) }
+    {
+        self.starts.push(start)?;
+        self.matchings.push(matching)?;
+        Ok(())
+    }
+}
+
+/// Room that is used again for one node after another.
 #[derive(Drop)]
 struct Room {
     ids: Vec<u64>,
+    places: Vec<u32>,
+    objects: Vec<ObjectId>,
     tested: TestRoom,
 }
 
@@ -48,8 +75,8 @@ pub struct Part<'a, 's> {
     pub at: u32,
 }
 
-// Whether a certificate's line for a place in the order of nodes begins with the id of the decomposition
-// line that stands there.
+// Whether a certificate's line for a place in the order of nodes begins with the id of the
+// decomposition line that stands there.
 fn has_line(
     _world: &World<'_>,
     tree: &Tree<'_, '_>,
@@ -70,7 +97,8 @@ fn has_line(
 }
 
 /// The first place in the order of nodes at which a certificate has not the line of a decomposition
-/// line, or a line and the plan has none; None where it has a line for each, in the order of the text.
+/// line, or a line and the plan has none; None where it has a line for each, in the order of the
+/// text.
 pub(crate) fn other_line(
     world: &World<'_>,
     tree: &Tree<'_, '_>,
@@ -168,8 +196,9 @@ fn holds(
     trace.holds_at(index, method.precondition(), &Binding::Given(objects))
 }
 
-// The entry of a node, where the objects that are said of it are known.
-fn entry_with<'s>(
+// Puts what is said of a node into a room. False where that is no candidate, or its precondition is
+// not true at its index.
+fn put_entry<'s>(
     alloc: Global,
     room: &mut Room,
     world: &World<'s>,
@@ -177,72 +206,39 @@ fn entry_with<'s>(
     trace: &Trace<'_, '_, BitState>,
     node: u32,
     said: Part<'_, 's>,
-    objects: Vec<ObjectId>,
     evaluated: &mut u64,
-) -> Result<Option<Entry>, Memory>
+) -> Result<bool, Memory>
     requires top { HasNoPrecondition (world_view world.now) }
     requires tree { IsTreeIn (world_view world.now) (tree_view tree.now) }
     requires trace { trace.now ≡ plan (world_view world.now) (tree_view tree.now).actions }
     requires small { length (tree_view tree.now).actions < 4294967295 }
     requires node { node < length (tree_view tree.now).nodes }
     requires counted { evaluated.old ≡ node }
-    requires objects { AreNamed (world_view world.now) said.choice.now objects.items }
     ensures entry { IfOk result
         (IsEntryFor (setting (tree_view tree.now) trace.now true) node
-        said.entry.at said.entry.choice.now) }
+        said.entry.at said.entry.choice.now room.new.places.items) }
     ensures counted { IfOk result
-        (λ o. CountsTo (lines_among (tree_view tree.now) (node + 1)) (is_some o) evaluated.new) }
+        (λ yes. CountsTo (lines_among (tree_view tree.now) (node + 1)) yes evaluated.new) }
 {
     world.is_sound();
-    let children = node_of(tree, node).children();
-    let Room { ids, tested } = room;
-    let places = places_of(alloc, ids, tree, children, &said.choice.children)?;
-    if !is_candidate(tested, world, tree, node, &places, &objects)? {
-        return Ok(None);
-    }
-    if !holds(world, tree, trace, node, &objects, said.at, evaluated) {
-        return Ok(None);
-    }
-    Ok(Some(Entry {
+    let Room {
+        ids,
         places,
         objects,
-        at: said.at,
-    }))
-}
-
-// The entry of a node; None where what is said of it is no candidate, or its precondition is not true at
-// its index.
-fn entry_for<'s>(
-    alloc: Global,
-    room: &mut Room,
-    world: &World<'s>,
-    tree: &Tree<'_, '_>,
-    trace: &Trace<'_, '_, BitState>,
-    node: u32,
-    said: Part<'_, 's>,
-    evaluated: &mut u64,
-) -> Result<Option<Entry>, Memory>
-    requires top { HasNoPrecondition (world_view world.now) }
-    requires tree { IsTreeIn (world_view world.now) (tree_view tree.now) }
-    requires trace { trace.now ≡ plan (world_view world.now) (tree_view tree.now).actions }
-    requires small { length (tree_view tree.now).actions < 4294967295 }
-    requires node { node < length (tree_view tree.now).nodes }
-    requires counted { evaluated.old ≡ node }
-    ensures entry { IfOk result
-        (IsEntryFor (setting (tree_view tree.now) trace.now true) node
-        said.entry.at said.entry.choice.now) }
-    ensures counted { IfOk result
-        (λ o. CountsTo (lines_among (tree_view tree.now) (node + 1)) (is_some o) evaluated.new) }
-{
-    match objects_of(alloc, world, &said.choice.objects)? {
-        None => Ok(None),
-        Some(objects) => entry_with(
-            alloc, room, world, tree, trace, node, said, objects, evaluated,
-        ),
+        tested,
+    } = room;
+    if !put_objects(objects, world, &said.choice.objects)? {
+        return Ok(false);
     }
+    let children = node_of(tree, node).children();
+    put_places(alloc, places, ids, tree, children, &said.choice.children)?;
+    if !is_candidate(tested, world, tree, node, places, objects)? {
+        return Ok(false);
+    }
+    Ok(holds(world, tree, trace, node, objects, said.at, evaluated))
 }
 
-/// The entries of all nodes. Counts the preconditions that are evaluated.
+/// What a certificate says of all nodes. Counts the preconditions that are evaluated.
 ///
 /// # Errors
 ///
@@ -255,7 +251,7 @@ pub(crate) fn entries<'s>(
     certificate: &Certificate<'s>,
     places: &[u32],
     evaluated: &mut u64,
-) -> Result<Vec<Entry>, Unfit>
+) -> Result<NodeEntries, Unfit>
     requires top { HasNoPrecondition (world_view world.now) }
     requires tree { IsTreeIn (world_view world.now) (tree_view tree.now) }
     requires trace { trace.now ≡ plan (world_view world.now) (tree_view tree.now).actions }
@@ -263,8 +259,8 @@ pub(crate) fn entries<'s>(
     requires lines { HasLines (tree_view tree.now) certificate.now }
     requires places { ArePlaces (tree_view tree.now) places.now }
     requires counted { evaluated.old ≡ 0 }
-    ensures entries { IfOk result (λ v. AreEntries
-        (setting (tree_view tree.now) trace.now true) certificate.now places.now v.items) }
+    ensures entries { IfOk result (λ v. AreEntries (setting (tree_view tree.now) trace.now true)
+        certificate.now places.now v.matchings v.starts.items) }
     ensures wrong { IfErr result (IfLine (IsWrong
         (setting (tree_view tree.now) trace.now true) certificate.now places.now)) }
     ensures counted { OnOk result
@@ -274,16 +270,18 @@ pub(crate) fn entries<'s>(
 {
     let mut room = Room {
         ids: Vec::new(alloc),
+        places: Vec::new(alloc),
+        objects: Vec::new(alloc),
         tested: TestRoom::new(alloc),
     };
-    let mut entries = Vec::new(alloc);
+    let mut entries = NodeEntries::with_room(alloc, places.len())?;
     for node in 0..tree.node_count() {
         let place = places[node as usize];
         let said = said_at(certificate, place as usize);
-        match entry_for(alloc, &mut room, world, tree, trace, node, said, evaluated)? {
-            Some(entry) => entries.push(entry)?,
-            None => return Err(Unfit::Line(place)),
+        if !put_entry(alloc, &mut room, world, tree, trace, node, said, evaluated)? {
+            return Err(Unfit::Line(place));
         }
+        entries.push(said.at, &room.places)?;
     }
     Ok(entries)
 }

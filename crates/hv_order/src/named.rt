@@ -1,6 +1,6 @@
 //! The children and the objects that a certificate names, by their ids and names.
 
-ghost use Rattle.std.specs.Prelude.{◌≡◌, map, IfOk};
+ghost use Rattle.std.specs.Prelude.{◌≡◌, map, IfOk, OnOk};
 ghost use Rattle.std.specs.List.{All};
 ghost use Rattle.hv_lists.specs.Lists.{Once};
 ghost use Rattle.hv_world.specs.WorldViews.{world_view};
@@ -53,76 +53,74 @@ fn place_among(own: &[u64], id: u64) -> usize
 }
 
 // The places of ids among a few.
-fn few_places(alloc: Global, own: &[u64], ids: &[u64]) -> Result<Vec<u32>, Memory>
+fn put_few_places(places: &mut Vec<u32>, own: &[u64], ids: &[u64]) -> Result<(), Memory>
     requires { Once own.now }
-    ensures { IfOk result (λ v. ArePlacesIn own.now ids.now v.items) }
+    ensures { OnOk result (ArePlacesIn own.now ids.now places.new.items) }
 {
-    let mut places = Vec::with_capacity(alloc, ids.len())?;
+    places.clear();
     for id in ids {
         places.push(narrow(place_among(own, *id))?)?;
     }
-    Ok(places)
+    Ok(())
 }
 
 // The places of ids among many.
-fn many_places(alloc: Global, own: &[u64], ids: &[u64]) -> Result<Vec<u32>, Memory>
+fn put_many_places(
+    alloc: Global,
+    places: &mut Vec<u32>,
+    own: &[u64],
+    ids: &[u64],
+) -> Result<(), Memory>
     requires { Once own.now }
-    ensures { IfOk result (λ v. ArePlacesIn own.now ids.now v.items) }
+    ensures { OnOk result (ArePlacesIn own.now ids.now places.new.items) }
 {
     let table = table_of_ids(alloc, own)?;
-    let mut places = Vec::with_capacity(alloc, ids.len())?;
+    places.clear();
     for id in ids {
         places.push(place_of(&table, *id)?)?;
     }
-    Ok(places)
+    Ok(())
 }
 
-// The places of ids among others.
-fn places_among(alloc: Global, own: &[u64], ids: &[u64]) -> Result<Vec<u32>, Memory>
-    requires { Once own.now }
-    ensures { IfOk result (λ v. ArePlacesIn own.now ids.now v.items) }
-{
-    if own.len() <= FEW {
-        few_places(alloc, own, ids)
-    } else {
-        many_places(alloc, own, ids)
-    }
-}
-
-/// The places of the children of these ids; that behind the last for an id of no child. A list is lent
-/// for the ids that the children have.
-pub(crate) fn places_of(
+/// Puts the places of the children of these ids into a list, that behind the last for an id of no
+/// child, in place of what it has. A list is lent for the ids that the children have.
+pub(crate) fn put_places(
     alloc: Global,
+    places: &mut Vec<u32>,
     own: &mut Vec<u64>,
     tree: &Tree<'_, '_>,
     children: &[Child],
     ids: &[u64],
-) -> Result<Vec<u32>, Memory>
+) -> Result<(), Memory>
     requires ids { All (HasId (tree_view tree.now)) (map child_view children.now) }
     requires apart { AreToldApart (tree_view tree.now) (map child_view children.now) }
-    ensures { IfOk result (λ v.
-        ArePlacesOf (tree_view tree.now) (map child_view children.now) ids.now v.items) }
+    ensures { OnOk result (ArePlacesOf (tree_view tree.now)
+        (map child_view children.now) ids.now places.new.items) }
 {
     put_ids(own, tree, children)?;
-    let places = places_among(alloc, own, ids)?;
-    Ok(places)
+    if own.len() <= FEW {
+        put_few_places(places, own, ids)
+    } else {
+        put_many_places(alloc, places, own, ids)
+    }
 }
 
-/// The objects of these names; None where one of them is the name of no object.
-pub(crate) fn objects_of<'s>(
-    alloc: Global,
+/// Puts the objects of these names into a list in place of what it has. False where one of them is
+/// the name of no object.
+pub(crate) fn put_objects<'s>(
+    objects: &mut Vec<ObjectId>,
     world: &World<'s>,
     names: &[Name<'s>],
-) -> Result<Option<Vec<ObjectId>>, Memory>
-    ensures { IfOk result (AreObjectsOf (world_view world.now) names.now) }
+) -> Result<bool, Memory>
+    ensures { IfOk result (AreObjectsOf (world_view world.now) names.now objects.new.items) }
 {
     world.is_sound();
-    let mut objects = Vec::new(alloc);
+    objects.clear();
     for name in names {
         match world.object_named(*name) {
             Some(object) => objects.push(object)?,
-            None => return Ok(None),
+            None => return Ok(false),
         }
     }
-    Ok(Some(objects))
+    Ok(true)
 }

@@ -1,7 +1,6 @@
 -- What the check of a certificate works out, node by node.
-use Rattle.std.specs.Prelude.{◌≡◌, ℕ, suc, ◌+◌, ◌-◌, ◌<◌, ◌≤◌, min, List, map, length, slice_get, slice_index, Option, Some, None, Contains}
+use Rattle.std.specs.Prelude.{◌≡◌, ℕ, suc, ◌+◌, ◌-◌, ◌<◌, ◌≤◌, min, Bool, true, false, List, [], map, length, slice_get, slice_index, slice_index_or, Some, Contains}
 use Rattle.std.specs.List.{AllZip}
-use Rattle.std.specs.Global.{Vec}
 use Rattle.hv_lists.specs.Lists.{Once}
 use Rattle.hv_text.specs.declared.name.Name.{Name}
 use Rattle.hv_world.specs.Worlds.{World, Method}
@@ -19,7 +18,6 @@ use Rattle.hv_order.specs.inside.PlanFacts.{OfMethod, child_in}
 use Rattle.hv_order.specs.inside.Writings.{IsIdOf, IsNameIn}
 use Rattle.hv_certificate.specs.declared.certificate.Choice.{Choice}
 use Rattle.hv_certificate.specs.declared.certificate.Certificate.{Certificate}
-use Rattle.hv_order.specs.declared.entries.Entry.{Entry}
 use Rattle.hv_order.specs.declared.entries.Part.{Part}
 use Rattle.hv_order.specs.declared.unfit.Unfit.{Unfit}
 use Rattle.hv_order.specs.declared.unfit.Unfit.TheVariants as unfit
@@ -49,14 +47,14 @@ ArePlacesOf t xs ids ps = AllZip (IsPlaceOf t xs) ps ids
 abbrev pub AreToldApart : PlanTree → List Item → Type 0
 AreToldApart t xs = (ids : List ℕ) → AllZip (IsIdOf t) xs ids → Once ids
 
--- the objects of names, or some name is that of no object
-abbrev pub AreObjectsOf : World → List Name → Option (Vec ObjectId) → Type 0
-AreObjectsOf w names None = (os : List ℕ) → AllZip (IsNameIn w) os names → ⊥
-AreObjectsOf w names (Some os) = AllZip (IsNameIn w) (map object_number os.items) names
-
 -- the objects of the names that are said of a node
-abbrev pub AreNamed : World → Choice → List ObjectId → Type 0
-AreNamed w s os = AllZip (IsNameIn w) (map object_number os) s.objects.items
+abbrev pub AreNamed : World → List Name → List ObjectId → Type 0
+AreNamed w names os = AllZip (IsNameIn w) (map object_number os) names
+
+-- they are these, or some name is that of no object
+abbrev pub AreObjectsOf : World → List Name → List ObjectId → Bool → Type 0
+AreObjectsOf w names os true = AreNamed w names os
+AreObjectsOf w names os false = (B : List ℕ) → AllZip (IsNameIn w) B names → ⊥
 
 -- what a certificate says of the node at a place
 abbrev pub IsPartAt : Certificate → ℕ → Part → Type 0
@@ -88,25 +86,32 @@ pub record IsRight (q : Setting) (v k : ℕ) (s : Choice) (M B : List ℕ) : Typ
   pub candidate : IsCandidateAt q.plan.world q.tree v M B
   pub holds : OfMethod q v (λ m. HoldsAt q m B k)
 
--- the numbers of the objects of an entry
-abbrev pub binding_of : Entry → List ℕ
-binding_of e = map object_number e.objects.items
+-- what is said of a node is right with this matching, or with none
+abbrev pub IsEntryFor : Setting → ℕ → ℕ → Choice → List ℕ → Bool → Type 0
+IsEntryFor q v k s M true = (B : List ℕ) × IsRight q v k s M B
+IsEntryFor q v k s M false = (M B : List ℕ) → IsRight q v k s M B → ⊥
 
--- the entry of a node, or what is said of it is not right
-abbrev pub IsEntryFor : Setting → ℕ → ℕ → Choice → Option Entry → Type 0
-IsEntryFor q v k s None = (M B : List ℕ) → IsRight q v k s M B → ⊥
-IsEntryFor q v k s (Some e) = IsRight q v k s e.places.items (binding_of e) × (e.at ≡ k)
-
--- the entry of a node is what the certificate says of it, which is right
-pub record IsEntryOf (q : Setting) (c : Certificate) (place v : ℕ) (e : Entry) : Type 0 where
+-- What a certificate says of the node of number v is right, with this matching and this index
+pub record IsEntryOf
+    (q : Setting) (c : Certificate) (place v : ℕ) (M : List ℕ) (k : ℕ)
+    : Type 0 where
   pub choice : Choice
-  pub part : IsPart c place choice e.at
-  pub right : IsRight q v e.at choice e.places.items (binding_of e)
+  pub binding : List ℕ
+  pub part : IsPart c place choice k
+  pub right : IsRight q v k choice M binding
+
+-- the matching of a node
+abbrev pub matching_in : List (List ℕ) → ℕ → List ℕ
+matching_in Ms v = slice_index_or Ms v []
 
 -- so for each node
-pub record AreEntries (q : Setting) (c : Certificate) (ps : List ℕ) (es : List Entry) : Type 0 where
-  pub as_many : length es ≡ length q.tree.nodes
-  pub each : (v : ℕ) (e : Entry) → slice_get es v ≡ Some e → IsEntryOf q c (slice_index ps v) v e
+pub record AreEntries
+    (q : Setting) (c : Certificate) (ps : List ℕ) (Ms : List (List ℕ)) (ks : List ℕ)
+    : Type 0 where
+  pub as_many : length ks ≡ length q.tree.nodes
+  pub each :
+      (v : ℕ) → v < length q.tree.nodes
+      → IsEntryOf q c (slice_index ps v) v (matching_in Ms v) (slice_index ks v)
 
 -- what is said of all nodes is right
 pub record AreRight (q : Setting) (c : Certificate) (place : ℕ) (v : ℕ) : Type 0 where
@@ -131,14 +136,6 @@ pub record IsWrong (q : Setting) (c : Certificate) (ps : List ℕ) (place : ℕ)
   pub part : IsPart c place choice index
   pub none : (M B : List ℕ) → IsRight q node index choice M B → ⊥
 
--- the index of a node, and the places of its children for its subtasks
-abbrev pub at_of : Option Entry → ℕ
-at_of None = 0
-at_of (Some e) = e.at
-
-abbrev pub index_in : List Entry → ℕ → ℕ
-index_in es v = at_of (slice_get es v)
-
 -- when a child is over, by the finishes of the nodes
 abbrev pub finish_in : List ℕ → Item → ℕ
 finish_in fs (Act k) = k + 1
@@ -160,44 +157,50 @@ abbrev pub AreOver : List ℕ → List Item → List ℕ → List ℕ → ℕ �
 AreOver fs xs M is s = (i : ℕ) → Contains is i → finish_in fs (child_at xs M i) ≤ s
 
 -- each subtask starts when those directly before it are over
-abbrev pub KeepsDirect : List Entry → List ℕ → List Item → List ℕ → Written → Type 0
-KeepsDirect es fs xs M n =
+abbrev pub KeepsDirect : List ℕ → List ℕ → List Item → List ℕ → Written → Type 0
+KeepsDirect ks fs xs M n =
     (i j : ℕ) → j < length M → IsDirect n i j
-    → finish_in fs (child_at xs M i) ≤ subtask_start (index_in es) (child_at xs M j)
+    → finish_in fs (child_at xs M i) ≤ subtask_start (slice_index ks) (child_at xs M j)
 
 -- none of these children starts before an index
-abbrev pub StartBehind : List Entry → List Item → ℕ → Type 0
-StartBehind es xs at = (x : Item) → Contains xs x → at ≤ subtask_start (index_in es) x
+abbrev pub StartBehind : List ℕ → List Item → ℕ → Type 0
+StartBehind ks xs at = (x : Item) → Contains xs x → at ≤ subtask_start (slice_index ks) x
 
--- the children of a node start behind its precondition and in its order
+-- the children of a node start behind its precondition and in its order, by the indices and the
+-- finishes of all nodes
 pub record KeepsNode
-    (w : World) (t : PlanTree) (es : List Entry) (fs : List ℕ) (v : ℕ) (e : Entry)
+    (w : World) (t : PlanTree) (ks fs : List ℕ) (v : ℕ) (M : List ℕ)
     : Type 0 where
-  pub behind : StartBehind es (children_at t.nodes v) e.at
+  pub behind : StartBehind ks (children_at t.nodes v) (slice_index ks v)
   pub order :
       (m : Method) → method_at w t v ≡ Some m
-      → KeepsDirect es fs (children_at t.nodes v) e.places.items m.network.order
+      → KeepsDirect ks fs (children_at t.nodes v) M m.network.order
 
-abbrev pub KeepNodes : World → PlanTree → List Entry → List ℕ → Type 0
-KeepNodes w t es fs = (v : ℕ) (e : Entry) → slice_get es v ≡ Some e → KeepsNode w t es fs v e
+abbrev pub KeepNodes : World → PlanTree → List (List ℕ) → List ℕ → List ℕ → Type 0
+KeepNodes w t Ms ks fs =
+    (v : ℕ) → v < length t.nodes → KeepsNode w t ks fs v (matching_in Ms v)
 
 -- those of this node do not
 pub record IsOutOfOrder
-    (w : World) (t : PlanTree) (es : List Entry) (fs : List ℕ) (v : ℕ)
+    (w : World) (t : PlanTree) (Ms : List (List ℕ)) (ks fs : List ℕ) (v : ℕ)
     : Type 0 where
-  pub entry : Entry
-  pub has_entry : slice_get es v ≡ Some entry
-  pub not : KeepsNode w t es fs v entry → ⊥
+  pub is_node : v < length t.nodes
+  pub not : KeepsNode w t ks fs v (matching_in Ms v) → ⊥
 
 -- the children of all nodes start so, and the root is over when the plan is
-pub record KeepAll (w : World) (t : PlanTree) (es : List Entry) (fs : List ℕ) (n : ℕ) : Type 0 where
-  pub nodes : KeepNodes w t es fs
+pub record KeepAll
+    (w : World) (t : PlanTree) (Ms : List (List ℕ)) (ks fs : List ℕ) (n : ℕ)
+    : Type 0 where
+  pub nodes : KeepNodes w t Ms ks fs
   pub until : slice_index fs (length t.nodes - 1) ≤ n
 
 -- those of the node of this place do not, or the root is not over
-pub data IsLate (w : World) (t : PlanTree) (es : List Entry) (fs ps : List ℕ) (n : ℕ) : ℕ → Type 0 where
-  late_child : (v : ℕ) → IsOutOfOrder w t es fs v → IsLate w t es fs ps n (slice_index ps v)
-  late_root : n < slice_index fs (length t.nodes - 1) → IsLate w t es fs ps n 0
+pub data IsLate
+    (w : World) (t : PlanTree) (Ms : List (List ℕ)) (ks fs ps : List ℕ) (n : ℕ)
+    : ℕ → Type 0 where
+  late_child :
+      (v : ℕ) → IsOutOfOrder w t Ms ks fs v → IsLate w t Ms ks fs ps n (slice_index ps v)
+  late_root : n < slice_index fs (length t.nodes - 1) → IsLate w t Ms ks fs ps n 0
 
 -- of the line that does not fit, where there is one
 abbrev pub IfLine : (ℕ → Type 0) → Unfit → Type 0

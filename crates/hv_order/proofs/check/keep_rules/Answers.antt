@@ -1,12 +1,12 @@
 use Rattle.std.proofs.Common.{ℕ, true, List, length, sym, subst}
+use Rattle.std.specs.Prelude.{slice_index}
 use Rattle.std.proofs.lemmas.Result.{err_from_is_err_and}
 use Rattle.hv_world.specs.WorldViews.{world_view}
 use Rattle.hv_plan.specs.BuiltTrees.{tree_view}
 use Rattle.hv_plan.specs.PlanTrees.{tree_of}
 use Rattle.hv_order.specs.Certificates.{AreFinishes}
 use Rattle.hv_order.specs.Settings.{setting}
-use Rattle.hv_order.specs.inside.Checks.{ArePlaces, AreEntries, KeepAll, IsLate, index_in, finish_in}
-use Rattle.hv_order.specs.declared.entries.Entry.{Entry}
+use Rattle.hv_order.specs.inside.Checks.{ArePlaces, AreEntries, KeepAll, IsLate, finish_in}
 use Rattle.hv_order.proofs.Misfitting.{other_refused, wrong_refused_as, late_refused, certified_by, late_in, keep_in}
 use Rattle.hv_order.proofs.PlanWalks.{is_setting}
 use Rattle.hv_order.proofs.check.keep_rules.Goals as goal
@@ -37,16 +37,16 @@ returns-in-None-clause-certified c =
     let cert = c.args.certificate.now in
     let q = setting t p true in
     let P : List ℕ → Type 0 = λ ps. ArePlaces t ps in
-    let E : List ℕ → Type 0 = λ ps. AreEntries q cert ps c.in_ok-entries.entries.items in
-    let F : List Entry → Type 0 = λ es. AreFinishes (tree_of t) (index_in es) (finish_in c.in_ok-finishes.finishes.items) in
-    let K : List Entry → Type 0 = λ es. KeepAll w t es c.deref-4.result.now (length t.actions) in
-    let L : List ℕ → Type 0 = λ fs. KeepAll w t c.in_ok-entries.entries.items fs (length t.actions) in
+    let Ms = c.in_ok-entries.entries.matchings in
+    let ks = c.in_ok-entries.entries.starts.items in
+    let E : List ℕ → Type 0 = λ ps. AreEntries q cert ps Ms ks in
+    let F : List ℕ → Type 0 = λ is. AreFinishes (tree_of t) (slice_index is) (finish_in c.in_ok-finishes.finishes.items) in
+    let L : List ℕ → Type 0 = λ fs. KeepAll w t Ms ks fs (length t.actions) in
     certified_by q (is_setting w t p true c.requires.trace c.requires.tree c.is_sound.ensures c.requires.top c.requires.small) cert
-    c.in_ok-places.places.items c.in_ok-places.ensures c.in_ok-entries.entries.items c.in_ok-finishes.finishes.items
+    c.in_ok-places.places.items c.in_ok-places.ensures Ms ks c.in_ok-finishes.finishes.items
     (subst E c.deref.ensures.value c.in_ok-entries.ensures.entries) (subst F c.deref-2.ensures.value c.in_ok-finishes.ensures)
     c.in_default.ensures
-    (keep_in w t p c.requires.trace c.in_ok-entries.entries.items c.in_ok-finishes.finishes.items
-    (subst L c.deref-4.ensures.value (subst K c.deref-3.ensures.value c.in-None.ensures)))
+    (keep_in w t p c.requires.trace Ms ks c.in_ok-finishes.finishes.items (subst L c.deref-3.ensures.value c.in-None.ensures))
 
 pub returns-clause-refused : goal.returns-clause-refused
 returns-clause-refused c =
@@ -56,13 +56,14 @@ returns-clause-refused c =
     let cert = c.args.certificate.now in
     let q = setting t p true in
     let place = c.in-Some-late.place in
-    let E : List ℕ → Type 0 = λ ps. AreEntries q cert ps c.in_ok-entries.entries.items in
-    let F : List Entry → Type 0 = λ es. AreFinishes (tree_of t) (index_in es) (finish_in c.in_ok-finishes.finishes.items) in
-    let K : List Entry → Type 0 = λ es. IsLate w t es c.deref-4.result.now c.deref-5.result.now (length t.actions) place in
-    let L : List ℕ → Type 0 = λ fs. IsLate w t c.in_ok-entries.entries.items fs c.deref-5.result.now (length t.actions) place in
-    let M : List ℕ → Type 0 = λ ps. IsLate w t c.in_ok-entries.entries.items c.in_ok-finishes.finishes.items ps (length t.actions) place in
+    let Ms = c.in_ok-entries.entries.matchings in
+    let ks = c.in_ok-entries.entries.starts.items in
+    let E : List ℕ → Type 0 = λ ps. AreEntries q cert ps Ms ks in
+    let F : List ℕ → Type 0 = λ is. AreFinishes (tree_of t) (slice_index is) (finish_in c.in_ok-finishes.finishes.items) in
+    let L : List ℕ → Type 0 = λ fs. IsLate w t Ms ks fs c.deref-4.result.now (length t.actions) place in
+    let M : List ℕ → Type 0 = λ ps. IsLate w t Ms ks c.in_ok-finishes.finishes.items ps (length t.actions) place in
     late_refused q (is_setting w t p true c.requires.trace c.requires.tree c.is_sound.ensures c.requires.top c.requires.small) cert
-    c.in_ok-places.places.items c.in_ok-places.ensures c.in_ok-entries.entries.items c.in_ok-finishes.finishes.items
+    c.in_ok-places.places.items c.in_ok-places.ensures Ms ks c.in_ok-finishes.finishes.items
     (subst E c.deref.ensures.value c.in_ok-entries.ensures.entries) (subst F c.deref-2.ensures.value c.in_ok-finishes.ensures) place
-    (late_in w t p c.requires.trace c.in_ok-entries.entries.items c.in_ok-finishes.finishes.items c.in_ok-places.places.items place
-    (subst M c.deref-5.ensures.value (subst L c.deref-4.ensures.value (subst K c.deref-3.ensures.value c.in-Some-late.ensures))))
+    (late_in w t p c.requires.trace Ms ks c.in_ok-finishes.finishes.items c.in_ok-places.places.items place
+    (subst M c.deref-4.ensures.value (subst L c.deref-3.ensures.value c.in-Some-late.ensures)))

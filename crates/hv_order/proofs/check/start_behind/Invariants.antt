@@ -5,4 +5,4 @@ use Rattle.hv_order.proofs.check.start_behind.Given as goal
 
 abbrev pub invariant-loop-child : goal.invariant-loop-child
 invariant-loop-child l =
-    StartBehind l.entries (map child_view (take l.child-index l.children)) l.at
+    StartBehind l.starts (map child_view (take l.child-index l.children)) l.at

@@ -1,7 +1,7 @@
 use Rattle.std.proofs.Common.{get_or, refl, sym, subst}
 use Rattle.hv_order.specs.inside.Checks.{IsPlaceIn}
 use Rattle.hv_order.proofs.NamedLemmas.{place_more}
-use Rattle.hv_order.proofs.named.few_places.Goals as goal
+use Rattle.hv_order.proofs.named.put_few_places.Goals as goal
 
 pub loop-id-preserved : goal.loop-id-preserved
 loop-id-preserved c =

@@ -1,5 +1,5 @@
 use Rattle.hv_order.proofs.NamedLemmas.{place_more}
-use Rattle.hv_order.proofs.named.many_places.Goals as goal
+use Rattle.hv_order.proofs.named.put_many_places.Goals as goal
 
 pub loop-id-preserved : goal.loop-id-preserved
 loop-id-preserved c =

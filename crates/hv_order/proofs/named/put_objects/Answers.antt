@@ -1,6 +1,6 @@
 use Rattle.hv_world.specs.WorldViews.{world_view}
 use Rattle.hv_order.proofs.NamedLemmas.{no_object, one_named}
-use Rattle.hv_order.proofs.named.objects_of.Goals as goal
+use Rattle.hv_order.proofs.named.put_objects.Goals as goal
 
 pub returns-in-None : goal.returns-in-None
 returns-in-None c =

@@ -3,7 +3,7 @@ use Rattle.std.specs.List.{AllZip}
 use Rattle.hv_world.specs.Bindings.{object_number}
 use Rattle.hv_world.specs.WorldViews.{world_view}
 use Rattle.hv_order.specs.inside.Writings.{IsNameIn}
-use Rattle.hv_order.proofs.named.objects_of.Given as goal
+use Rattle.hv_order.proofs.named.put_objects.Given as goal
 
 abbrev pub invariant-loop-name : goal.invariant-loop-name
 invariant-loop-name l =
