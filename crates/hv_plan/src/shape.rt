@@ -11,7 +11,7 @@ mod repeats;
 mod table;
 mod walk;
 
-ghost use Rattle.std.specs.Prelude.{◌≡◌, ◌+◌, None, length, IfOk, IfErr, OnOk};
+ghost use Rattle.std.specs.Prelude.{◌≡◌, ◌↔◌, ◌<◌, ◌+◌, ℕ, None, true, length, IfOk, IfErr, OnOk};
 ghost use Rattle.hv_lists.specs.Lists.{Once};
 ghost use Rattle.hv_plan.specs.Causes.{number};
 ghost use Rattle.hv_plan.specs.LineViews.{plan_view};
@@ -111,7 +111,7 @@ fn shape_below(alloc: Global, plan: &PlanText<'_>, below: &Below) -> Result<Shap
 }
 
 // What a walk has met that has met all lines.
-fn walk_below(alloc: Global, plan: &PlanText<'_>, below: &Below) -> Result<Vec<usize>, TreeFault>
+fn walk_below(alloc: Global, plan: &PlanText<'_>, below: &Below) -> Result<Vec<u32>, TreeFault>
     requires root { below.now.root.items ≡ root_places (plan_view plan.now) }
     requires lists { below.now.lists ≡ line_places (plan_view plan.now) }
     requires once { Once (ids (plan_view plan.now)) }
@@ -148,12 +148,28 @@ fn first_unmet(is_met: &[bool], lines: &[u32]) -> Option<u32>
     found
 }
 
+// Whether all places are marked.
+fn are_all(marks: &[bool]) -> bool
+    ensures { (result ≡ true) ↔
+        ((k : ℕ) → k < length marks.now → is_marked marks.now k ≡ true) }
+{
+    for mark in marks {
+        if !*mark {
+            return false;
+        }
+    }
+    true
+}
+
 // The first line that was not met.
 fn unmet_line(alloc: Global, plan: &PlanText<'_>, is_met: &[bool]) -> Result<Option<u32>, Memory>
     requires { length is_met.now ≡ length (ids (plan_view plan.now)) }
     ensures { IfOk result (IsFirst (IsMissed (is_marked is_met.now)
         (lines_of_heads (plan_view plan.now)) (length is_met.now))) }
 {
+    if are_all(is_met) {
+        return Ok(None);
+    }
     let lines = line_numbers(alloc, plan)?;
     Ok(first_unmet(is_met, &lines))
 }
@@ -162,7 +178,7 @@ fn unmet_line(alloc: Global, plan: &PlanText<'_>, is_met: &[bool]) -> Result<Opt
 fn numbered(
     alloc: Global,
     plan: &PlanText<'_>,
-    met: Vec<usize>,
+    met: Vec<u32>,
     below: &Below,
 ) -> Result<Shape, Memory>
     requires root { below.now.root.items ≡ root_places (plan_view plan.now) }

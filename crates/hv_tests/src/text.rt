@@ -2,8 +2,8 @@
 
 use hv_fixtures::{Falter, FalteringReader, FalteringWriter};
 use hv_text::{
-    Cursor, FromMemory, Lists, Name, ReadFault, Span, TextKind, ToMemory, WriteFault, check_text,
-    place, read_all, read_sexps, read_words, write_all,
+    Cursor, FromMemory, Hints, Lists, Name, ReadFault, Span, TextKind, ToMemory, WriteFault,
+    check_text, place, read_all, read_sexps, read_words, write_all,
 };
 use indexmap::IndexMap;
 use std::test::Fail;
@@ -51,6 +51,24 @@ fn keeps_lists_in_one(rt: HostRuntime) -> Result<(), Fail> {
     assert!(rt; lists.at(1).is_empty());
     assert!(rt; lists.at(2) == [3u32].as_slice());
     assert!(rt; lists.at(3).is_empty());
+    Ok(())
+}
+
+#[test]
+fn hints_of_names(rt: HostRuntime) -> Result<(), Fail> {
+    let names = [
+        Name::of_word(b"pick-up"),
+        Name::of_word(b"put-down"),
+        Name::of_word(b"stack"),
+    ];
+    let mut hints = Hints::with_room(rt.alloc(), names.len())?;
+    for place in 0..names.len() {
+        hints.note(names[place], place);
+    }
+    for place in 0..names.len() {
+        let [first, second] = hints.of(names[place]);
+        assert!(rt; first == place || second == place);
+    }
     Ok(())
 }
 

@@ -49,7 +49,7 @@ fn number_line(numbering: &mut Numbering, line: usize) -> Result<(), Memory>
 fn give_number(
     numbering: &mut Numbering,
     actions: usize,
-    met: &[usize],
+    met: &[u32],
     at: usize,
 ) -> Result<(), Memory>
     requires at { at < length met.now }
@@ -62,7 +62,7 @@ fn give_number(
     ensures so_far { OnOk result (IsNumbering actions at met.now numbering.new.lines.items
         numbering.new.numbers.items) }
 {
-    if let Some(line) = met[at].checked_sub(actions) {
+    if let Some(line) = (met[at] as usize).checked_sub(actions) {
         number_line(numbering, line)?;
     }
     Ok(())
@@ -73,7 +73,7 @@ pub(super) fn number_met(
     alloc: Global,
     actions: usize,
     count: usize,
-    met: Vec<usize>,
+    met: Vec<u32>,
 ) -> Result<Numbering, Memory>
     requires once { Once met.items }
     requires within { (b : ℕ) → b < length met.items → slice_index met.items b < actions + count }
@@ -94,14 +94,13 @@ pub(super) fn number_met(
 }
 
 // What stands at a place: an action, or the node of a line.
-fn item(actions: usize, numbers: &[u32], place: usize) -> Result<Child, Memory>
+fn item(actions: usize, numbers: &[u32], place: u32) -> Child
     requires { place < actions + length numbers.now }
-    ensures { IfOk result (λ c. child_view c ≡ item actions numbers.now place) }
+    ensures { child_view result ≡ item actions numbers.now place }
 {
-    if place < actions {
-        Ok(Child::Action(short(place)?))
-    } else {
-        Ok(Child::Node(numbers[place - actions]))
+    match (place as usize).checked_sub(actions) {
+        None => Child::Action(place),
+        Some(line) => Child::Node(numbers[line]),
     }
 }
 
@@ -110,7 +109,7 @@ fn put_items(
     items: &mut Vec<Child>,
     actions: usize,
     numbers: &[u32],
-    places: &[usize],
+    places: &[u32],
 ) -> Result<(), Memory>
     requires { (c : ℕ) → Contains places.now c → c < actions + length numbers.now }
     ensures { OnOk result (map child_view items.new.items
@@ -118,7 +117,7 @@ fn put_items(
 {
     items.clear();
     for place in places {
-        items.push(item(actions, numbers, *place)?)?;
+        items.push(item(actions, numbers, *place))?;
     }
     Ok(())
 }
@@ -129,7 +128,7 @@ fn push_items(
     actions: usize,
     numbers: &[u32],
     children: &mut Lists<Child>,
-    places: &[usize],
+    places: &[u32],
 ) -> Result<(), Memory>
     requires { (c : ℕ) → Contains places.now c → c < actions + length numbers.now }
     ensures { OnOk result (map (map child_view) children.new
@@ -145,8 +144,8 @@ pub(super) fn node_children(
     alloc: Global,
     actions: usize,
     numbering: &Numbering,
-    root: &[usize],
-    lists: &Lists<usize>,
+    root: &[u32],
+    lists: &Lists<u32>,
 ) -> Result<Lists<Child>, Memory>
     requires root { (c : ℕ) → Contains root.now c
         → c < actions + length numbering.now.numbers.items }

@@ -9,6 +9,7 @@ ghost use Rattle.hv_plan.specs.inside.ShapeCauses.{NoneBelow, IsFormFault};
 ghost use Rattle.hv_plan.specs.inside.Tables.{child_places, line_places, place_by, places_of_rest, root_places, AreKnown, HasPlaces, IsUnplaced};
 
 use super::begins::{children, line_count};
+use super::numbers::short;
 use super::repeats::{earlier, second_parent};
 use super::table::Table;
 use super::{line_unless, none_at};
@@ -20,22 +21,22 @@ use std::alloc::Global;
 /// The children of the root line and those of each decomposition line, as places.
 #[derive(Drop)]
 pub(super) struct Below {
-    pub(super) root: Vec<usize>,
-    pub(super) lists: Lists<usize>,
+    pub(super) root: Vec<u32>,
+    pub(super) lists: Lists<u32>,
 }
 
 // The place of an id; a number of lines where it begins none of them.
-fn place_of(table: &Table, count: usize, id: u64) -> usize
+fn place_of(table: &Table, count: u32, id: u64) -> u32
     ensures { result ≡ unwrap_or (place_by table.now id) count }
 {
     match table.get(id) {
-        Some(place) => place as usize,
+        Some(place) => place,
         None => count,
     }
 }
 
 // The places of ids; a number of lines for those that begin none of them.
-fn places_of(alloc: Global, table: &Table, count: usize, ids: &[u64]) -> Result<Vec<usize>, Memory>
+fn places_of(alloc: Global, table: &Table, count: u32, ids: &[u64]) -> Result<Vec<u32>, Memory>
     ensures { IfOk result (λ v. v.items ≡ map (λ i. unwrap_or (place_by table.now i) count)
         ids.now) }
 {
@@ -47,13 +48,13 @@ fn places_of(alloc: Global, table: &Table, count: usize, ids: &[u64]) -> Result<
 }
 
 // The first line that names a child which begins none of so many lines.
-fn unknown_child(count: usize, places: &[usize], lines: &[u32]) -> Option<u32>
+fn unknown_child(count: usize, places: &[u32], lines: &[u32]) -> Option<u32>
     requires { length places.now ≡ length lines.now }
     ensures { IsUnplaced count places.now lines.now result }
 {
     let mut unknown = None;
     for k in 0..places.len() {
-        unknown = earlier(unknown, line_unless(places[k] < count, lines[k]));
+        unknown = earlier(unknown, line_unless((places[k] as usize) < count, lines[k]));
     }
     unknown
 }
@@ -63,7 +64,7 @@ fn unknown_child(count: usize, places: &[usize], lines: &[u32]) -> Option<u32>
 fn check_places(
     alloc: Global,
     plan: &PlanText<'_>,
-    places: &[usize],
+    places: &[u32],
     lines: &[u32],
 ) -> Result<(), TreeFault>
     requires places { places.now ≡ child_places (plan_view plan.now) }
@@ -91,7 +92,7 @@ pub(super) fn child_places(
     alloc: Global,
     plan: &PlanText<'_>,
     table: Table,
-) -> Result<Vec<usize>, TreeFault>
+) -> Result<Vec<u32>, TreeFault>
     requires table { HasPlaces table (ids (plan_view plan.now)) }
     requires none { NoneBelow (plan_view plan.now) 51 }
     ensures places { IfOk result (λ v. v.items ≡ child_places (plan_view plan.now)) }
@@ -101,13 +102,14 @@ pub(super) fn child_places(
     ensures err { IfErr result (IsFormFault (plan_view plan.now)) }
 {
     let children = children(alloc, plan)?;
-    let places = places_of(alloc, &table, line_count(plan), &children.ids)?;
+    let count = short(line_count(plan))?;
+    let places = places_of(alloc, &table, count, &children.ids)?;
     check_places(alloc, plan, &places, &children.lines)?;
     Ok(places)
 }
 
 // The places of the children of each decomposition line, from those of all of them.
-fn lists_of(alloc: Global, plan: &PlanText<'_>, places: &[usize]) -> Result<Lists<usize>, Memory>
+fn lists_of(alloc: Global, plan: &PlanText<'_>, places: &[u32]) -> Result<Lists<u32>, Memory>
     requires { places.now ≡ places_of_rest (plan_view plan.now) }
     ensures { IfOk result (λ ls. ls ≡ line_places (plan_view plan.now)) }
 {
@@ -129,7 +131,7 @@ fn lists_of(alloc: Global, plan: &PlanText<'_>, places: &[usize]) -> Result<List
 pub(super) fn places_below(
     alloc: Global,
     plan: &PlanText<'_>,
-    places: &[usize],
+    places: &[u32],
 ) -> Result<Below, Memory>
     requires { places.now ≡ child_places (plan_view plan.now) }
     ensures root { IfOk result (λ b. b.root.items ≡ root_places (plan_view plan.now)) }

@@ -106,7 +106,7 @@ fn note_parent(first_lines: &mut [Option<u32>], place: usize, line: u32) -> Opti
 pub(super) fn second_parent(
     alloc: Global,
     count: usize,
-    places: &[usize],
+    places: &[u32],
     lines: &[u32],
 ) -> Result<Option<u32>, Memory>
     requires lines { length places.now ≡ length lines.now }
@@ -116,7 +116,7 @@ pub(super) fn second_parent(
     let mut first_lines = vec![in alloc; None; count]?;
     let mut second = None;
     for k in 0..places.len() {
-        let again = note_parent(&mut first_lines, places[k], lines[k]);
+        let again = note_parent(&mut first_lines, places[k] as usize, lines[k]);
         second = earlier(second, again);
     }
     Ok(second)

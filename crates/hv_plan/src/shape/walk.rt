@@ -9,27 +9,27 @@ use std::alloc::Global;
 /// The places that a walk has met, in its order, and for each place whether it was met.
 #[derive(Drop)]
 pub(super) struct Walk {
-    pub(super) met: Vec<usize>,
+    pub(super) met: Vec<u32>,
     pub(super) is_met: Vec<bool>,
 }
 
 // Meets a place; each place is met once.
-fn meet(walk: &mut Walk, place: usize) -> Result<(), Memory>
+fn meet(walk: &mut Walk, place: u32) -> Result<(), Memory>
     requires within { place < length walk.old.is_met.items }
     requires walk { IsMeeting walk.old.met.items walk.old.is_met.items }
     ensures walk { OnOk result (IsMeeting walk.new.met.items walk.new.is_met.items) }
     ensures count { OnOk result (length walk.new.is_met.items ≡ length walk.old.is_met.items) }
     ensures grows { OnOk result (Grows walk.old.met.items (place ∷ []) walk.new.met.items) }
 {
-    if !walk.is_met[place] {
+    if !walk.is_met[place as usize] {
         walk.met.push(place)?;
-        walk.is_met[place] = true;
+        walk.is_met[place as usize] = true;
     }
     Ok(())
 }
 
 // Meets places.
-fn meet_all(walk: &mut Walk, places: &[usize]) -> Result<(), Memory>
+fn meet_all(walk: &mut Walk, places: &[u32]) -> Result<(), Memory>
     requires within { (c : ℕ) → Contains places.now c → c < length walk.old.is_met.items }
     requires walk { IsMeeting walk.old.met.items walk.old.is_met.items }
     ensures walk { OnOk result (IsMeeting walk.new.met.items walk.new.is_met.items) }
@@ -43,10 +43,10 @@ fn meet_all(walk: &mut Walk, places: &[usize]) -> Result<(), Memory>
 }
 
 /// The places of the children of a place: an action line has none.
-fn kids(lists: &Lists<usize>, actions: usize, place: usize) -> &[usize]
+fn kids(lists: &Lists<u32>, actions: usize, place: u32) -> &[u32]
     ensures { result.now ≡ kids lists.now actions place }
 {
-    match place.checked_sub(actions) {
+    match (place as usize).checked_sub(actions) {
         Some(line) => lists.at(line),
         None => &[],
     }
@@ -57,8 +57,8 @@ pub(super) fn walk_from(
     alloc: Global,
     actions: usize,
     count: usize,
-    root: &[usize],
-    lists: &Lists<usize>,
+    root: &[u32],
+    lists: &Lists<u32>,
 ) -> Result<Walk, Memory>
     requires root { (c : ℕ) → Contains root.now c → c < count }
     requires lists { (v c : ℕ) → Contains (kids lists.now actions v) c → c < count }
