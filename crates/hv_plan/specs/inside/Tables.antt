@@ -4,7 +4,7 @@ use Rattle.std.specs.List.{flat_map}
 use Rattle.std.specs.Map.{update}
 use Rattle.std.specs.Option.{unwrap_or}
 use Rattle.indexmap.specs.IndexMap as table
-use Rattle.hv_plan.specs.Values.{Plan}
+use Rattle.hv_plan.specs.Values.{Plan, Decomposition}
 use Rattle.hv_plan.specs.Shapes.{ids, all_children, line_parent}
 use Rattle.hv_plan.specs.Ids.{place_of}
 use Rattle.hv_plan.specs.inside.Shaping.{first_of, again_of, IsFirst, IsRepeat, IsMissed, lines_of_heads, places_of_lines}
@@ -59,12 +59,20 @@ IsLineRepeat p o = IsSecond (ids p) (lines_of_heads p) o
 abbrev pub IsUnplaced : ℕ → List ℕ → List ℕ → Option ℕ → Type 0
 IsUnplaced count places lines o = IsFirst (IsMissed (is_within count places) lines (length places)) o
 
+-- the children of decomposition lines
+abbrev pub line_children : List Decomposition → List ℕ
+line_children ds = flat_map (λ q. q.children) (map line_parent ds)
+
+-- the places of ids by a table, and a number of lines for those that it does not have
+abbrev pub places_by : Table → ℕ → List ℕ → List ℕ
+places_by t count is = map (λ i. unwrap_or (place_by t i) count) is
+
 -- the places of all children, and those of the children of the decomposition lines
 abbrev pub child_places : Plan → List ℕ
 child_places p = map (place_of (ids p)) (all_children p)
 
 abbrev pub places_of_rest : Plan → List ℕ
-places_of_rest p = map (place_of (ids p)) (flat_map (λ q. q.children) (map line_parent p.decompositions))
+places_of_rest p = map (place_of (ids p)) (line_children p.decompositions)
 
 -- the places of the children of the root line, and those of the children of each decomposition line
 abbrev pub root_places : Plan → List ℕ

@@ -98,34 +98,14 @@ pub(super) fn begins(alloc: Global, plan: &PlanText<'_>) -> Result<Placed, Memor
     Ok(Placed { ids, lines })
 }
 
-// How many children there are.
-fn child_count(plan: &PlanText<'_>) -> usize {
+/// How many children there are.
+pub(super) fn child_count(plan: &PlanText<'_>) -> usize {
     let below = plan.decompositions.child_count();
     plan.root.len().saturating_add(below)
 }
 
-// All children, those of the root line first.
-fn child_ids(alloc: Global, plan: &PlanText<'_>) -> Result<Vec<u64>, Memory>
-    ensures { IfOk result (λ v. v.items ≡ all_children (plan_view plan.now)) }
-{
-    let mut ids = Vec::with_capacity(alloc, child_count(plan))?;
-    ids.extend_from_slice(&plan.root)?;
-    push_child_ids(&mut ids, &plan.decompositions)?;
-    Ok(ids)
-}
-
-fn push_child_ids(ids: &mut Vec<u64>, lines: &DecompositionLines<'_>) -> Result<(), Memory>
-    ensures { OnOk result (ids.new.items ≡ ids.old.items ++ flat_map (λ q. q.children)
-        (map line_parent (decompositions_view lines.now))) }
-{
-    for line in lines.iter() {
-        ids.extend_from_slice(line.children)?;
-    }
-    Ok(())
-}
-
-// The number of the line of each child.
-fn child_numbers(alloc: Global, plan: &PlanText<'_>) -> Result<Vec<u32>, Memory>
+/// The number of the line of each child, those of the root line first.
+pub(super) fn child_numbers(alloc: Global, plan: &PlanText<'_>) -> Result<Vec<u32>, Memory>
     ensures { IfOk result (λ v. v.items ≡ lines_of_children (plan_view plan.now)) }
 {
     let mut lines = Vec::with_capacity(alloc, child_count(plan))?;
@@ -153,14 +133,4 @@ fn push_number(numbers: &mut Vec<u32>, line: u32, children: &[u64]) -> Result<()
         numbers.push(line)?;
     }
     Ok(())
-}
-
-/// All children, those of the root line first, and the line that names each.
-pub(super) fn children(alloc: Global, plan: &PlanText<'_>) -> Result<Placed, Memory>
-    ensures ids { IfOk result (λ b. b.ids.items ≡ all_children (plan_view plan.now)) }
-    ensures lines { IfOk result (λ b. b.lines.items ≡ lines_of_children (plan_view plan.now)) }
-{
-    let ids = child_ids(alloc, plan)?;
-    let lines = child_numbers(alloc, plan)?;
-    Ok(Placed { ids, lines })
 }

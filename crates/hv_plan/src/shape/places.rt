@@ -1,20 +1,20 @@
 //! The places of children.
 
-ghost use Rattle.std.specs.Prelude.{◌≡◌, map, length, unwrap_or, IfOk, IfErr, OnOk};
+ghost use Rattle.std.specs.Prelude.{◌≡◌, ◌++◌, length, unwrap_or, IfOk, IfErr, OnOk};
 ghost use Rattle.hv_lists.specs.Lists.{Once};
-ghost use Rattle.hv_plan.specs.LineViews.{plan_view};
+ghost use Rattle.hv_plan.specs.LineViews.{decompositions_view, plan_view};
 ghost use Rattle.hv_plan.specs.Shapes.{ids, all_children};
 ghost use Rattle.hv_plan.specs.inside.Shaping.{lines_of_children};
 ghost use Rattle.hv_plan.specs.inside.ShapeCauses.{NoneBelow, IsFormFault};
-ghost use Rattle.hv_plan.specs.inside.Tables.{child_places, line_places, place_by, places_of_rest, root_places, AreKnown, HasPlaces, IsUnplaced};
+ghost use Rattle.hv_plan.specs.inside.Tables.{child_places, line_children, line_places, place_by, places_by, places_of_rest, root_places, AreKnown, HasPlaces, IsUnplaced};
 
-use super::begins::{children, line_count};
+use super::begins::{child_count, child_numbers, line_count};
 use super::numbers::short;
 use super::repeats::{earlier, second_parent};
 use super::table::Table;
 use super::{line_unless, none_at};
 use crate::cause::{CauseKind, TreeFault};
-use crate::plan::PlanText;
+use crate::plan::{DecompositionLines, PlanText};
 use hv_text::{Lists, Memory};
 use std::alloc::Global;
 
@@ -35,15 +35,51 @@ fn place_of(table: &Table, count: u32, id: u64) -> u32
     }
 }
 
-// The places of ids; a number of lines for those that begin none of them.
-fn places_of(alloc: Global, table: &Table, count: u32, ids: &[u64]) -> Result<Vec<u32>, Memory>
-    ensures { IfOk result (λ v. v.items ≡ map (λ i. unwrap_or (place_by table.now i) count)
-        ids.now) }
+// Pushes the places of ids; a number of lines for those that begin none of them.
+fn push_places(
+    places: &mut Vec<u32>,
+    table: &Table,
+    count: u32,
+    ids: &[u64],
+) -> Result<(), Memory>
+    ensures { OnOk result (places.new.items
+        ≡ places.old.items ++ places_by table.now count ids.now) }
 {
-    let mut places = Vec::with_capacity(alloc, ids.len())?;
     for id in ids {
         places.push(place_of(table, count, *id))?;
     }
+    Ok(())
+}
+
+// Pushes those of the children of decomposition lines.
+fn push_places_below(
+    places: &mut Vec<u32>,
+    table: &Table,
+    count: u32,
+    lines: &DecompositionLines<'_>,
+) -> Result<(), Memory>
+    ensures { OnOk result (places.new.items ≡ places.old.items
+        ++ places_by table.now count (line_children (decompositions_view lines.now))) }
+{
+    for line in lines.iter() {
+        push_places(places, table, count, line.children)?;
+    }
+    Ok(())
+}
+
+// Those of all children, the children of the root line first.
+fn places_of_all(
+    alloc: Global,
+    plan: &PlanText<'_>,
+    table: &Table,
+    count: u32,
+) -> Result<Vec<u32>, Memory>
+    ensures { IfOk result
+        (λ v. v.items ≡ places_by table.now count (all_children (plan_view plan.now))) }
+{
+    let mut places = Vec::with_capacity(alloc, child_count(plan))?;
+    push_places(&mut places, table, count, &plan.root)?;
+    push_places_below(&mut places, table, count, &plan.decompositions)?;
     Ok(places)
 }
 
@@ -101,10 +137,10 @@ pub(super) fn child_places(
     ensures none { OnOk result (NoneBelow (plan_view plan.now) 53) }
     ensures err { IfErr result (IsFormFault (plan_view plan.now)) }
 {
-    let children = children(alloc, plan)?;
     let count = short(line_count(plan))?;
-    let places = places_of(alloc, &table, count, &children.ids)?;
-    check_places(alloc, plan, &places, &children.lines)?;
+    let places = places_of_all(alloc, plan, &table, count)?;
+    let lines = child_numbers(alloc, plan)?;
+    check_places(alloc, plan, &places, &lines)?;
     Ok(places)
 }
 

@@ -2,7 +2,7 @@ use Rattle.std.proofs.Common.{◌++◌, ◌∷◌, [], ap, ◌∙◌}
 use Rattle.std.specs.Option.{unwrap_or}
 use Rattle.hv_plan.specs.inside.Tables.{place_by}
 use Rattle.hv_plan.proofs.HeadLists.{push_next}
-use Rattle.hv_plan.proofs.shape.places.places_of.Goals as goal
+use Rattle.hv_plan.proofs.shape.places.push_places.Goals as goal
 
 pub loop-id-preserved : goal.loop-id-preserved
 loop-id-preserved c =
