@@ -1,5 +1,5 @@
 -- Lists over the lines of a plan, and the steps of loops that make them.
-use Rattle.std.proofs.Common.{◌≡◌, ◌+◌, ◌<◌, ℕ, zero, suc, List, [], ◌∷◌, ◌++◌, map, refl, sym, ap, ◌∙◌, arith, length, take, drop, get_or, slice_get, slice_index, Some}
+use Rattle.std.proofs.Common.{◌≡◌, ◌+◌, ◌<◌, ℕ, zero, suc, List, [], ◌∷◌, ◌++◌, map, refl, sym, ap, ◌∙◌, arith, length, take, drop, get_or, slice_get, slice_index, Some, None}
 use Rattle.std.proofs.lemmas.List.{map-append, append_assoc, drop_more, take_more}
 use Rattle.hv_plan.specs.Values.{Action, Decomposition, Plan}
 use Rattle.hv_plan.specs.Shapes.{head, ids}
@@ -25,6 +25,20 @@ ids_are p = map-append (λ (a : Action). a.id) p.actions (map head p.decompositi
 
 pub lines_are : (p : Plan) → lines_of_heads p ≡ map (λ a. a.line) p.actions ++ map (λ d. d.line) p.decompositions
 lines_are p = map-append (λ (a : Action). a.line) p.actions (map head p.decompositions) ∙ ap (λ xs. map (λ (a : Action). a.line) p.actions ++ xs) (heads_lines p.decompositions)
+
+-- the number of the line of a place
+back_line : (xs ys : List Action) (k p : ℕ) → p ≡ k + length xs → slice_index (map (λ (a : Action). a.line) (xs ++ ys)) p ≡ slice_index (map (λ (a : Action). a.line) ys) k
+back_line [] ys k p e = let same : p ≡ k = omega (arith, e) in ap (slice_index (map (λ (a : Action). a.line) ys)) same
+back_line (x ∷ xs) ys k zero e = absurd (omega (arith, e))
+back_line (x ∷ xs) ys k (suc p) e = back_line xs ys k p (omega (arith, e))
+
+head_line : (ds : List Decomposition) (k : ℕ) (d : Decomposition) → slice_get ds k ≡ Some d → slice_index (map (λ (a : Action). a.line) (map head ds)) k ≡ d.line
+head_line [] k d e = absurd (let clash : None ≡ Some d = e in cc)
+head_line (x ∷ ds) zero d e = let same : x ≡ d = cc in ap (λ (y : Decomposition). y.line) same
+head_line (x ∷ ds) (suc k) d e = head_line ds k d e
+
+pub line_of_decomposition : (p : Plan) (place k : ℕ) (d : Decomposition) → place ≡ k + length p.actions → slice_get p.decompositions k ≡ Some d → d.line ≡ slice_index (lines_of_heads p) place
+line_of_decomposition p place k d is e = sym (back_line p.actions (map head p.decompositions) k place is ∙ head_line p.decompositions k d e)
 
 -- the step of a loop that pushes what a function gives of each
 pub push_next : {Y : Type 0} (f : ℕ → Y) (xs : List ℕ) (i : ℕ) (old new all : List Y) → i < length xs → new ≡ old ++ f (slice_index xs i) ∷ []

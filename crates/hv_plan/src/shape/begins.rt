@@ -1,6 +1,6 @@
 //! Ids and lines, one after another.
 
-ghost use Rattle.std.specs.Prelude.{◌≡◌, ◌++◌, map, length, IfOk, OnOk};
+ghost use Rattle.std.specs.Prelude.{◌≡◌, ◌<◌, ◌++◌, map, length, slice_index, IfOk, OnOk};
 ghost use Rattle.std.specs.List.{flat_map};
 ghost use Rattle.hv_plan.specs.LineViews.{actions_view, decompositions_view, plan_view};
 ghost use Rattle.hv_plan.specs.Shapes.{ids, heads, all_children, line_parent};
@@ -10,13 +10,6 @@ use crate::plan::{ActionLines, DecompositionLines, PlanText};
 use hv_text::Memory;
 use std::alloc::Global;
 
-/// Ids, and the line on which each of them stands.
-#[derive(Drop)]
-pub(super) struct Placed {
-    pub(super) ids: Vec<u64>,
-    pub(super) lines: Vec<u32>,
-}
-
 /// How many lines there are, the root line aside.
 pub(super) fn line_count(plan: &PlanText<'_>) -> usize
     ensures { result ≡ length (ids (plan_view plan.now)) }
@@ -24,8 +17,9 @@ pub(super) fn line_count(plan: &PlanText<'_>) -> usize
     plan.actions.len() + plan.decompositions.len()
 }
 
-/// The ids of action lines and then of decomposition lines.
-fn line_ids(alloc: Global, plan: &PlanText<'_>) -> Result<Vec<u64>, Memory>
+/// The ids that begin lines, the root line aside: those of action lines, and then those of decomposition
+/// lines. The place of a line is the place of its id here.
+pub(super) fn line_ids(alloc: Global, plan: &PlanText<'_>) -> Result<Vec<u64>, Memory>
     ensures { IfOk result (λ v. v.items ≡ ids (plan_view plan.now)) }
 {
     let mut ids = Vec::with_capacity(alloc, line_count(plan))?;
@@ -52,6 +46,17 @@ fn push_decomposition_ids(ids: &mut Vec<u64>, lines: &DecompositionLines<'_>) ->
         ids.push(line.id)?;
     }
     Ok(())
+}
+
+/// The number of the line of a place.
+pub(super) fn line_at(plan: &PlanText<'_>, place: usize) -> u32
+    requires { place < length (ids (plan_view plan.now)) }
+    ensures { result ≡ slice_index (lines_of_heads (plan_view plan.now)) place }
+{
+    match place.checked_sub(plan.actions.len()) {
+        None => plan.actions.at(place).line,
+        Some(line) => plan.decompositions.at(line).line,
+    }
 }
 
 /// The numbers of action lines and then of decomposition lines.
@@ -85,17 +90,6 @@ fn push_decomposition_numbers(
         numbers.push(line.line)?;
     }
     Ok(())
-}
-
-/// What begins the lines, the root line aside: the action lines, and then the decomposition lines. The
-/// place of a line is its place here.
-pub(super) fn begins(alloc: Global, plan: &PlanText<'_>) -> Result<Placed, Memory>
-    ensures ids { IfOk result (λ b. b.ids.items ≡ ids (plan_view plan.now)) }
-    ensures lines { IfOk result (λ b. b.lines.items ≡ lines_of_heads (plan_view plan.now)) }
-{
-    let ids = line_ids(alloc, plan)?;
-    let lines = line_numbers(alloc, plan)?;
-    Ok(Placed { ids, lines })
 }
 
 /// How many children there are.

@@ -36,12 +36,7 @@ fn place_of(table: &Table, count: u32, id: u64) -> u32
 }
 
 // Pushes the places of ids; a number of lines for those that begin none of them.
-fn push_places(
-    places: &mut Vec<u32>,
-    table: &Table,
-    count: u32,
-    ids: &[u64],
-) -> Result<(), Memory>
+fn push_places(places: &mut Vec<u32>, table: &Table, count: u32, ids: &[u64]) -> Result<(), Memory>
     ensures { OnOk result (places.new.items
         ≡ places.old.items ++ places_by table.now count ids.now) }
 {

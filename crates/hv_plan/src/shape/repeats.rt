@@ -3,10 +3,10 @@
 ghost use Rattle.std.specs.Prelude.{◌≡◌, ◌+◌, ◌<◌, ℕ, None, length, get_or, slice_index, IfOk, OnOk};
 ghost use Rattle.hv_plan.specs.LineViews.{plan_view};
 ghost use Rattle.hv_plan.specs.Shapes.{ids};
-ghost use Rattle.hv_plan.specs.inside.Shaping.{again_of, earlier};
+ghost use Rattle.hv_plan.specs.inside.Shaping.{again_of, earlier, lines_of_heads};
 ghost use Rattle.hv_plan.specs.inside.Tables.{line_again, ArePlaces, HasFirst, HasPlaces, IsLineRepeat, IsSecond, TakesIn};
 
-use super::begins::begins;
+use super::begins::{line_at, line_ids};
 use super::numbers::short;
 use super::table::Table;
 use crate::plan::PlanText;
@@ -35,36 +35,44 @@ pub(super) fn earlier(one: Option<u32>, other: Option<u32>) -> Option<u32>
 }
 
 // Takes in the id at a place: the later of its line and the first one with the id so far, where there is one.
-fn note(table: &mut Table, ids: &[u64], lines: &[u32], place: usize) -> Result<Option<u32>, Memory>
-    requires ids { place < length ids.now }
-    requires lines { place < length lines.now }
-    requires places { ArePlaces table.old ids.now place }
-    ensures places { OnOk result (ArePlaces table.new ids.now (place + 1)) }
-    ensures first { OnOk result (TakesIn table.old table.new ids.now lines.now place) }
-    ensures again { IfOk result (λ o. o ≡ line_again table.old ids.now lines.now place) }
+fn note(
+    table: &mut Table,
+    plan: &PlanText<'_>,
+    begins: &[u64],
+    place: usize,
+) -> Result<Option<u32>, Memory>
+    requires begins { place < length begins.now }
+    requires lines { place < length (ids (plan_view plan.now)) }
+    requires places { ArePlaces table.old begins.now place }
+    ensures places { OnOk result (ArePlaces table.new begins.now (place + 1)) }
+    ensures first { OnOk result
+        (TakesIn table.old table.new begins.now (lines_of_heads (plan_view plan.now)) place) }
+    ensures again { IfOk result
+        (λ o. o ≡ line_again table.old begins.now (lines_of_heads (plan_view plan.now)) place) }
 {
-    let id = ids[place];
+    let id = begins[place];
     let Some(first) = table.put(id, short(place)?)? else {
         return Ok(None);
     };
-    let line = lines[place];
-    let first_line = lines[first as usize];
+    let line = line_at(plan, place);
+    let first_line = line_at(plan, first as usize);
     if first_line < line {
         table.put(id, first)?;
     }
     Ok(Some(first_line.max(line)))
 }
 
-// The table of ids, each with the first of its lines. An id stands at its place's line.
-fn table_of(alloc: Global, ids: &[u64], lines: &[u32]) -> Result<Tabled, Memory>
-    requires { length ids.now ≡ length lines.now }
-    ensures repeat { IfOk result (λ t. IsSecond ids.now lines.now t.repeat) }
-    ensures places { IfOk result (λ t. t.repeat ≡ None → HasPlaces t.table ids.now) }
+// The table of the ids that begin lines, each with the first of its lines.
+fn table_of(alloc: Global, plan: &PlanText<'_>, begins: &[u64]) -> Result<Tabled, Memory>
+    requires { begins.now ≡ ids (plan_view plan.now) }
+    ensures repeat { IfOk result
+        (λ t. IsSecond begins.now (lines_of_heads (plan_view plan.now)) t.repeat) }
+    ensures places { IfOk result (λ t. t.repeat ≡ None → HasPlaces t.table begins.now) }
 {
-    let mut table = Table::for_ids(alloc, ids)?;
+    let mut table = Table::for_ids(alloc, begins)?;
     let mut repeat = None;
-    for place in 0..ids.len() {
-        let again = note(&mut table, ids, lines, place)?;
+    for place in 0..begins.len() {
+        let again = note(&mut table, plan, begins, place)?;
         repeat = earlier(repeat, again);
     }
     Ok(Tabled { table, repeat })
@@ -77,8 +85,8 @@ pub(super) fn line_table(alloc: Global, plan: &PlanText<'_>) -> Result<Tabled, M
     ensures places { IfOk result (λ t. t.repeat ≡ None
         → HasPlaces t.table (ids (plan_view plan.now))) }
 {
-    let begins = begins(alloc, plan)?;
-    let tabled = table_of(alloc, &begins.ids, &begins.lines)?;
+    let begins = line_ids(alloc, plan)?;
+    let tabled = table_of(alloc, plan, &begins)?;
     Ok(tabled)
 }
 

@@ -8,19 +8,19 @@ use Rattle.hv_plan.proofs.shape.repeats.note.Goals.{then-first_line-line+in_ok-p
 
 pub returns-in_default-clause-places : goal.returns-in_default-clause-places
 returns-in_default-clause-places c =
-    let ids = c.args.ids.now in
+    let ids = c.args.begins.now in
     among_put (place_by c.args.table.now) (place_by c.put.new.self) (slice_index ids c.args.place) c.in_ok-short.field-0 c.in_ok-first.ensures.places ids c.args.place (omega (arith, c.in_ok-short.ensures))
     (ap (slice_index ids) c.in_ok-short.ensures) c.requires.places
 
-pub bounds-lines-first : goal.bounds-lines-first
-bounds-lines-first c =
-    let before = c.requires.places (slice_index c.args.ids.now c.args.place) c.in-Some.first (sym c.in_ok-first.ensures.before ∙ c.in-Some.is) in
+pub line_at-first_line-requires : goal.line_at-first_line-requires
+line_at-first_line-requires c =
+    let before = c.requires.places (slice_index c.args.begins.now c.args.place) c.in-Some.first (sym c.in_ok-first.ensures.before ∙ c.in-Some.is) in
     let lt : c.in-Some.first < c.args.place = before.0 in
     omega (arith, lt, c.requires.lines)
 
 pub returns-clause-places : goal.returns-clause-places
 returns-clause-places c =
-    let ids = c.args.ids.now in
+    let ids = c.args.begins.now in
     let id = slice_index ids c.args.place in
     let old = place_by c.args.table.now in
     let mid = place_by c.put.new.self in
