@@ -1,6 +1,6 @@
 //! The places of children.
 
-ghost use Rattle.std.specs.Prelude.{◌≡◌, ◌++◌, length, unwrap_or, IfOk, IfErr, OnOk};
+ghost use Rattle.std.specs.Prelude.{◌≡◌, ◌↔◌, ◌++◌, ◌<◌, ℕ, true, length, slice_index, unwrap_or, IfOk, IfErr, OnOk};
 ghost use Rattle.hv_lists.specs.Lists.{Once};
 ghost use Rattle.hv_plan.specs.LineViews.{decompositions_view, plan_view};
 ghost use Rattle.hv_plan.specs.Shapes.{ids, all_children};
@@ -10,7 +10,7 @@ ghost use Rattle.hv_plan.specs.inside.Tables.{child_places, line_children, line_
 
 use super::begins::{child_count, child_numbers, line_count};
 use super::numbers::short;
-use super::repeats::{earlier, second_parent};
+use super::repeats::{earlier, second_line};
 use super::table::Table;
 use super::{line_unless, none_at};
 use crate::cause::{CauseKind, TreeFault};
@@ -90,16 +90,41 @@ fn unknown_child(count: usize, places: &[u32], lines: &[u32]) -> Option<u32>
     unknown
 }
 
-// Whether each child begins a line and is a child once, where these are the places of all children and
-// the lines that name them.
-fn check_places(
+// Whether all places are below a number.
+fn are_below(count: usize, places: &[u32]) -> bool
+    ensures { (result ≡ true) ↔
+        ((k : ℕ) → k < length places.now → slice_index places.now k < count) }
+{
+    for place in places {
+        if *place as usize >= count {
+            return false;
+        }
+    }
+    true
+}
+
+// The first line that names a child which begins none of so many lines, where these are the places of
+// all children. Which line names which is not asked where each of them begins one.
+fn unknown_line(
     alloc: Global,
     plan: &PlanText<'_>,
+    count: usize,
     places: &[u32],
-    lines: &[u32],
-) -> Result<(), TreeFault>
+) -> Result<Option<u32>, Memory>
+    requires { length places.now ≡ length (lines_of_children (plan_view plan.now)) }
+    ensures { IfOk result
+        (IsUnplaced count places.now (lines_of_children (plan_view plan.now))) }
+{
+    if are_below(count, places) {
+        return Ok(None);
+    }
+    let lines = child_numbers(alloc, plan)?;
+    Ok(unknown_child(count, places, &lines))
+}
+
+// Whether each child begins a line and is a child once, where these are the places of all children.
+fn check_places(alloc: Global, plan: &PlanText<'_>, places: &[u32]) -> Result<(), TreeFault>
     requires places { places.now ≡ child_places (plan_view plan.now) }
-    requires lines { lines.now ≡ lines_of_children (plan_view plan.now) }
     requires none { NoneBelow (plan_view plan.now) 51 }
     ensures known { OnOk result (AreKnown (plan_view plan.now)) }
     ensures single { OnOk result (Once (all_children (plan_view plan.now))) }
@@ -107,9 +132,9 @@ fn check_places(
     ensures err { IfErr result (IsFormFault (plan_view plan.now)) }
 {
     let count = line_count(plan);
-    let unknown = unknown_child(count, places, lines);
+    let unknown = unknown_line(alloc, plan, count, places)?;
     none_at(plan, CauseKind::UnknownChild, unknown)?;
-    let second = second_parent(alloc, count, places, lines)?;
+    let second = second_line(alloc, plan, count, places)?;
     none_at(plan, CauseKind::TwoParents, second)?;
     Ok(())
 }
@@ -134,8 +159,7 @@ pub(super) fn child_places(
 {
     let count = short(line_count(plan))?;
     let places = places_of_all(alloc, plan, &table, count)?;
-    let lines = child_numbers(alloc, plan)?;
-    check_places(alloc, plan, &places, &lines)?;
+    check_places(alloc, plan, &places)?;
     Ok(places)
 }
 

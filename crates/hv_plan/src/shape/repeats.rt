@@ -1,12 +1,13 @@
 //! Ids that stand twice.
 
-ghost use Rattle.std.specs.Prelude.{◌≡◌, ◌+◌, ◌<◌, ℕ, None, length, get_or, slice_index, IfOk, OnOk};
+ghost use Rattle.std.specs.Prelude.{◌≡◌, ◌↔◌, ◌+◌, ◌<◌, ℕ, None, true, length, get_or, slice_index, IfOk, OnOk};
+ghost use Rattle.hv_lists.specs.Lists.{Once};
 ghost use Rattle.hv_plan.specs.LineViews.{plan_view};
 ghost use Rattle.hv_plan.specs.Shapes.{ids};
-ghost use Rattle.hv_plan.specs.inside.Shaping.{again_of, earlier, lines_of_heads};
+ghost use Rattle.hv_plan.specs.inside.Shaping.{again_of, earlier, lines_of_children, lines_of_heads};
 ghost use Rattle.hv_plan.specs.inside.Tables.{line_again, ArePlaces, HasFirst, HasPlaces, IsLineRepeat, IsSecond, TakesIn};
 
-use super::begins::{line_at, line_ids};
+use super::begins::{child_numbers, line_at, line_ids};
 use super::numbers::short;
 use super::table::Table;
 use crate::plan::PlanText;
@@ -110,8 +111,8 @@ fn note_parent(first_lines: &mut [Option<u32>], place: usize, line: u32) -> Opti
     }
 }
 
-/// Where a place stands twice: the later of the lines that name it; of all these lines the first.
-pub(super) fn second_parent(
+// Where a place stands twice: the later of the lines that name it; of all these lines the first.
+fn second_parent(
     alloc: Global,
     count: usize,
     places: &[u32],
@@ -128,4 +129,38 @@ pub(super) fn second_parent(
         second = earlier(second, again);
     }
     Ok(second)
+}
+
+// Whether none of these places, which are below a number, stands twice.
+fn are_once(alloc: Global, count: usize, places: &[u32]) -> Result<bool, Memory>
+    requires { (k : ℕ) → k < length places.now → slice_index places.now k < count }
+    ensures { IfOk result (λ yes. (yes ≡ true) ↔ Once places.now) }
+{
+    let mut is_met = vec![in alloc; false; count]?;
+    for place in places {
+        if is_met[*place as usize] {
+            return Ok(false);
+        }
+        is_met[*place as usize] = true;
+    }
+    Ok(true)
+}
+
+/// Where a place of a child stands twice, the later of the lines that name it, of all these lines the
+/// first. Which line names which is not asked where none stands twice.
+pub(super) fn second_line(
+    alloc: Global,
+    plan: &PlanText<'_>,
+    count: usize,
+    places: &[u32],
+) -> Result<Option<u32>, Memory>
+    requires lines { length places.now ≡ length (lines_of_children (plan_view plan.now)) }
+    requires within { (k : ℕ) → k < length places.now → slice_index places.now k < count }
+    ensures { IfOk result (IsSecond places.now (lines_of_children (plan_view plan.now))) }
+{
+    if are_once(alloc, count, places)? {
+        return Ok(None);
+    }
+    let lines = child_numbers(alloc, plan)?;
+    second_parent(alloc, count, places, &lines)
 }

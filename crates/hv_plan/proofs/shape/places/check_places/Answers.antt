@@ -1,4 +1,4 @@
-use Rattle.std.proofs.Common.{◌≡◌, ◌<◌, ◌∙◌, ℕ, List, None, Option, ap, sym, subst, length, slice_index}
+use Rattle.std.proofs.Common.{◌≡◌, ◌<◌, ◌∙◌, ℕ, List, None, Option, sym, subst, length, slice_index}
 use Rattle.hv_plan.specs.LineViews.{plan_view}
 use Rattle.hv_plan.specs.Values.{Plan}
 use Rattle.hv_plan.specs.Shapes.{ids, all_children, parents}
@@ -9,65 +9,57 @@ use Rattle.hv_plan.proofs.ShapeFaults.{all_known, as_many_lines, pairs_are, unkn
 use Rattle.hv_plan.proofs.shape.places.check_places.Goals as goal
 
 -- the places and the lines of children are as many
-as_long : (p : Plan) (places lines : List ℕ) → places ≡ child_places p → lines ≡ lines_of_children p → length places ≡ length lines
-as_long p places lines are at = as_many_places (ids p) (all_children p) places are ∙ as_many_lines (parents p) ∙ sym (ap length at)
+as_long : (p : Plan) (places : List ℕ) → places ≡ child_places p → length places ≡ length (lines_of_children p)
+as_long p places are = as_many_places (ids p) (all_children p) places are ∙ as_many_lines (parents p)
 
 -- the first line with a child that begins no line
 abbrev IsUnknown : Plan → Option ℕ → Type 0
 IsUnknown p o = IsFirst (IsMissed (is_known (ids p) (all_children p)) (lines_of_children p) (length (all_children p))) o
 
-unknown : (p : Plan) (places lines : List ℕ) (count : ℕ) (o : Option ℕ) → places ≡ child_places p → lines ≡ lines_of_children p → count ≡ length (ids p)
-    → IsUnplaced count places lines o → IsUnknown p o
-unknown p places lines count o are at many first =
-    unknown_by_place (ids p) (all_children p) places are (lines_of_children p) o (subst (λ ls. IsUnplaced (length (ids p)) places ls o) at (subst (λ n. IsUnplaced n places lines o) many first))
+unknown : (p : Plan) (places : List ℕ) (count : ℕ) (o : Option ℕ) → places ≡ child_places p → count ≡ length (ids p) → IsUnplaced count places (lines_of_children p) o → IsUnknown p o
+unknown p places count o are many first = unknown_by_place (ids p) (all_children p) places are (lines_of_children p) o (subst (λ n. IsUnplaced n places (lines_of_children p) o) many first)
 
-known : (p : Plan) (places lines : List ℕ) (count : ℕ) (o : Option ℕ) → places ≡ child_places p → lines ≡ lines_of_children p → count ≡ length (ids p)
-    → IsUnplaced count places lines o → o ≡ None → IsUnknown p None
-known p places lines count o are at many first none = subst (IsUnknown p) none (unknown p places lines count o are at many first)
+known : (p : Plan) (places : List ℕ) (count : ℕ) (o : Option ℕ) → places ≡ child_places p → count ≡ length (ids p) → IsUnplaced count places (lines_of_children p) o → o ≡ None → IsUnknown p None
+known p places count o are many first none = subst (IsUnknown p) none (unknown p places count o are many first)
 
-second : (p : Plan) (places lines : List ℕ) (o : Option ℕ) → places ≡ child_places p → lines ≡ lines_of_children p → IsUnknown p None → IsSecond places lines o
-    → IsSecond (all_children p) (lines_of_children p) o
-second p places lines o are at none first =
-    repeats_by_place (ids p) (all_children p) places are (all_known p none) (lines_of_children p) o (subst (λ ls. IsSecond places ls o) at first)
+second : (p : Plan) (places : List ℕ) (o : Option ℕ) → places ≡ child_places p → IsUnknown p None → IsSecond places (lines_of_children p) o → IsSecond (all_children p) (lines_of_children p) o
+second p places o are none first = repeats_by_place (ids p) (all_children p) places are (all_known p none) (lines_of_children p) o first
 
-pub unknown_child-unknown-requires : goal.unknown_child-unknown-requires
-unknown_child-unknown-requires c = as_long (plan_view c.args.plan.now) c.args.places.now c.args.lines.now c.requires.places c.requires.lines
+pub unknown_line-requires : goal.unknown_line-requires
+unknown_line-requires c = as_long (plan_view c.args.plan.now) c.args.places.now c.requires.places
 
 pub none_at-requires-clause-first : goal.none_at-requires-clause-first
 none_at-requires-clause-first c =
     let p = plan_view c.args.plan.now in
-    unknowns_are p c.args.plan.now.order c.unknown_child-unknown.result
-    (unknown p c.args.places.now c.args.lines.now c.line_count-count.result c.unknown_child-unknown.result c.requires.places c.requires.lines c.line_count-count.ensures c.unknown_child-unknown.ensures)
+    unknowns_are p c.args.plan.now.order c.in_ok-unknown.unknown
+    (unknown p c.args.places.now c.line_count-count.result c.in_ok-unknown.unknown c.requires.places c.line_count-count.ensures c.in_ok-unknown.ensures)
 
-pub second_parent-requires-clause-lines : goal.second_parent-requires-clause-lines
-second_parent-requires-clause-lines c = as_long (plan_view c.args.plan.now) c.args.places.now c.args.lines.now c.requires.places c.requires.lines
+pub second_line-requires-clause-lines : goal.second_line-requires-clause-lines
+second_line-requires-clause-lines c = as_long (plan_view c.args.plan.now) c.args.places.now c.requires.places
 
-pub second_parent-requires-clause-within : goal.second_parent-requires-clause-within
-second_parent-requires-clause-within c = λ k w.
+pub second_line-requires-clause-within : goal.second_line-requires-clause-within
+second_line-requires-clause-within c = λ k w.
     let p = plan_view c.args.plan.now in
     let places = c.args.places.now in
-    let none = known p places c.args.lines.now c.line_count-count.result c.unknown_child-unknown.result c.requires.places c.requires.lines c.line_count-count.ensures c.unknown_child-unknown.ensures c.in_ok-none_at.ensures.none in
+    let none = known p places c.line_count-count.result c.in_ok-unknown.unknown c.requires.places c.line_count-count.ensures c.in_ok-unknown.ensures c.in_ok-none_at.ensures.none in
     subst (λ n. slice_index places k < n) (sym c.line_count-count.ensures) (places_within (ids p) (all_children p) places c.requires.places (all_known p none) k w)
 
 pub none_at-requires-2-clause-first : goal.none_at-requires-2-clause-first
 none_at-requires-2-clause-first c =
     let p = plan_view c.args.plan.now in
     let places = c.args.places.now in
-    let lines = c.args.lines.now in
-    let none = known p places lines c.line_count-count.result c.unknown_child-unknown.result c.requires.places c.requires.lines c.line_count-count.ensures c.unknown_child-unknown.ensures c.in_ok-none_at.ensures.none in
-    pairs_are p c.args.plan.now.order c.in_ok-second.second (second p places lines c.in_ok-second.second c.requires.places c.requires.lines none c.in_ok-second.ensures)
+    let none = known p places c.line_count-count.result c.in_ok-unknown.unknown c.requires.places c.line_count-count.ensures c.in_ok-unknown.ensures c.in_ok-none_at.ensures.none in
+    pairs_are p c.args.plan.now.order c.in_ok-second.second (second p places c.in_ok-second.second c.requires.places none c.in_ok-second.ensures)
 
 pub returns-clause-known : goal.returns-clause-known
 returns-clause-known c =
     let p = plan_view c.args.plan.now in
-    all_known p
-    (known p c.args.places.now c.args.lines.now c.line_count-count.result c.unknown_child-unknown.result c.requires.places c.requires.lines c.line_count-count.ensures c.unknown_child-unknown.ensures c.in_ok-none_at.ensures.none)
+    all_known p (known p c.args.places.now c.line_count-count.result c.in_ok-unknown.unknown c.requires.places c.line_count-count.ensures c.in_ok-unknown.ensures c.in_ok-none_at.ensures.none)
 
 pub returns-clause-single : goal.returns-clause-single
 returns-clause-single c =
     let p = plan_view c.args.plan.now in
     let places = c.args.places.now in
-    let lines = c.args.lines.now in
-    let none = known p places lines c.line_count-count.result c.unknown_child-unknown.result c.requires.places c.requires.lines c.line_count-count.ensures c.unknown_child-unknown.ensures c.in_ok-none_at.ensures.none in
+    let none = known p places c.line_count-count.result c.in_ok-unknown.unknown c.requires.places c.line_count-count.ensures c.in_ok-unknown.ensures c.in_ok-none_at.ensures.none in
     no_repeat (all_children p) (lines_of_children p)
-    (subst (IsSecond (all_children p) (lines_of_children p)) c.in_ok-none_at-2.ensures.none (second p places lines c.in_ok-second.second c.requires.places c.requires.lines none c.in_ok-second.ensures))
+    (subst (IsSecond (all_children p) (lines_of_children p)) c.in_ok-none_at-2.ensures.none (second p places c.in_ok-second.second c.requires.places none c.in_ok-second.ensures))
