@@ -17,8 +17,8 @@ pub(super) fn line_count(plan: &PlanText<'_>) -> usize
     plan.actions.len() + plan.decompositions.len()
 }
 
-/// The ids that begin lines, the root line aside: those of action lines, and then those of decomposition
-/// lines. The place of a line is the place of its id here.
+/// The ids that begin lines, the root line aside: those of action lines, and then those of
+/// decomposition lines. The place of a line is the place of its id here.
 pub(super) fn line_ids(alloc: Global, plan: &PlanText<'_>) -> Result<Vec<u64>, Memory>
     ensures { IfOk result (λ v. v.items ≡ ids (plan_view plan.now)) }
 {

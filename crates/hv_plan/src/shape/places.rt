@@ -103,8 +103,8 @@ fn are_below(count: usize, places: &[u32]) -> bool
     true
 }
 
-// The first line that names a child which begins none of so many lines, where these are the places of
-// all children. Which line names which is not asked where each of them begins one.
+// The first line that names a child which begins none of so many lines, where these are the places
+// of all children. Which line names which is not asked where each of them begins one.
 fn unknown_line(
     alloc: Global,
     plan: &PlanText<'_>,

@@ -146,8 +146,8 @@ fn are_once(alloc: Global, count: usize, places: &[u32]) -> Result<bool, Memory>
     Ok(true)
 }
 
-/// Where a place of a child stands twice, the later of the lines that name it, of all these lines the
-/// first. Which line names which is not asked where none stands twice.
+/// Where a place of a child stands twice, the later of the lines that name it, of all these lines
+/// the first. Which line names which is not asked where none stands twice.
 pub(super) fn second_line(
     alloc: Global,
     plan: &PlanText<'_>,
