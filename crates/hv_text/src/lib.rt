@@ -31,7 +31,7 @@ pub use laws::{
 };
 pub use lists::Lists;
 pub use memory::{FromMemory, ToMemory};
-pub use name::{Name, is_word_byte};
+pub use name::Name;
 pub use refusal::Memory;
 pub use seed::Seeded;
 pub use sexp::Sexp;
