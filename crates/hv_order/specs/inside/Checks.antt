@@ -86,7 +86,7 @@ pub record IsRight (q : Setting) (v k : ℕ) (s : Choice) (M B : List ℕ) : Typ
   pub candidate : IsCandidateAt q.plan.world q.tree v M B
   pub holds : OfMethod q v (λ m. HoldsAt q m B k)
 
--- what is said of a node is right with this matching, or with none
+-- what is said of a node is right with this matching; or, where the answer is no, with none
 abbrev pub IsEntryFor : Setting → ℕ → ℕ → Choice → List ℕ → Bool → Type 0
 IsEntryFor q v k s M true = (B : List ℕ) × IsRight q v k s M B
 IsEntryFor q v k s M false = (M B : List ℕ) → IsRight q v k s M B → ⊥
@@ -113,7 +113,7 @@ pub record AreEntries
       (v : ℕ) → v < length q.tree.nodes
       → IsEntryOf q c (slice_index ps v) v (matching_in Ms v) (slice_index ks v)
 
--- what is said of all nodes is right
+-- what is said of the node at a place, that of number v, is right with some matching and binding
 pub record AreRight (q : Setting) (c : Certificate) (place : ℕ) (v : ℕ) : Type 0 where
   pub choice : Choice
   pub index : ℕ
