@@ -161,7 +161,7 @@ fn are_all(marks: &[bool]) -> bool
     true
 }
 
-// The first line that was not met.
+// The first line that was not met. The lines are gathered only where there is one.
 fn unmet_line(alloc: Global, plan: &PlanText<'_>, is_met: &[bool]) -> Result<Option<u32>, Memory>
     requires { length is_met.now ≡ length (ids (plan_view plan.now)) }
     ensures { IfOk result (IsFirst (IsMissed (is_marked is_met.now)
