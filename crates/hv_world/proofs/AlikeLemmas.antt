@@ -17,7 +17,7 @@ use Rattle.hv_world.specs.declared.id.TaskName as code
 use Rattle.hv_world.specs.declared.id.TaskName.TheVariants as names
 use Rattle.hv_world.specs.declared.formula.Term as code_term
 use Rattle.hv_world.specs.declared.formula.Term.TheVariants as terms
-use Rattle.hv_world.specs.Views.{term_view}
+use Rattle.hv_world.specs.Views.{name_view, term_view}
 use Rattle.hv_world.specs.Values.{Term, object, variable, TaskName, compound, primitive, Subtask}
 use Rattle.hv_world.specs.Alike.{has_object, same_name, is_fixed, fixed_objects, Key, same_key, how_many, without, classes, is_variable, has_variable, is_argument, is_free, is_object}
 use Rattle.hv_world.specs.inside.Kept.{key_view, is_name, is_marked, kept_marks, RowSays, counted}
@@ -107,6 +107,15 @@ row_stays ss s n (Some row) e says = λ k. says k ∙ sym (and_true (is_fixed ss
 pub lookup_same : {K X : Type 0} (t u : K → Bool) → ((x : K) → t x ≡ u x) → (es : List (K × X)) → lookup t es ≡ lookup u es
 lookup_same t u h [] = refl
 lookup_same t u h (e ∷ es) = ap (λ b. cond b (Some e.1) (lookup t es)) (h e.0) ∙ ap (λ r. cond (u e.0) (Some e.1) r) (lookup_same t u h es)
+
+-- what has the same name is looked up alike
+pub looked_up : {X : Type 0} (m n : code.TaskName) (es : List (code.TaskName × X)) (r : Option X) → lookup (is_name m) es ≡ r
+    → cond (is_name m n) r (lookup (is_name n) es) ≡ lookup (is_name n) es
+looked_up m n es r e = go (is_name m n) refl
+  where
+    go : (b : Bool) → is_name m n ≡ b → cond b r (lookup (is_name n) es) ≡ lookup (is_name n) es
+    go true h = sym e ∙ lookup_same (is_name m) (is_name n) (λ x. ap (λ v. same_name v (name_view x)) (name_same (name_view m) (name_view n) h)) es
+    go false h = refl
 
 -- the objects at fixed positions
 

@@ -1,10 +1,10 @@
 -- The numbers of classes.
-use Rattle.std.proofs.Common.{◌≡◌, ℕ, zero, suc, ◌+◌, ◌<◌, Bool, true, false, true≢false, cond, not, nat_lt, List, [], ◌∷◌, ◌++◌, length, map, drop, get_or, slice_get, Option, Some, None, option_map, Contains, refl, sym, ap, ◌∙◌, arith, if◌then◌else◌, All}
+use Rattle.std.proofs.Common.{◌≡◌, ℕ, zero, suc, ◌+◌, ◌<◌, Bool, true, false, true≢false, cond, not, nat_lt, List, [], ◌∷◌, ◌++◌, length, map, drop, get_or, slice_get, Option, Some, None, option_map, Contains, refl, sym, ap, ap₂, ◌∙◌, arith, if◌then◌else◌, All}
 use Rattle.std.specs.List.{position, position_or_len}
 use Rattle.std.specs.Map.{keys_of}
 use Rattle.std.proofs.lemmas.Bool.{ltb-true, lt-ltb}
 use Rattle.std.proofs.lemmas.List.Elements.{All-nil, All-cons, All-filter}
-use Rattle.indexmap.specs.IndexMap.{insert_entry}
+use Rattle.indexmap.specs.IndexMap.{insert_entry, set_value_at}
 use Rattle.hv_lists.proofs.Bools.{same_bools}
 use Rattle.hv_lists.proofs.Contained.{at_head, in_tail, map_mem}
 use Rattle.hv_world.specs.contracts.alike.KeyPartialEq.TheImpl.{eq-value as key-value}
@@ -139,3 +139,20 @@ unnamed ss n os says = none_in k (classes (keys ss)) (apart_classes k (keys ss) 
         let names : n ≡ t.name = ap (λ (z : Key). z.name) (key_same k j e ∙ sym r.2) in
         let fixed : is_fixed ss t.name (length t.terms) ≡ true = ap (λ m. is_fixed ss m (length t.terms)) (sym names) ∙ sym (says (length t.terms)) in
         absurd (true≢false (sym (fixed_has ss t (length t.terms) r.1 fixed) ∙ none_at_end t.terms))
+
+-- the entries with a key inserted, and then another value at its place
+replaced : (k : code_key.Key) (v w : ℕ) (es : List (code_key.Key × ℕ)) → set_value_at (insert_entry key-value.it es k v) (position_or_len (key-value.it k) (keys_of es)) w ≡ insert_entry key-value.it es k w
+replaced k v w [] = refl
+replaced k v w (e ∷ es) = go (key-value.it k e.0) (replaced k v w es)
+  where
+    go : (b : Bool) → set_value_at (insert_entry key-value.it es k v) (position_or_len (key-value.it k) (keys_of es)) w ≡ insert_entry key-value.it es k w
+        → set_value_at (if b then (e.0, v) ∷ es else e ∷ insert_entry key-value.it es k v) (cond (not b) (1 + position_or_len (key-value.it k) (keys_of es)) 0) w ≡ (if b then (e.0, w) ∷ es else e ∷ insert_entry key-value.it es k w)
+    go true r = refl
+    go false r =
+        let n = position_or_len (key-value.it k) (keys_of es) in
+        let more : 1 + n ≡ suc n = omega arith in
+        rw more (ap (λ l. e ∷ l) r)
+
+pub value_replaced : (k : code_key.Key) (v w : ℕ) (es : List (code_key.Key × ℕ)) (i : ℕ) (fs : List (code_key.Key × ℕ)) → fs ≡ insert_entry key-value.it es k v → i ≡ position_or_len (key-value.it k) (keys_of es)
+    → set_value_at fs i w ≡ insert_entry key-value.it es k w
+value_replaced k v w es i fs e h = ap₂ (λ l j. set_value_at l j w) e h ∙ replaced k v w es

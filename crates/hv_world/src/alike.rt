@@ -33,17 +33,12 @@ impl Hash for TaskName {
 
     ghost respects_eq = { Prim.search (hashing, rules) };
 
-    // A hasher takes a whole word as fast as a byte, and words behind a byte much slower.
+    // The number alone is fed, in one word: a task and an action of one number have one hash, and no
+    // third name has it.
     fn hash<H: Hasher>(&self, state: &mut H) {
         match self {
-            TaskName::Compound(task) => {
-                state.write_usize(0);
-                state.write_usize(task.0);
-            }
-            TaskName::Primitive(action) => {
-                state.write_usize(1);
-                state.write_usize(action.0);
-            }
+            TaskName::Compound(task) => state.write_usize(task.0),
+            TaskName::Primitive(action) => state.write_usize(action.0),
         }
     }
 }
@@ -90,7 +85,19 @@ fn kept_marks(alloc: Global, marks: &[bool], terms: &[Term]) -> Result<Vec<bool>
     Ok(kept)
 }
 
-// Takes account of one subtask more.
+// Whether these terms have an object at each marked position, so that all marks are kept.
+fn are_kept(marks: &[bool], terms: &[Term]) -> bool
+    ensures { result ≡ true → kept_marks (map term_view terms.now) 0 marks.now ≡ marks.now }
+{
+    for (position, mark) in marks.iter().enumerate() {
+        if *mark && !has_object(terms, position) {
+            return false;
+        }
+    }
+    true
+}
+
+// Takes account of one subtask more. Most leave the marks as they are.
 fn note_objects(
     alloc: Global,
     rows: &mut IndexMap<TaskName, Vec<bool>, Seeded>,
@@ -101,7 +108,12 @@ fn note_objects(
         → RowsSay (ss ++ subtask_view subtask.now ∷ []) rows.new) }
 {
     let row = match rows.get(&subtask.name) {
-        Some(marks) => kept_marks(alloc, marks, &subtask.terms)?,
+        Some(marks) => {
+            if are_kept(marks, &subtask.terms) {
+                return Ok(());
+            }
+            kept_marks(alloc, marks, &subtask.terms)?
+        }
         None => object_marks(alloc, &subtask.terms)?,
     };
     rows.insert(subtask.name, row)?;
@@ -112,10 +124,11 @@ fn note_objects(
 fn fixed_positions(
     alloc: Global,
     subtasks: &[Subtask],
+    seed: Seeded,
 ) -> Result<IndexMap<TaskName, Vec<bool>, Seeded>, Memory>
     ensures { IfOk result (RowsSay (map subtask_view subtasks.now)) }
 {
-    let mut rows = IndexMap::with_hasher(alloc, seed_of_subtasks(subtasks));
+    let mut rows = IndexMap::with_hasher(alloc, seed);
     for subtask in subtasks {
         note_objects(alloc, &mut rows, subtask)?;
     }
@@ -127,7 +140,7 @@ fn marked_objects(alloc: Global, marks: &[bool], terms: &[Term]) -> Result<Vec<u
     ensures { IfOk result
         (λ v. v.items ≡ alike.fixed_objects (is_marked marks.now) 0 (map term_view terms.now)) }
 {
-    let mut objects = Vec::new(alloc);
+    let mut objects = Vec::with_capacity(alloc, terms.len())?;
     for (position, term) in terms.iter().enumerate() {
         match term {
             Term::Object(object) if is_marked(marks, position) => objects.push(object.0)?,
@@ -181,8 +194,14 @@ fn count(sizes: &mut IndexMap<Key, usize, Seeded>, key: Key) -> Result<usize, Me
     ensures number { IfOk result
         (λ n. alike.number_in (key_view key) (counts_in sizes.new) ≡ Some n) }
 {
-    let size = sizes.get(&key).copied().unwrap_or(0);
-    let (number, _) = sizes.insert_full(key, size + 1)?;
+    let (number, before) = sizes.insert_full(key, 1)?;
+    let Some(before) = before else {
+        return Ok(number);
+    };
+    match sizes.get_index_mut(number) {
+        Some(size) => *size = before + 1,
+        None => unreachable!(),
+    }
     Ok(number)
 }
 
@@ -222,8 +241,9 @@ impl Classes {
     pub(crate) fn new(alloc: Global, subtasks: &[Subtask]) -> Result<Classes, Memory>
         ensures { IfOk result (AreClasses (map subtask_view subtasks.now)) }
     {
-        let fixed = fixed_positions(alloc, subtasks)?;
-        let mut counts = IndexMap::with_hasher(alloc, seed_of_subtasks(subtasks));
+        let seed = seed_of_subtasks(subtasks);
+        let fixed = fixed_positions(alloc, subtasks, seed)?;
+        let mut counts = IndexMap::with_hasher(alloc, seed);
         let mut numbers = Vec::with_capacity(alloc, subtasks.len())?;
         for subtask in subtasks {
             let key = key_of(alloc, &fixed, subtask)?;

@@ -43,7 +43,11 @@ impl<'s> Names<'s> {
         ensures seed { IfOk result (λ t. seed_of t ≡ start_from (names (map word_view words.now))) }
     {
         let mut names = Names {
-            places: IndexMap::with_hasher(alloc, with_words(Seeded::new(), words)),
+            places: IndexMap::with_capacity_and_hasher(
+                alloc,
+                words.len(),
+                with_words(Seeded::new(), words),
+            )?,
             hints: Hints::with_room(alloc, words.len())?,
         };
         for place in 0..words.len() {
@@ -64,7 +68,11 @@ impl<'s> Names<'s> {
             (λ t. seed_of t ≡ start_from (variables (map variable_view list.now))) }
     {
         let mut names = Names {
-            places: IndexMap::with_hasher(alloc, with_variables(Seeded::new(), list)),
+            places: IndexMap::with_capacity_and_hasher(
+                alloc,
+                list.len(),
+                with_variables(Seeded::new(), list),
+            )?,
             hints: Hints::with_room(alloc, list.len())?,
         };
         for place in 0..list.len() {

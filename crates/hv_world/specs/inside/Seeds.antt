@@ -28,8 +28,8 @@ written_names v = v.name.text ∷ written_type v.of
 
 -- what the name of a subtask feeds to a hasher, and an object that it names
 abbrev pub name_writes : TaskName → fed.HashWrites
-name_writes (compound t) = fed.usize 0 ++ fed.usize t
-name_writes (primitive a) = fed.usize 1 ++ fed.usize a
+name_writes (compound t) = fed.usize t
+name_writes (primitive a) = fed.usize a
 
 abbrev pub term_writes : Term → fed.HashWrites
 term_writes (object o) = fed.usize o

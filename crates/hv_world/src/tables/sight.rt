@@ -104,7 +104,8 @@ pub(crate) fn object_names<'s>(
         ≡ by_sight (variables (map typed_view constants.now ++ map typed_view objects.now))) }
 {
     let seed = with_typed(with_typed(Seeded::new(), constants), objects);
-    let mut names = IndexSet::with_hasher(alloc, seed);
+    let most = constants.len().saturating_add(objects.len());
+    let mut names = IndexSet::with_capacity_and_hasher(alloc, most, seed)?;
     add_names(&mut names, constants)?;
     add_names(&mut names, objects)?;
     Ok(names)

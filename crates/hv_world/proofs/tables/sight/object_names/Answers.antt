@@ -13,6 +13,6 @@ returns-clause-keys c =
     let constants = map typed_view c.args.constants.now in
     let objects = map typed_view c.args.objects.now in
     c.in_ok-add_names-2.ensures.keys
-    ∙ ap (λ ns. with_names ns (variables objects)) (c.in_ok-add_names.ensures.keys ∙ ap (λ ks. with_names (map text_of ks) (variables constants)) c.with_hasher-names.ensures.empty)
+    ∙ ap (λ ns. with_names ns (variables objects)) (c.in_ok-add_names.ensures.keys ∙ ap (λ ks. with_names (map text_of ks) (variables constants)) c.in_ok-names.ensures.empty)
     ∙ sym (with_names-append [] (variables constants) (variables objects))
     ∙ ap (with_names []) (sym (map-append (λ (v : Typed). v.name.text) constants objects))
