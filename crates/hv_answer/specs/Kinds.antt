@@ -1,5 +1,5 @@
--- The numbers and names under which faults and causes are reported, the verdict of an answer and the
--- kind of a verdict.
+-- The numbers and names under which faults and causes are reported, the verdict of an answer and
+-- the kind of a verdict.
 use Rattle.std.specs.Prelude.{ℕ, List, codes}
 use Rattle.hv_plan.specs.Causes as trees
 use Rattle.hv_answer.specs.declared.answer.Which.{Which}

@@ -1,5 +1,5 @@
-//! Answers: what is said of a domain, a problem and a plan, and its text. How a verdict is found is not
-//! known here.
+//! Answers: what is said of a domain, a problem and a plan, and its text. How a verdict is found is
+//! not known here.
 #![tactic(auto)]
 
 mod answer;

@@ -296,9 +296,9 @@ pub fn write_verdict<W: Sink>(verdict: Verdict, out: &mut W) -> Result<(), Write
     write_all(out, b"\n")
 }
 
-/// Writes that a plan does not solve its problem by a certificate, and where a line of the certificate's
-/// text is given, that this one does not fit. Where a write fails, a beginning of that text was
-/// written. No memory is taken.
+/// Writes that a plan does not solve its problem by a certificate, and where a line of the
+/// certificate's text is given, that this one does not fit. Where a write fails, a beginning of
+/// that text was written. No memory is taken.
 pub fn write_refusal<W: Sink>(line: Option<u64>, out: &mut W) -> Result<(), WriteFault>
     requires { W.failures out.old < 2 ^ 64 - 1 }
     ensures ok { OnOk result (Appends (W.taken out.old) (W.taken out.new) (refusal_text line)) }

@@ -1,4 +1,5 @@
-//! The tests of the command line, which call its public items alone. Beside the tests there is nothing here.
+//! The tests of the command line, which call its public items alone. Beside the tests there is
+//! nothing here.
 #![tactic(auto)]
 
 #[cfg(test)]

@@ -1,4 +1,5 @@
-//! A reader and a writer that are as slow as may be and falter once, for tests of what is built over readers and writers.
+//! A reader and a writer that are as slow as may be and falter once, for tests of what is built
+//! over readers and writers.
 
 ghost use Rattle.std.specs.Prelude.{◌≡◌, Some, []};
 
@@ -16,7 +17,8 @@ pub struct FalteringReader<'a> {
 impl<'a> FalteringReader<'a> {
     ghost use Rattle.hv_fixtures.specs.Faltering.{bytes_left, reads_before, reads_failed};
 
-    /// A reader of these bytes whose first `good_reads` reads go well, and the next one fails; None fails none.
+    /// A reader of these bytes whose first `good_reads` reads go well, and the next one fails; None
+    /// fails none.
     pub fn new(bytes: &'a [u8], good_reads: Option<usize>) -> FalteringReader<'a>
         ensures left { bytes_left result ≡ bytes.now }
         ensures before { reads_before result ≡ good_reads }
@@ -69,7 +71,8 @@ pub struct FalteringWriter {
 impl FalteringWriter {
     ghost use Rattle.hv_fixtures.specs.Faltering.{bytes_taken, writes_before, falter_of, writes_failed};
 
-    /// A writer whose first `good_writes` writes go well, and the next one falters in this way; None falters in none.
+    /// A writer whose first `good_writes` writes go well, and the next one falters in this way;
+    /// None falters in none.
     pub fn new(alloc: Global, good_writes: Option<usize>, falter: Falter) -> FalteringWriter
         ensures taken { bytes_taken result ≡ [] }
         ensures before { writes_before result ≡ good_writes }

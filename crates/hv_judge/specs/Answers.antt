@@ -1,5 +1,5 @@
--- The laws of verdicts and answers: three texts and a limit have one verdict, it says whether there is
--- a solution, and a text is rejected exactly where the three do not spell what is judged.
+-- The laws of verdicts and answers: three texts and a limit have one verdict, it says whether there
+-- is a solution, and a text is rejected exactly where the three do not spell what is judged.
 use Rattle.std.specs.Prelude.{◌≡◌, ◌⊎◌, ℕ, true, List}
 use Rattle.hv_syntax.specs.Values.{Domain, Problem}
 use Rattle.hv_plan.specs.Values.{Plan}
@@ -21,8 +21,8 @@ use Rattle.hv_judge.specs.Solutions.{IsSolution}
 use Rattle.hv_answer.specs.Text.{answer_text}
 use Rattle.hv_judge.specs.Verdicts.{AreSpelled, IsSpelledAs, HasVerdict, Judged}
 
--- three texts and a limit have one verdict: the bytes decide which text is rejected and where, what is
--- said of the plan, the cause and its line
+-- three texts and a limit have one verdict: the bytes decide which text is rejected and where, what
+-- is said of the plan, the cause and its line
 abbrev pub OneVerdictLaw : Type 0
 OneVerdictLaw =
     (domain problem plan : List ℕ) (limit : ℕ) (v u : Verdict)
@@ -60,7 +60,8 @@ CertifiedLaw =
     (domain problem plan cert : List ℕ) (r : Recheck) → Rechecked domain problem plan cert r
     → r.certified ≡ true → IsSpelledAs domain problem plan IsSolution
 
--- what is written of a plan that solves its problem, with its certificate, is the certificate's text
+-- what is written of a plan that solves its problem, with its certificate, is the certificate's
+-- text
 abbrev pub ExplainedLaw : Type 0
 ExplainedLaw = (c : Certificate) → answer_text (answers.Solves c) true ≡ cert_text c
 

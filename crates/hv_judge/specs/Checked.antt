@@ -38,8 +38,8 @@ abbrev pub count_of : {A : Type 0} → Option A → ℕ
 count_of None = 0
 count_of (Some x) = 1
 
--- How many formulas are evaluated: at most one for each action line and for each decomposition line,
--- and the goal; on a yes just these, the goal where the problem has one
+-- How many formulas are evaluated: at most one for each action line and for each decomposition
+-- line, and the goal; on a yes just these, the goal where the problem has one
 pub record CountsFormulas (w : World) (p : Plan) (r : Recheck) : Type 0 where
   pub within : r.evaluated ≤ length p.actions + length p.decompositions + 1
   pub whole :
@@ -53,9 +53,9 @@ pub record IsRecheckOf (cert : List ℕ) (r : Recheck) (w : World) (p : Plan) : 
   pub certified : Tells (SolvesBy w p certificate) r.certified
   pub evaluated : CountsFormulas w p r
 
--- A line of the text of a certificate that does not fit the plan, by its number in the text: the plan
--- reaches the goal, and what the line says of its node does not fit. The first line is `solves`, and
--- the others have the order of the nodes
+-- A line of the text of a certificate that does not fit the plan, by its number in the text: the
+-- plan reaches the goal, and what the line says of its node does not fit. The first line is
+-- `solves`, and the others have the order of the nodes
 pub record IsMisfitLine (w : World) (p : Plan) (c : Certificate) (line : ℕ) : Type 0 where
   pub tree : PlanTree
   pub reaches : ReachesGoal w p tree
@@ -79,13 +79,13 @@ pub record IsExaminedOf (cert : List ℕ) (e : Examined) (w : World) (p : Plan) 
 abbrev pub AreExamined : List ℕ → List ℕ → List ℕ → List ℕ → Examined → Type 0
 AreExamined domain problem plan cert e = IsSpelledAs domain problem plan (IsExaminedOf cert e)
 
--- The three texts spell a plan and the world that it is for, the fourth is the text of a certificate,
--- and the answer says whether the plan solves its problem by that certificate
+-- The three texts spell a plan and the world that it is for, the fourth is the text of a
+-- certificate, and the answer says whether the plan solves its problem by that certificate
 abbrev pub Rechecked : List ℕ → List ℕ → List ℕ → List ℕ → Recheck → Type 0
 Rechecked domain problem plan cert r = IsSpelledAs domain problem plan (IsRecheckOf cert r)
 
--- One of four texts is rejected: the first that is too long; else the domain, the problem or the plan
--- as where they are judged; else the certificate, for its first line that is not of its form
+-- One of four texts is rejected: the first that is too long; else the domain, the problem or the
+-- plan as where they are judged; else the certificate, for its first line that is not of its form
 pub data IsRejectedOfFour (domain problem plan cert : List ℕ) : Which → Fault → Type 0 where
   too_long : (w : Which) → first_too_long domain problem plan ≡ Some w
       → IsRejectedOfFour domain problem plan cert w (fault_nowhere kinds.TooLong)

@@ -70,7 +70,8 @@ pub data IsHaltFrom {R : Type 0} (w : Which) (left : R → Option (List ℕ)) (r
       → Next fault → IsHaltFrom w left r r' Alone Next fault
 
 -- the same four; behind the last a growth was refused
-abbrev pub IsRecheckHaltOfCertificate : {D : Type 0} → (D → Option (List ℕ)) → D → D → RunFault → Type 0
+abbrev pub IsRecheckHaltOfCertificate : {D : Type 0} → (D → Option (List ℕ)) → D → D → RunFault
+    → Type 0
 IsRecheckHaltOfCertificate left_d d d' = IsHaltFrom texts.Certificate left_d d d' (Unit {0}) IsWant
 
 abbrev pub IsRecheckHaltOfPlan : {C D : Type 0} → (C → Option (List ℕ)) → C → C
@@ -81,7 +82,8 @@ IsRecheckHaltOfPlan left_c c c' left_d d d' =
 abbrev pub IsRecheckHaltOfProblem : {B C D : Type 0} → (B → Option (List ℕ)) → B → B
     → (C → Option (List ℕ)) → C → C → (D → Option (List ℕ)) → D → D → RunFault → Type 0
 IsRecheckHaltOfProblem left_b b b' left_c c c' left_d d d' =
-    IsHaltFrom texts.Problem left_b b b' ((c' ≡ c) × (d' ≡ d)) (IsRecheckHaltOfPlan left_c c c' left_d d d')
+    IsHaltFrom texts.Problem left_b b b' ((c' ≡ c) × (d' ≡ d))
+    (IsRecheckHaltOfPlan left_c c c' left_d d d')
 
 abbrev pub IsRecheckHaltOf : {A B C D : Type 0} → (A → Option (List ℕ)) → A → A
     → (B → Option (List ℕ)) → B → B → (C → Option (List ℕ)) → C → C

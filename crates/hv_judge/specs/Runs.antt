@@ -80,12 +80,13 @@ IsTextOf v k text = (k ≡ kind_of v) × (text ≡ verdict_text v)
 abbrev pub IsExplained : Answer → Kind → List ℕ → Type 0
 IsExplained a k text = (k ≡ kind_of (verdict_of a)) × (text ≡ answer_text a true)
 
--- what is written of three texts, and its kind: with explanation the text of an answer that the judge
--- may give, else that of their verdict
+-- what is written of three texts, and its kind: with explanation the text of an answer that the
+-- judge may give, else that of their verdict
 abbrev pub IsSaid : List ℕ → List ℕ → List ℕ → ℕ → Bool → Kind → List ℕ → Type 0
 IsSaid domain problem plan limit true k text = (a : Answer) × Judged domain problem plan limit a
     × IsExplained a k text
-IsSaid domain problem plan limit false k text = (v : Verdict) × HasVerdict domain problem plan limit v
+IsSaid domain problem plan limit false k text = (v : Verdict)
+    × HasVerdict domain problem plan limit v
     × IsTextOf v k text
 
 -- what comes of one reader: what `Next` allows for the text that it gave, or the line of its
@@ -96,7 +97,8 @@ pub data ComesOf {R K : Type 0} (w : Which) (left : R → Option (List ℕ)) (r 
       → IsRead (left r) (left r') MOST_BYTES text → Next text k line
       → ComesOf w left r r' Alone rejected Next k line
   text_too_long : IsTooLong (left r) (left r') → Alone
-      → ComesOf w left r r' Alone rejected Next rejected (rejection w (fault_nowhere faults.TooLong))
+      → ComesOf w left r r' Alone rejected Next rejected
+      (rejection w (fault_nowhere faults.TooLong))
 
 -- what is written after the domain and the problem were read, after the domain was read, and of all
 -- three readers

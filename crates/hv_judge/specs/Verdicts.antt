@@ -42,8 +42,8 @@ IsVerdict limit (Undecided line) w q = (t : PlanTree) × ReachesGoal w q t
     × IsFirstAbove w t limit line
 IsVerdict limit (Rejected which fault) w q = ⊥
 
--- the verdict of three texts and a limit: a text is rejected, or all three are spelled and it is that
--- of the plan
+-- the verdict of three texts and a limit: a text is rejected, or all three are spelled and it is
+-- that of the plan
 abbrev pub HasVerdict : List ℕ → List ℕ → List ℕ → ℕ → Verdict → Type 0
 HasVerdict domain problem plan limit Solves =
     IsSpelledAs domain problem plan (IsVerdict limit Solves)
@@ -65,8 +65,8 @@ IsCertified domain problem plan (answers.Fails c) = Unit {0}
 IsCertified domain problem plan (answers.Undecided line) = Unit {0}
 IsCertified domain problem plan (answers.Rejected which fault) = Unit {0}
 
--- what the judge may answer: its verdict is that of the texts, and where it solves, its certificate is
--- right
+-- what the judge may answer: its verdict is that of the texts, and where it solves, its certificate
+-- is right
 pub record Judged (domain problem plan : List ℕ) (limit : ℕ) (a : Answer) : Type 0 where
   pub verdict : HasVerdict domain problem plan limit (verdict_of a)
   pub certified : IsCertified domain problem plan a

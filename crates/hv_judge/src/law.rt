@@ -15,9 +15,9 @@ use hv_syntax::{a_domain_or_a_fault, a_problem_or_a_fault, a_text_says_one_thing
 use hv_world::a_world_or_a_fault;
 
 /// Three texts and a limit have one verdict: the same text is rejected, for the same fault at the
-/// same place, or the same is said of the plan, with the same cause and line. Whatever the judge may
-/// answer for them, its verdict is this one. Only the certificate of a plan that solves its problem
-/// is left open: several may be right.
+/// same place, or the same is said of the plan, with the same cause and line. Whatever the judge
+/// may answer for them, its verdict is this one. Only the certificate of a plan that solves its
+/// problem is left open: several may be right.
 pub fn one_answer()
     ensures verdict { OneVerdictLaw }
     ensures answer { OneAnswerLaw }
@@ -76,8 +76,8 @@ pub fn values_or_a_rejection()
 }
 
 /// Four texts have one answer, whether the certificate is right: what it says of a plan hangs on
-/// its text alone. The text that is written of a plan that solves its problem, with its certificate,
-/// is answered with a yes.
+/// its text alone. The text that is written of a plan that solves its problem, with its
+/// certificate, is answered with a yes.
 pub fn one_recheck()
     ensures one { OneRecheckLaw }
     ensures explained { ExplainedAgainLaw }

@@ -291,8 +291,8 @@ fn recheck_problem<B: Source, C: Source, D: Source, W: Sink>(
 }
 
 /// Reads a domain, a problem, a plan and a certificate, in this order, checks the certificate, and
-/// writes a line, as `run_recheck` does. Where `misfit` is asked for, the line of the certificate that
-/// does not fit stands behind `not certified`, unless no certificate helps the plan.
+/// writes a line, as `run_recheck` does. Where `misfit` is asked for, the line of the certificate
+/// that does not fit stands behind `not certified`, unless no certificate helps the plan.
 ///
 /// # Errors
 ///

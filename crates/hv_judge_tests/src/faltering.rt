@@ -10,7 +10,8 @@ use hv_judge::{Kind, RecheckKind, RunFault, Which, run, run_recheck};
 use std::alloc::Global;
 use std::test::Fail;
 
-// What `run` answers where the reader of each text gives one byte a call and may fail at one of them.
+// What `run` answers where the reader of each text gives one byte a call and may fail at one of
+// them.
 fn run_slowly(
     alloc: Global,
     reads: [Option<usize>; 3],
@@ -75,7 +76,8 @@ fn writers_that_falter(rt: HostRuntime) -> Result<(), Fail> {
     Ok(())
 }
 
-// What `run_recheck` answers where the reader of each text gives one byte a call and may fail at one of them.
+// What `run_recheck` answers where the reader of each text gives one byte a call and may fail at
+// one of them.
 fn recheck_slowly(
     alloc: Global,
     reads: [Option<usize>; 4],

@@ -36,16 +36,19 @@ child_tasks t n = map (child_task t) n.children
 
 -- a constraint holds under B
 abbrev pub Holds : List ℕ → Constraint → Type 0
-Holds B c = (instance (slice_index B) c.left ≡ instance (slice_index B) c.right) ↔ (c.is_equal ≡ true)
+Holds B c = (instance (slice_index B) c.left ≡ instance (slice_index B) c.right)
+    ↔ (c.is_equal ≡ true)
 
 -- the child at place x does what the subtask says under B
 abbrev pub Does : List (Option Subtask) → List ℕ → ℕ → Subtask → Type 0
 Does children B x s = slice_get children x ≡ Some (Some (subtask_instance (slice_index B) s))
 
--- M gives to each subtask of the method, in written order, the place of a child, to each another, and none is left
--- out; B gives to each parameter an object of its type. Under B the method's task has the objects of the node's, each
--- child does its subtask, and the constraints hold. The initial network has no task, and its node no objects
-pub record IsCandidate (w : World) (m : Method) (objects : List ℕ) (children : List (Option Subtask)) (M B : List ℕ) : Type 0 where
+-- M gives to each subtask of the method, in written order, the place of a child, to each another,
+-- and none is left out; B gives to each parameter an object of its type. Under B the method's task
+-- has the objects of the node's, each child does its subtask, and the constraints hold. The initial
+-- network has no task, and its node no objects
+pub record IsCandidate (w : World) (m : Method) (objects : List ℕ)
+    (children : List (Option Subtask)) (M B : List ℕ) : Type 0 where
   pub once : Once M
   pub within : All (λ x. x < length children) M
   pub all : length M ≡ length children
@@ -69,10 +72,12 @@ IsNode w t v = IsSome (method_at w t v)
 -- a candidate of the node of a number
 abbrev pub IsCandidateAt : World → PlanTree → ℕ → List ℕ → List ℕ → Type 0
 IsCandidateAt w t v M B =
-    MatchOption (slice_get t.nodes v) ⊥ (λ n. MatchOption (node_method w n) ⊥ (λ m. IsCandidate w m n.objects (child_tasks t n) M B))
+    MatchOption (slice_get t.nodes v) ⊥
+    (λ n. MatchOption (node_method w n) ⊥
+    (λ m. IsCandidate w m n.objects (child_tasks t n) M B))
 
--- A list of candidates, one of which is lent: the places of its children and its objects, and the candidates that are
--- still to come
+-- A list of candidates, one of which is lent: the places of its children and its objects, and the
+-- candidates that are still to come
 pub record Listing : Type 0 where
   pub children : List ℕ
   pub objects : List ℕ
@@ -80,19 +85,23 @@ pub record Listing : Type 0 where
 
 -- with these objects the atoms that the precondition of a node's method needs may be true
 abbrev pub IsPossibleAt : World → PlanTree → ℕ → Option (List (List ℕ)) → List ℕ → Type 0
-IsPossibleAt w t v ever B = MatchOption (method_at w t v) ⊥ (λ m. are_possible ever B (needed m.precondition) ≡ true)
+IsPossibleAt w t v ever B =
+    MatchOption (method_at w t v) ⊥ (λ m. are_possible ever B (needed m.precondition) ≡ true)
 
 -- to come are just the candidates of the node of a number that are possible
 abbrev pub HasAllAt : World → PlanTree → ℕ → Option (List (List ℕ)) → Listing → Type 0
-HasAllAt w t v ever l = (M B : List ℕ) → Contains l.coming (M, B) ↔ (IsCandidateAt w t v M B × IsPossibleAt w t v ever B)
+HasAllAt w t v ever l = (M B : List ℕ)
+    → Contains l.coming (M, B) ↔ (IsCandidateAt w t v M B × IsPossibleAt w t v ever B)
 
--- one was to come, which is lent now, and the others are still to come; or none was to come, and none is
+-- one was to come, which is lent now, and the others are still to come; or none was to come, and
+-- none is
 abbrev pub IsAdvance : Listing → Listing → Bool → Type 0
 IsAdvance old new b =
-    MatchBool b (old.coming ≡ (new.children, new.objects) ∷ new.coming) ((old.coming ≡ []) × (new.coming ≡ []))
+    MatchBool b (old.coming ≡ (new.children, new.objects) ∷ new.coming)
+    ((old.coming ≡ []) × (new.coming ≡ []))
 
--- the first of the candidates that were to come are left out, and for each of these the same children as for the one
--- that is lent stand for the first n subtasks
+-- the first of the candidates that were to come are left out, and for each of these the same
+-- children as for the one that is lent stand for the first n subtasks
 pub record IsPassing (n : ℕ) (old new : Listing) : Type 0 where
   pub children : new.children ≡ old.children
   pub objects : new.objects ≡ old.objects

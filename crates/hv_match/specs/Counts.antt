@@ -35,8 +35,8 @@ AreChoicesOf w m i n = AreSoMany w (slice_index m.parameters i) n
 abbrev pub AreChoices : World → Method → List ℕ → List ℕ → Type 0
 AreChoices w m is ns = AllZip (AreChoicesOf w m) is ns
 
--- The count: the product of the factorials of the sizes of the classes of alike subtasks, and of the numbers of objects
--- that the free parameters may have
+-- The count: the product of the factorials of the sizes of the classes of alike subtasks, and of
+-- the numbers of objects that the free parameters may have
 pub record IsCount (w : World) (m : Method) (k : ℕ) : Type 0 where
   pub choices : List ℕ
   pub are_choices : AreChoices w m (free m) choices

@@ -244,9 +244,9 @@ impl<'a> Candidates<'a> {
         Ok(candidates)
     }
 
-    /// All candidates of a node, each once, in no said order; they are no more than its count. Where
-    /// it is told which atoms are ever true in some states, those are left out whose precondition needs
-    /// another. Err only for want of memory.
+    /// All candidates of a node, each once, in no said order; they are no more than its count.
+    /// Where it is told which atoms are ever true in some states, those are left out whose
+    /// precondition needs another. Err only for want of memory.
     pub fn new(
         alloc: Global,
         matcher: &'a Matcher<'_, '_>,

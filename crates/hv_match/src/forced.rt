@@ -1,6 +1,6 @@
-//! Choices that are forced: those with which every match of a puzzle begins. Where each subtask has a
-//! name that one child alone has, and the task and the children say all objects, as in most nodes of
-//! most plans, there is one match at most, and nothing need be searched.
+//! Choices that are forced: those with which every match of a puzzle begins. Where each subtask has
+//! a name that one child alone has, and the task and the children say all objects, as in most nodes
+//! of most plans, there is one match at most, and nothing need be searched.
 
 ghost use Rattle.std.specs.Prelude.{◌≡◌, ◌<◌, length, true, IfSome};
 ghost use Rattle.hv_world.specs.Views.{name_view};
@@ -56,7 +56,8 @@ impl Puzzle<'_> {
         }
     }
 
-    /// Writes down the choices of the only match that there may be. Says no where that does not show.
+    /// Writes down the choices of the only match that there may be. Says no where that does not
+    /// show.
     pub(crate) fn force(&self, chosen: &mut [usize]) -> bool
         requires { length chosen.old ≡ puzzles.levels (puzzle_view self.now) }
         ensures size { length chosen.new ≡ length chosen.old }

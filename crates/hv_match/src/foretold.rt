@@ -1,5 +1,5 @@
-//! Parameters that a later subtask tells before its child is chosen: where just one child is tried for
-//! it.
+//! Parameters that a later subtask tells before its child is chosen: where just one child is tried
+//! for it.
 
 ghost use Rattle.std.specs.Prelude.{◌≡◌, ◌<◌, length, map, true, IfSome, Some, slice_get};
 ghost use Rattle.hv_world.specs.Values.{variable};
@@ -14,9 +14,9 @@ use hv_text::Memory;
 use hv_world::{Network, Term};
 use std::alloc::Global;
 
-/// For each parameter its place in the last subtask that has it and is alone in its class. The table
-/// is empty where each subtask is alone in its class, so that no child has a rival. Only the time of
-/// the search hangs on it.
+/// For each parameter its place in the last subtask that has it and is alone in its class. The
+/// table is empty where each subtask is alone in its class, so that no child has a rival. Only the
+/// time of the search hangs on it.
 pub(crate) fn tellers(
     alloc: Global,
     parameters: usize,

@@ -88,8 +88,8 @@ impl<'w, 's> Matcher<'w, 's> {
         }
     }
 
-    /// The node of a number of a tree of this world, and the table of its method. It is inlined, so that
-    /// what is not asked of the node is not looked up.
+    /// The node of a number of a tree of this world, and the table of its method. It is inlined, so
+    /// that what is not asked of the node is not looked up.
     #[inline(always)]
     pub(crate) fn node_and_table<'a>(
         &'a self,

@@ -60,8 +60,8 @@ impl Puzzle<'_> {
         }
     }
 
-    /// Whether one of the constraints that are decided by so many choices is broken, or an atom that
-    /// they decide is needed and never true.
+    /// Whether one of the constraints that are decided by so many choices is broken, or an atom
+    /// that they decide is needed and never true.
     pub(crate) fn is_broken(&self, chosen: &[usize]) -> bool
         ensures { result ≡ true → NothingBegins (search_of self.now) chosen.now }
     {
@@ -121,8 +121,8 @@ impl Puzzle<'_> {
     }
 
     // Whether one of the parameters that have their objects from these terms, those of a subtask or
-    // of the task, is bound to an object that it cannot have: by its type, or by what another subtask
-    // tells of it.
+    // of the task, is bound to an object that it cannot have: by its type, or by what another
+    // subtask tells of it.
     fn is_outside(&self, chosen: &[usize], subtask: Option<usize>, terms: &[Term]) -> bool
         ensures { result ≡ true → NothingBegins (search_of self.now) chosen.now }
     {

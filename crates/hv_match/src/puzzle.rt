@@ -193,8 +193,8 @@ impl<'a> Puzzle<'a> {
         values.len() == self.table.ranges.len()
     }
 
-    /// Whether the children at these places, which may be one, do the subtasks with these objects, and
-    /// all else holds.
+    /// Whether the children at these places, which may be one, do the subtasks with these objects,
+    /// and all else holds.
     pub(crate) fn suits(&self, places: &[usize], values: &[usize]) -> bool
         ensures { result ≡ puzzles.suits (puzzle_view self.now) places.now values.now }
     {

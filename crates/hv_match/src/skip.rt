@@ -15,8 +15,8 @@ use hv_world::{Atom, Term};
 impl Puzzle<'_> {
     ghost use Rattle.hv_match.specs.inside.PuzzleViews.{puzzle_view, search_of};
 
-    // The first object from another on with which, for a parameter, an atom may be true at some time;
-    // it is told where the parameter is the last term of the atom, and the others are known.
+    // The first object from another on with which, for a parameter, an atom may be true at some
+    // time; it is told where the parameter is the last term of the atom, and the others are known.
     fn next_object(
         &self,
         ever: EverTrue<'_>,
@@ -43,8 +43,8 @@ impl Puzzle<'_> {
         ever.next_possible(&AtomView::of_numbers(atom.predicate, &numbers[..=count]))
     }
 
-    /// The number of an object of a parameter up to which, from another on, all need not be tried: an
-    /// atom that is needed, and decided by the parameter, is never true with them.
+    /// The number of an object of a parameter up to which, from another on, all need not be tried:
+    /// an atom that is needed, and decided by the parameter, is never true with them.
     pub(crate) fn skip_objects(
         &self,
         ever: EverTrue<'_>,

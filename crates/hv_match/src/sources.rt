@@ -27,8 +27,8 @@ fn write(sources: &mut [Option<Source>], term: Term, source: Source)
     }
 }
 
-/// Writes down a source for each parameter among the terms of a subtask or of the task, from the last
-/// to the first, so that the first stays.
+/// Writes down a source for each parameter among the terms of a subtask or of the task, from the
+/// last to the first, so that the first stays.
 pub(crate) fn write_terms(sources: &mut [Option<Source>], subtask: Option<usize>, terms: &[Term])
     ensures size { length sources.new ≡ length sources.old }
     ensures sources { AreWritten sources.old subtask (map term_view terms.now) sources.new }

@@ -6,9 +6,9 @@ ghost use Rattle.hv_match.specs.inside.States.{HasFound, HasLeft, IsFrontOf, IsN
 use crate::rule::Rule;
 use std::alloc::AllocError;
 
-/// What was chosen so far, the number of each choice, the number of the next one to try, and whether
-/// all is over. For each of the choices that differ, `made_at` has the level at which it was made
-/// last; whether it stands there still, `chosen` says, so that nothing is taken back.
+/// What was chosen so far, the number of each choice, the number of the next one to try, and
+/// whether all is over. For each of the choices that differ, `made_at` has the level at which it
+/// was made last; whether it stands there still, `chosen` says, so that nothing is taken back.
 #[derive(Drop)]
 pub(crate) struct State {
     pub(crate) chosen: Vec<usize>,

@@ -31,6 +31,8 @@ pub(crate) struct MethodTable<'w> {
     pub(crate) needed_by: Vec<Vec<usize>>,
     /// The count, if 64 bits hold it.
     pub(crate) count: Option<u64>,
-    pub(crate) ghost listed: { map subtask_view subtasks.now ≡ (network_view network.now).subtasks },
-    pub(crate) ghost sourced: { AreSourcesOf (length ranges.items) task.now subtasks.now sources.items },
+    pub(crate) ghost listed: { map subtask_view subtasks.now
+        ≡ (network_view network.now).subtasks },
+    pub(crate) ghost sourced: { AreSourcesOf (length ranges.items) task.now subtasks.now
+        sources.items },
 }

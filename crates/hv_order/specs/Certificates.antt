@@ -22,13 +22,17 @@ pub record AreFinishes (t : Tree) (at : ℕ → ℕ) (finish : Item → ℕ) : T
 -- What the check looks at, node by node: each precondition is true at its index, no child starts
 -- before it, a child that must come before another finishes before that starts, and no initial task
 -- finishes after n
-pub record KeepsRules (t : Tree) (o : Choice) (at : ℕ → ℕ) (finish : Item → ℕ) (n : ℕ) : Type 0 where
+pub record KeepsRules (t : Tree) (o : Choice) (at : ℕ → ℕ) (finish : Item → ℕ)
+    (n : ℕ) : Type 0 where
   pub holds : (v : ℕ) → Reached t (Task v) → (o.line v).true_at (at v) ≡ true
-  pub from : (v : ℕ) (x : Item) → Reached t (Task v) → Contains (t.children v) x → at v ≤ subtask_start at x
+  pub from : (v : ℕ) (x : Item) → Reached t (Task v) → Contains (t.children v) x
+      → at v ≤ subtask_start at x
   pub order :
-      (v : ℕ) (x y : Item) → Reached t (Task v) → Contains (t.children v) x → Contains (t.children v) y
+      (v : ℕ) (x y : Item) → Reached t (Task v) → Contains (t.children v) x
+      → Contains (t.children v) y
       → (o.line v).before x y ≡ true → finish x ≤ subtask_start at y
   pub until : (x : Item) → Contains t.initial_tasks x → finish x ≤ n
   pub root_order :
-      (x y : Item) → Contains t.initial_tasks x → Contains t.initial_tasks y → o.root.before x y ≡ true
+      (x y : Item) → Contains t.initial_tasks x → Contains t.initial_tasks y
+      → o.root.before x y ≡ true
       → finish x ≤ subtask_start at y

@@ -54,12 +54,14 @@ pub record Certifies (q : Setting) (c : Certificate) : Type 0 where
   pub at : ℕ → ℕ
   pub choice : meanings.Choice
   pub root :
-      AmountsTo q (root_number q.tree) (matching (root_number q.tree)) (binding (root_number q.tree))
+      AmountsTo q (root_number q.tree) (matching (root_number q.tree))
+      (binding (root_number q.tree))
       choice.root
   pub nodes :
       (v : ℕ) → v < root_number q.tree → AmountsTo q v (matching v) (binding v) (choice.line v)
   pub says_root :
-      Says q (root_number q.tree) (matching (root_number q.tree)) (binding (root_number q.tree)) c.root
+      Says q (root_number q.tree) (matching (root_number q.tree))
+      (binding (root_number q.tree)) c.root
   pub says_lines : AllZip (SaysLine q matching binding at) (line_numbers q.tree) c.lines.items
   pub sequence : HasSequenceAt (tree_of q.tree) choice at (last q)
 
@@ -73,8 +75,8 @@ abbrev pub CertifiedPlans : Type 0
 CertifiedPlans =
     (q : Setting) (c : Certificate) → IsTreeIn q.plan.world q.tree → Certifies q c → IsSolved q
 
--- why it is not said that a plan is solved: the first node without a candidate, or else that it is not
--- solved even where preconditions are taken as true, or is solved only there
+-- why it is not said that a plan is solved: the first node without a candidate, or else that it is
+-- not solved even where preconditions are taken as true, or is solved only there
 abbrev pub IsUnsolvedBy : Setting → Unsolved → Type 0
 IsUnsolvedBy q (unsolved.NoBinding line) = IsFirstWithout q line
 IsUnsolvedBy q unsolved.OrderBroken =

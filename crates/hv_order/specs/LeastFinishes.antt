@@ -17,19 +17,19 @@ abbrev pub LineCanBePlaced : Setting → ℕ → ℕ → ℕ → Type 0
 LineCanBePlaced q v =
     CanBePlaced (line_tree (tree_of q.tree) v) (listed (free_meaning ∷ [])) (IsMeaning q)
 
--- The steps of the node of number v can be placed between s and f: those of the root line's node are
--- all steps of the plan, and those of any other node are the steps at and below its line
+-- The steps of the node of number v can be placed between s and f: those of the root line's node
+-- are all steps of the plan, and those of any other node are the steps at and below its line
 pub record NodeCanBePlaced (q : Setting) (v s f : ℕ) : Type 0 where
   pub root : v ≡ root_number q.tree → PlanCanBePlaced q s f
   pub line : v < root_number q.tree → LineCanBePlaced q v s f
 
--- the least finish of the node of number v for the start s, which is at most the last state; there is
--- none where the node's steps cannot be placed between s and the last state
+-- the least finish of the node of number v for the start s, which is at most the last state; there
+-- is none where the node's steps cannot be placed between s and the last state
 abbrev pub IsLeastFinishOf : Setting → ℕ → ℕ → Option ℕ → Type 0
 IsLeastFinishOf q v s o = IsLeast (NodeCanBePlaced q v s) (last q) o
 
--- so many different answers are there to the starts from 0 to n, where Fit says which finishes a start
--- has and the answer is the least of them; none is counted as one answer
+-- so many different answers are there to the starts from 0 to n, where Fit says which finishes a
+-- start has and the answer is the least of them; none is counted as one answer
 pub record IsNumberOfAnswers (Fit : ℕ → ℕ → Type 0) (n count : ℕ) : Type 0 where
   pub answers : List (Option ℕ)
   pub as_many : length answers ≡ count

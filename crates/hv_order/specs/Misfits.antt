@@ -15,8 +15,8 @@ abbrev pub IsPart : Certificate → ℕ → Choice → ℕ → Type 0
 IsPart c zero s k = (s ≡ c.root) × (k ≡ 0)
 IsPart c (suc i) s k = (id : ℕ) × (slice_get c.lines.items i ≡ Some (id, s, k))
 
--- line i of a certificate and decomposition line i do not begin with one id, or there is only one of
--- the two
+-- line i of a certificate and decomposition line i do not begin with one id, or there is only one
+-- of the two
 pub record IsOther (t : PlanTree) (c : Certificate) (i : ℕ) : Type 0 where
   pub there : (i < length (line_numbers t)) ⊎ (i < length c.lines.items)
   pub differ :
@@ -35,16 +35,18 @@ pub record AreTimes (q : Setting) (c : Certificate) (at : ℕ → ℕ) (finish :
   pub finishes : AreFinishes (tree_of q.tree) at finish
 
 -- no child of a node starts before it, or before another is over that must come before
-pub record StartInOrder (q : Setting) (at : ℕ → ℕ) (finish : Item → ℕ) (v : ℕ) (m : Meaning) : Type 0 where
+pub record StartInOrder (q : Setting) (at : ℕ → ℕ) (finish : Item → ℕ) (v : ℕ)
+    (m : Meaning) : Type 0 where
   pub from : (x : Item) → Contains (children_at q.tree.nodes v) x → at v ≤ subtask_start at x
   pub order :
-      (x y : Item) → Contains (children_at q.tree.nodes v) x → Contains (children_at q.tree.nodes v) y
+      (x y : Item) → Contains (children_at q.tree.nodes v) x
+      → Contains (children_at q.tree.nodes v) y
       → m.before x y ≡ true → finish x ≤ subtask_start at y
 
 -- A line of a certificate that does not fit, by its place in the order of nodes. It is not the line
--- of the node at this place; or what it says is no candidate, or one whose precondition is not true at
--- the index; or the children do not start in order; or, for the root line, they are not over when the
--- plan is
+-- of the node at this place; or what it says is no candidate, or one whose precondition is not true
+-- at the index; or the children do not start in order; or, for the root line, they are not over
+-- when the plan is
 pub data IsMisfit (q : Setting) (c : Certificate) : ℕ → Type 0 where
   other_line : (i : ℕ) → IsOther q.tree c i → IsMisfit q c (suc i)
   no_candidate :

@@ -1,13 +1,14 @@
 -- Task networks, decomposition and derivations, as hierarchical networks are published for HDDL:
 -- decomposition puts the subtasks of a method in the place of a task, and they inherit the task's
--- place in the order. Here the network of a method holds one step more, the precondition step, which
--- comes before all subtasks. It stays when the method has no subtask.
+-- place in the order. Here the network of a method holds one step more, the precondition step,
+-- which comes before all subtasks. It stays when the method has no subtask.
 use Rattle.std.specs.Prelude.{◌≡◌, ℕ, Bool, false, if◌then◌else◌, ◌==◌, List, [], ◌∷◌, ◌++◌, map, Contains}
 use Rattle.hv_lists.specs.Lists.{Once}
 use Rattle.hv_plan.specs.Trees.{Item, Act, Task, Pre, Tree, Reached, IsPrimitive}
 use Rattle.hv_order.specs.Meanings.{Choice}
 
--- Items, and pairs (x, y) of them where x must come before y. A list stands for the set of its members
+-- Items, and pairs (x, y) of them where x must come before y. A list stands for the set of its
+-- members
 pub record Network : Type 0 where
   pub items : List Item
   pub pairs : List (Item × Item)
@@ -15,7 +16,8 @@ pub record Network : Type 0 where
 -- the pairs (c, d) of one item c with each d of a list that it must come before
 abbrev pub pairs_from : (Item → Item → Bool) → Item → List Item → List (Item × Item)
 pairs_from before c [] = []
-pairs_from before c (d ∷ ds) = if before c d then (c, d) ∷ pairs_from before c ds else pairs_from before c ds
+pairs_from before c (d ∷ ds) =
+    if before c d then (c, d) ∷ pairs_from before c ds else pairs_from before c ds
 
 -- the pairs (c, d), c of one list and d of another, where c must come before d
 abbrev pub ordered_pairs : (Item → Item → Bool) → List Item → List Item → List (Item × Item)
@@ -31,7 +33,8 @@ is_line v (Pre u) = false
 -- the items with new ones in the place of the task of line v
 abbrev pub items_after : ℕ → List Item → List Item → List Item
 items_after v new [] = []
-items_after v new (x ∷ xs) = if is_line v x then new ++ items_after v new xs else x ∷ items_after v new xs
+items_after v new (x ∷ xs) =
+    if is_line v x then new ++ items_after v new xs else x ∷ items_after v new xs
 
 -- The pairs that (x, y) leaves behind. If x is the task of line v, each new item comes before y in
 -- its place; if y is, each new item comes behind x in its place; else the pair stays. No network of
@@ -55,7 +58,8 @@ initial_network t o =
     }
 
 -- the network after the task of line v was decomposed: in its place stand its precondition step and
--- its children, the precondition step before each child, the children ordered by the line's candidate
+-- its children, the precondition step before each child, the children ordered by the line's
+-- candidate
 abbrev pub decomposition : Tree → Choice → ℕ → Network → Network
 decomposition t o v n =
     record {
@@ -70,7 +74,8 @@ decomposition t o v n =
 -- each stands in the network when its turn comes
 abbrev pub Leads : Tree → Choice → Network → List ℕ → Network → Type 0
 Leads t o from [] to = from ≡ to
-Leads t o from (v ∷ vs) to = Contains from.items (Task v) × Leads t o (decomposition t o v from) vs to
+Leads t o from (v ∷ vs) to = Contains from.items (Task v)
+    × Leads t o (decomposition t o v from) vs to
 
 -- A derivation: decompositions in some order, of each line of the tree exactly once, that lead from
 -- the initial network to one of actions and precondition steps alone

@@ -17,7 +17,8 @@ ends at (Task v) = 0
 ends at (Pre v) = at v
 
 -- The indices are a schedule of the tree's steps between s and f: each precondition is true at its
--- index, no step begins before s or ends after f, and a step ends before those begin that it precedes
+-- index, no step begins before s or ends after f, and a step ends before those begin that it
+-- precedes
 pub record IsSchedule (t : Tree) (o : Choice) (at : ℕ → ℕ) (s f : ℕ) : Type 0 where
   pub holds : (v : ℕ) → Reached t (Task v) → (o.line v).true_at (at v) ≡ true
   pub from : (x : Item) → IsPrimitive x → Reached t x → s ≤ begins at x
@@ -37,11 +38,13 @@ pub record Schedule : Type 0 where
   pub choice : Choice
   pub at : ℕ → ℕ
 
--- From s to f no other step meets the line v: what must come before it ends by s, and what must come
--- behind it begins no earlier than f
+-- From s to f no other step meets the line v: what must come before it ends by s, and what must
+-- come behind it begins no earlier than f
 pub record IsWindow (t : Tree) (v : ℕ) (a : Schedule) (s f : ℕ) : Type 0 where
-  pub before : (x : Item) → IsPrimitive x → Reached t x → Precedes t a.choice x (Task v) → ends a.at x ≤ s
-  pub behind : (y : Item) → IsPrimitive y → Reached t y → Precedes t a.choice (Task v) y → f ≤ begins a.at y
+  pub before : (x : Item) → IsPrimitive x → Reached t x → Precedes t a.choice x (Task v)
+      → ends a.at x ≤ s
+  pub behind : (y : Item) → IsPrimitive y → Reached t y → Precedes t a.choice (Task v) y
+      → f ≤ begins a.at y
 
 -- the choice for the lines alone: the tree of one line has no root candidate of its own
 abbrev pub for_lines : Choice → Choice

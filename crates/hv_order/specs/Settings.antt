@@ -1,4 +1,5 @@
--- The plan that is judged: which candidates its nodes have, what they amount to, and when it is solved.
+-- The plan that is judged: which candidates its nodes have, what they amount to, and when it is
+-- solved.
 use Rattle.std.specs.Prelude.{◌≡◌, ℕ, ◌<◌, Bool, true, false, List, length, slice_get, slice_index, Some}
 use Rattle.std.specs.List.{slice_index_or}
 use Rattle.hv_world.specs.Values.{and, no_formulas}
@@ -32,7 +33,8 @@ without_preconditions q = setting q.tree q.plan false
 abbrev pub last : Setting → ℕ
 last q = length q.plan.actions
 
--- the child that stands for subtask j of a node, where M has for each subtask the place of its child
+-- the child that stands for subtask j of a node, where M has for each subtask the place of its
+-- child
 abbrev pub child_for : Node → List ℕ → ℕ → Item
 child_for n M j = slice_index_or n.children (slice_index M j) (Act 0)
 
@@ -41,14 +43,16 @@ abbrev pub HoldsAt : Setting → Method → List ℕ → ℕ → Type 0
 HoldsAt q m B k = q.is_with ≡ true → True q.plan.world.typing (StateAt q.plan k) m.precondition B
 
 -- M and B are a candidate of the node of number v, and c is what it amounts to: its children are
--- ordered as the subtasks are for which they stand, and its precondition is true where the method's is
+-- ordered as the subtasks are for which they stand, and its precondition is true where the method's
+-- is
 pub record AmountsTo (q : Setting) (v : ℕ) (M B : List ℕ) (c : Meaning) : Type 0 where
   pub node : Node
   pub has_node : slice_get q.tree.nodes v ≡ Some node
   pub method : Method
   pub has_method : node_method q.plan.world node ≡ Some method
   pub candidate : IsCandidate q.plan.world method node.objects (child_tasks q.tree node) M B
-  pub stands : StandsFor (length M) (child_for node M) (Before method.network.order) (HoldsAt q method B) c
+  pub stands : StandsFor (length M) (child_for node M) (Before method.network.order)
+      (HoldsAt q method B) c
 
 -- some candidate of the node amounts to c
 pub record IsMeaning (q : Setting) (v : ℕ) (c : Meaning) : Type 0 where
@@ -86,8 +90,8 @@ pub record IsFirstWithout (q : Setting) (line : ℕ) : Type 0 where
 abbrev pub HasNoPrecondition : World → Type 0
 HasNoPrecondition w = w.top.precondition ≡ and no_formulas
 
--- A tree of a world, with its matcher and the states that the tree's actions pass: the world's initial
--- network has no precondition, and 32 bits are enough for one state more than there are
+-- A tree of a world, with its matcher and the states that the tree's actions pass: the world's
+-- initial network has no precondition, and 32 bits are enough for one state more than there are
 pub record BelongTogether (w matcher : World) (t : PlanTree) (p : states.Plan) : Type 0 where
   pub world : matcher ≡ w
   pub top : HasNoPrecondition w

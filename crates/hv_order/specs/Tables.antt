@@ -1,4 +1,5 @@
--- The table of least finishes, as it is computed: children first, and for each start the least finish.
+-- The table of least finishes, as it is computed: children first, and for each start the least
+-- finish.
 use Rattle.std.specs.Prelude.{◌≡◌, ℕ, zero, suc, ◌+◌, ◌-◌, ◌≤◌, Bool, true, if◌then◌else◌, nat_le, nat_lt, max, min, List, [], ◌∷◌, Option, Some, None, Contains}
 use Rattle.hv_lists.specs.Lists.{Once}
 use Rattle.hv_plan.specs.Trees.{Item, Act, Task, Pre, Tree}
@@ -36,7 +37,8 @@ first_index test (suc count) s = if test s then Some s else first_index test cou
 abbrev pub earliest_start : (Item → Item → Bool) → ℕ → Item → List (Item × ℕ) → ℕ
 earliest_start before at x [] = at
 earliest_start before at x (p ∷ laid) =
-    if before p.0 x then max p.1 (earliest_start before at x laid) else earliest_start before at x laid
+    if before p.0 x then max p.1
+    (earliest_start before at x laid) else earliest_start before at x laid
 
 -- where all that is laid out is over
 abbrev pub last_finish : ℕ → List (Item × ℕ) → ℕ
@@ -49,10 +51,11 @@ abbrev pub layout_finish :
     (Item → ℕ → Option ℕ) → (Item → Item → Bool) → ℕ → List (Item × ℕ) → List Item → Option ℕ
 layout_finish row before at laid [] = Some (last_finish at laid)
 layout_finish row before at laid (x ∷ xs) =
-    and_then (row x (earliest_start before at x laid)) (λ f. layout_finish row before at ((x, f) ∷ laid) xs)
+    and_then (row x (earliest_start before at x laid))
+    (λ f. layout_finish row before at ((x, f) ∷ laid) xs)
 
--- the finish of a line with one candidate: the precondition step stands at the first index from s to
--- n where it is true, and the children are laid out behind it
+-- the finish of a line with one candidate: the precondition step stands at the first index from s
+-- to n where it is true, and the children are laid out behind it
 abbrev pub meaning_finish : (Item → ℕ → Option ℕ) → ℕ → ℕ → Meaning → List Item → Option ℕ
 meaning_finish row n s c xs =
     and_then (first_index c.true_at (n + 1 - s) s) (λ at. layout_finish row c.before at [] xs)
@@ -72,8 +75,8 @@ best_finish finish (c ∷ cs) = earlier_finish (finish c) (best_finish finish cs
 abbrev pub action_finish : ℕ → ℕ → ℕ → Option ℕ
 action_finish n k s = if nat_le s k then (if nat_lt k n then Some (k + 1) else None) else None
 
--- The least finish of an item for a start, from its children's. `sort v c` has the children of line v
--- in an order that the candidate c allows; the tree is looked at `depth` levels deep
+-- The least finish of an item for a start, from its children's. `sort v c` has the children of line
+-- v in an order that the candidate c allows; the tree is looked at `depth` levels deep
 abbrev pub least_finish :
     (ℕ → List Item) → (ℕ → List Meaning) → (ℕ → Meaning → List Item)
     → ℕ → ℕ → Item → ℕ → Option ℕ
@@ -82,7 +85,8 @@ least_finish children lines sort n zero (Task v) s = None
 least_finish children lines sort n zero (Pre v) s = None
 least_finish children lines sort n (suc depth) (Act k) s = action_finish n k s
 least_finish children lines sort n (suc depth) (Task v) s =
-    best_finish (λ c. meaning_finish (least_finish children lines sort n depth) n s c (sort v c)) (lines v)
+    best_finish (λ c. meaning_finish (least_finish children lines sort n depth) n s c (sort v c))
+    (lines v)
 least_finish children lines sort n (suc depth) (Pre v) s = None
 
 -- the least finish of the whole tree for a start
@@ -119,6 +123,7 @@ pub record AreSorts
   pub sorts : (v : ℕ) (c : Meaning) → Contains (lines v) c → IsSort (children v) c.before (sort v c)
 
 -- each candidate of the root orders the initial tasks, and `sort` sorts them by it
-pub record AreRootSorts (t : Tree) (roots : List Meaning) (sort : Meaning → List Item) : Type 0 where
+pub record AreRootSorts (t : Tree) (roots : List Meaning)
+    (sort : Meaning → List Item) : Type 0 where
   pub orders : (c : Meaning) → Contains roots c → IsOrder t.initial_tasks c.before
   pub sorts : (c : Meaning) → Contains roots c → IsSort t.initial_tasks c.before (sort c)

@@ -1,8 +1,8 @@
 //! One node from one start: its candidates one after another, each laid out as far as finishes are
 //! known.
 //!
-//! Tasks, frames and turns are large values that go from call to call: most calls are inlined, so that
-//! none is copied on its way.
+//! Tasks, frames and turns are large values that go from call to call: most calls are inlined, so
+//! that none is copied on its way.
 ghost use Rattle.std.specs.Prelude.{◌≡◌, ◌≤◌, ℕ, IfOk, Some, List};
 ghost use Rattle.hv_order.specs.inside.Arrangements.{Arrangement, arrangement_of};
 ghost use Rattle.hv_order.specs.inside.Facts.{AreFits};
@@ -52,8 +52,8 @@ pub struct Turn {
 }
 
 /// Begins a candidate, of which nothing is laid out yet, if its precondition is true somewhere from
-/// `start` to `cap`. It is not looked for behind the first action among the children, since that could
-/// not come behind it.
+/// `start` to `cap`. It is not looked for behind the first action among the children, since that
+/// could not come behind it.
 #[inline(always)]
 pub fn begin<T: Table>(
     alloc: Global,

@@ -34,9 +34,9 @@ fn children_at(alloc: Global, children: &[Child], places: &[u32]) -> Result<Vec<
     Ok(found)
 }
 
-/// All candidates of a node of a tree of the matcher's world, whose method has this sequencing, with
-/// their children in order by these spans; where it is told which atoms are true in a stretch of
-/// states, those whose precondition needs another are left out.
+/// All candidates of a node of a tree of the matcher's world, whose method has this sequencing,
+/// with their children in order by these spans; where it is told which atoms are true in a stretch
+/// of states, those whose precondition needs another are left out.
 pub(crate) fn candidates_of<'a>(
     alloc: Global,
     matcher: &'a Matcher<'_, '_>,

@@ -34,8 +34,8 @@ pub struct Won {
 
 /// What is known of the least finishes of a plan's nodes: for each node one interval of starts, and
 /// further starts one by one. Nothing of that is ever forgotten. The table is one in order, so no
-/// plan can make it slow. For each node that has a place among the winners, one run is kept with its
-/// winner until that is taken.
+/// plan can make it slow. For each node that has a place among the winners, one run is kept with
+/// its winner until that is taken.
 #[derive(Drop)]
 pub struct Memo {
     pub spans: Vec<Span>,
@@ -93,8 +93,8 @@ fn forget(spans: &mut [Span], kept: &[bool])
 }
 
 impl Memo {
-    /// A memory with room for so many nodes, which knows nothing, and a place for the winner of each
-    /// node below `winners`.
+    /// A memory with room for so many nodes, which knows nothing, and a place for the winner of
+    /// each node below `winners`.
     pub fn new(alloc: Global, count: usize, winners: usize) -> Result<Memo, Memory>
         ensures { IfOk result (KnowsNothing count) }
     {

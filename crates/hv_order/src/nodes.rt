@@ -37,9 +37,9 @@ pub trait Nodes {
         requires node { node < size self.now }
         ensures { (s f : ℕ) → (facts self.now).fits node s f → result ≤ f };
 
-    /// How a node's children are laid out from a start on, whatever candidate is taken, as far as that
-    /// is told without one, and there are nodes among them. It is asked for to save time, and no answer
-    /// hangs on it.
+    /// How a node's children are laid out from a start on, whatever candidate is taken, as far as
+    /// that is told without one, and there are nodes among them. It is asked for to save time, and
+    /// no answer hangs on it.
     fn told(&self, node: u32, start: u32) -> Option<Told>;
 
     /// The first index from `from` to `upto` at which a candidate's precondition is true, and one

@@ -153,8 +153,9 @@ impl<'a, 's, 'm, 'p, 't, 'c, 'd> PlanNodes<'a, 's, 'm, 'p, 't, 'c, 'd> {
         }
     }
 
-    // The state from a start on that the children of a node with this method begin behind: where its
-    // precondition counts, the first in which it is true, which is not told where it has parameters.
+    // The state from a start on that the children of a node with this method begin behind: where
+    // its precondition counts, the first in which it is true, which is not told where it has
+    // parameters.
     fn told_begin(&self, method: &Method<'_>, children: &[Child], start: u32) -> Option<u32> {
         if !self.is_with || is_empty(method.precondition()) {
             return Some(start);
@@ -173,8 +174,8 @@ impl<'a, 's, 'm, 'p, 't, 'c, 'd> PlanNodes<'a, 's, 'm, 'p, 't, 'c, 'd> {
         Some(first as u32)
     }
 
-    // Where preconditions count, what is true from a start on up to the first action below a node: no
-    // candidate is of use whose precondition is not true there.
+    // Where preconditions count, what is true from a start on up to the first action below a node:
+    // no candidate is of use whose precondition is not true there.
     fn ever_before(&self, node: u32, start: u32) -> Option<EverTrue<'a>>
         requires start { start ≤ last self.now }
         ensures { IsEver self.now node start (option_map ever_rows result) }

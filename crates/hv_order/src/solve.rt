@@ -1,7 +1,7 @@
 //! What a node comes to from one start, where only what is asked for is worked out.
 //!
-//! Tasks, frames and turns are large values that go from call to call: most calls are inlined, so that
-//! none is copied on its way.
+//! Tasks, frames and turns are large values that go from call to call: most calls are inlined, so
+//! that none is copied on its way.
 ghost use Rattle.std.specs.Prelude.{◌≡◌, ◌<◌, ◌≤◌, IfOk, IfSome, OnOk, is_some, true};
 ghost use Rattle.hv_order.specs.inside.Facts.{IsNodeRun};
 ghost use Rattle.hv_order.specs.inside.Memos.{found, AreKnown, IsSmall, Keeps, IsBelow, IsWanted};
@@ -88,7 +88,8 @@ pub enum Pending<L> {
     Begun(Box<Task<L>>),
 }
 
-/// A finish that a node will want, and whether it is the last that is told before the node is begun.
+/// A finish that a node will want, and whether it is the last that is told before the node is
+/// begun.
 #[derive(Clone, Copy)]
 pub struct WantedAhead {
     pub child: Pair,
@@ -267,8 +268,9 @@ pub fn work_on<N: Nodes>(
     }
 }
 
-/// A child of a node, and a start, of which the finish will be wanted and is not known yet, as far as
-/// that is told before the node is begun: when it is begun behind them, it need not wait for them.
+/// A child of a node, and a start, of which the finish will be wanted and is not known yet, as far
+/// as that is told before the node is begun: when it is begun behind them, it need not wait for
+/// them.
 pub fn ahead<N: Nodes>(nodes: &N, memo: &Memo, pair: Pair) -> Option<WantedAhead>
     requires memo { AreKnown (N.facts nodes.now) (N.size nodes.now) memo.now }
     requires pair { IsPair (N.facts nodes.now) (N.size nodes.now) pair }
@@ -373,8 +375,8 @@ pub fn resume<N: Nodes>(
     }
 }
 
-/// Lets a task wait. One of those that are `far` down is let go where it is soon begun anew, so that
-/// a deep plan's tasks take little memory.
+/// Lets a task wait. One of those that are `far` down is let go where it is soon begun anew, so
+/// that a deep plan's tasks take little memory.
 pub fn wait<N: Nodes>(
     alloc: Global,
     _nodes: &N,

@@ -1,5 +1,5 @@
-//! Where in the plan the actions stand that are at and below the children of a candidate, and whether
-//! that is as their subtasks are ordered.
+//! Where in the plan the actions stand that are at and below the children of a candidate, and
+//! whether that is as their subtasks are ordered.
 ghost use Rattle.std.specs.Prelude.{◌≡◌, ◌∷◌, [], nat_le, length, IsTrue, IfOk, IfSome};
 ghost use Rattle.hv_plan.specs.BuiltTrees.{tree_view};
 ghost use Rattle.hv_plan.specs.TreeViews.{child_view};
@@ -139,7 +139,8 @@ impl Spans {
         true
     }
 
-    // The first subtask, as they are written, whose child is not over when that of a later one begins.
+    // The first subtask, as they are written, whose child is not over when that of a later one
+    // begins.
     fn first_met(&self, children: &[Child]) -> Option<usize>
         ensures { IfSome result (IsMet self.now children.now) }
     {
@@ -169,8 +170,8 @@ impl Spans {
         }
     }
 
-    /// A subtask, as they are written, up to which the children cannot stay as they are, where they are
-    /// not in the order of the subtasks.
+    /// A subtask, as they are written, up to which the children cannot stay as they are, where they
+    /// are not in the order of the subtasks.
     pub fn stuck(&self, children: &[Child], direct: &Lists<usize>) -> Option<usize>
         ensures { TellsStuck self.now children.now direct.now result }
     {

@@ -1,5 +1,5 @@
-//! What is told of how the children of a node are laid out before any candidate is looked for. Only the
-//! time of the search hangs on it.
+//! What is told of how the children of a node are laid out before any candidate is looked for. Only
+//! the time of the search hangs on it.
 
 ghost use Rattle.std.specs.Prelude.{◌≡◌, true};
 ghost use Rattle.hv_world.specs.Values.{and, no_formulas};
@@ -9,8 +9,8 @@ use crate::solve::FEW;
 use hv_plan::{Child, Node, Tree};
 use hv_world::{Formula, Method, Order, Subtask, TaskName};
 
-/// The state that the children of a node begin behind, and those of them that are laid out one behind
-/// the other and behind no other, up to the first of which that is not told.
+/// The state that the children of a node begin behind, and those of them that are laid out one
+/// behind the other and behind no other, up to the first of which that is not told.
 #[derive(Clone, Copy)]
 pub struct Told {
     pub begin: u32,
@@ -64,8 +64,8 @@ fn only_one(children: &[Child], names: &[Option<TaskName>], wanted: TaskName) ->
     found
 }
 
-// Whether directly before the subtask at a place of an arrangement stands the one at the place before
-// it and no other.
+// Whether directly before the subtask at a place of an arrangement stands the one at the place
+// before it and no other.
 fn is_next(order: &Order, place: usize, subtask: usize) -> bool {
     match place.checked_sub(1) {
         None => true,
@@ -76,8 +76,8 @@ fn is_next(order: &Order, place: usize, subtask: usize) -> bool {
     }
 }
 
-// The child that is laid out at a place of an order, behind the one at the place before it and no other:
-// the only one with its subtask's name.
+// The child that is laid out at a place of an order, behind the one at the place before it and no
+// other: the only one with its subtask's name.
 fn told_child(
     order: &Order,
     subtasks: &[Subtask],

@@ -21,13 +21,18 @@ action_text a = node_text a.id a.name a.arguments ++ codes "\n"
 
 -- the line of a decomposition: its id, its task, an arrow, its method and its children
 abbrev pub decomposition_text : Decomposition → List ℕ
-decomposition_text d = node_text d.id d.name d.arguments ++ (codes " ->" ++ (words_text (d.method ∷ []) ++ (ids_text d.children ++ codes "\n")))
+decomposition_text d =
+    node_text d.id d.name d.arguments
+    ++ (codes " ->" ++ (words_text (d.method ∷ []) ++ (ids_text d.children ++ codes "\n")))
 
 -- the line of the root and its ids
 abbrev pub root_text : Root → List ℕ
 root_text r = codes "root" ++ (ids_text r.ids ++ codes "\n")
 
--- the canonical text of a plan: the action lines, the root line and the decomposition lines, between the markers
+-- the canonical text of a plan: the action lines, the root line and the decomposition lines,
+-- between the markers
 abbrev pub plan_text : Plan → List ℕ
 plan_text p =
-    codes "==>\n" ++ (flat_map action_text p.actions ++ (root_text p.root ++ (flat_map decomposition_text p.decompositions ++ codes "<==\n")))
+    codes "==>\n"
+    ++ (flat_map action_text p.actions
+    ++ (root_text p.root ++ (flat_map decomposition_text p.decompositions ++ codes "<==\n")))

@@ -52,7 +52,7 @@ name kinds.ChildNames = codes "ChildNames"
 -- The line of this number qualifies for a cause, read where no cause of a smaller number applies:
 --     repeated_id      its id begins a line before it
 --     unknown_child      a child begins no line
---     child_before, child_twice      a child stood as a child before, on an earlier line or on this one
+--     child_before, child_twice      a child stood as one before, on an earlier line or this one
 --     unreached      it is not reached from `root` by children
 --     unknown_task      its name is neither a task nor an action
 --     unknown_method      its method is none
@@ -65,34 +65,51 @@ name kinds.ChildNames = codes "ChildNames"
 --     child_count      it has not as many children as there are subtasks
 --     child_names      a name is not as often that of a child as that of a subtask
 pub data Qualifies (w : World) (p : Plan) : CauseKind → ℕ → Type 0 where
-  repeated_id : (a b : Action) → Contains (heads p) a → Contains (heads p) b → a.id ≡ b.id → a.line < b.line
+  repeated_id : (a b : Action) → Contains (heads p) a → Contains (heads p) b → a.id ≡ b.id
+      → a.line < b.line
       → Qualifies w p kinds.RepeatedId b.line
-  unknown_child : (q : Parent) (i : ℕ) → Contains (parents p) q → Contains q.children i → (Contains (ids p) i → ⊥)
+  unknown_child : (q : Parent) (i : ℕ) → Contains (parents p) q → Contains q.children i
+      → (Contains (ids p) i → ⊥)
       → Qualifies w p kinds.UnknownChild q.line
-  child_before : (q r : Parent) (i : ℕ) → Contains (parents p) q → Contains (parents p) r → q.line < r.line
+  child_before : (q r : Parent) (i : ℕ) → Contains (parents p) q → Contains (parents p) r
+      → q.line < r.line
       → Contains q.children i → Contains r.children i → Qualifies w p kinds.TwoParents r.line
-  child_twice : (q : Parent) → Contains (parents p) q → (Once q.children → ⊥) → Qualifies w p kinds.TwoParents q.line
-  unreached : (a : Action) → Contains (heads p) a → (IsReached p a.id → ⊥) → Qualifies w p kinds.Unreached a.line
-  unknown_task : (a : Action) → Contains (heads p) a → task_named w a.name ≡ None → Qualifies w p kinds.UnknownTask a.line
-  unknown_method : (d : Decomposition) → Contains p.decompositions d → method_named w d.method ≡ None
+  child_twice : (q : Parent) → Contains (parents p) q → (Once q.children → ⊥)
+      → Qualifies w p kinds.TwoParents q.line
+  unreached : (a : Action) → Contains (heads p) a → (IsReached p a.id → ⊥)
+      → Qualifies w p kinds.Unreached a.line
+  unknown_task : (a : Action) → Contains (heads p) a → task_named w a.name ≡ None
+      → Qualifies w p kinds.UnknownTask a.line
+  unknown_method : (d : Decomposition) → Contains p.decompositions d
+      → method_named w d.method ≡ None
       → Qualifies w p kinds.UnknownMethod d.line
-  unknown_object : (a : Action) (n : List ℕ) → Contains (heads p) a → Contains a.arguments n → place_in w.objects n ≡ None
+  unknown_object : (a : Action) (n : List ℕ) → Contains (heads p) a → Contains a.arguments n
+      → place_in w.objects n ≡ None
       → Qualifies w p kinds.UnknownObject a.line
   argument_count : (a : Action) (t : TaskName) → Contains (heads p) a → task_named w a.name ≡ Some t
-      → (length a.arguments ≡ length (parameters_of w t) → ⊥) → Qualifies w p kinds.ArgumentCount a.line
-  argument_type : (a : Action) (t : TaskName) (os : List ℕ) → Contains (heads p) a → task_named w a.name ≡ Some t
-      → AreObjects w a.arguments os → (AreOf w.typing os (parameters_of w t) → ⊥) → Qualifies w p kinds.ArgumentType a.line
-  not_primitive : (a : Action) (t : ℕ) → Contains p.actions a → task_named w a.name ≡ Some (compound t)
+      → (length a.arguments ≡ length (parameters_of w t) → ⊥)
+      → Qualifies w p kinds.ArgumentCount a.line
+  argument_type : (a : Action) (t : TaskName) (os : List ℕ) → Contains (heads p) a
+      → task_named w a.name ≡ Some t
+      → AreObjects w a.arguments os → (AreOf w.typing os (parameters_of w t) → ⊥)
+      → Qualifies w p kinds.ArgumentType a.line
+  not_primitive : (a : Action) (t : ℕ) → Contains p.actions a
+      → task_named w a.name ≡ Some (compound t)
       → Qualifies w p kinds.NotPrimitive a.line
-  not_abstract : (d : Decomposition) (a : ℕ) → Contains p.decompositions d → task_named w d.name ≡ Some (primitive a)
+  not_abstract : (d : Decomposition) (a : ℕ) → Contains p.decompositions d
+      → task_named w d.name ≡ Some (primitive a)
       → Qualifies w p kinds.NotAbstract d.line
-  other_task : (d : Decomposition) (t : ℕ) (m : Method) → Contains p.decompositions d → task_named w d.name ≡ Some (compound t)
-      → method_of w (Some d.method) ≡ Some m → (IsForTask m.task t → ⊥) → Qualifies w p kinds.OtherTask d.line
+  other_task : (d : Decomposition) (t : ℕ) (m : Method) → Contains p.decompositions d
+      → task_named w d.name ≡ Some (compound t)
+      → method_of w (Some d.method) ≡ Some m → (IsForTask m.task t → ⊥)
+      → Qualifies w p kinds.OtherTask d.line
   child_count : (q : Parent) (m : Method) → Contains (parents p) q → method_of w q.method ≡ Some m
       → (length q.children ≡ length m.network.subtasks → ⊥) → Qualifies w p kinds.ChildCount q.line
-  child_names : (q : Parent) (m : Method) (names : List TaskName) (n : TaskName) → Contains (parents p) q
+  child_names : (q : Parent) (m : Method) (names : List TaskName) (n : TaskName)
+      → Contains (parents p) q
       → method_of w q.method ≡ Some m → AllZip (IsNamed w p) q.children names
-      → (multiplicity n names ≡ multiplicity n (names_of m.network.subtasks) → ⊥) → Qualifies w p kinds.ChildNames q.line
+      → (multiplicity n names ≡ multiplicity n (names_of m.network.subtasks) → ⊥)
+      → Qualifies w p kinds.ChildNames q.line
 
 -- No line qualifies for a cause of a smaller number, and this is the first line that qualifies
 pub record IsCause (w : World) (p : Plan) (c : Cause) : Type 0 where

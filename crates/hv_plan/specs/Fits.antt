@@ -27,8 +27,8 @@ parameters_of w (primitive a) = action_parameters (slice_get w.actions a)
 abbrev pub AreObjects : World → List (List ℕ) → List ℕ → Type 0
 AreObjects w ns os = AllZip (λ n o. place_in w.objects n ≡ Some o) ns os
 
--- What a line says of its id: the task or the action of this name, with these objects, as many as it
--- has parameters, each of its parameter's type
+-- What a line says of its id: the task or the action of this name, with these objects, as many as
+-- it has parameters, each of its parameter's type
 pub record Says (w : World) (a : text.Action) (t : TaskName) (os : List ℕ) : Type 0 where
   pub name : task_named w a.name ≡ Some t
   pub objects : AreObjects w a.arguments os
@@ -71,7 +71,8 @@ multiplicity n ns = count_by (same_name n) ns
 abbrev pub names_of : List Subtask → List TaskName
 names_of xs = map (λ x. x.name) xs
 
--- the method of a line that names children: that of its name, and for the root line the initial network
+-- the method of a line that names children: that of its name, and for the root line the initial
+-- network
 abbrev pub method_of : World → Option (List ℕ) → Option Method
 method_of w None = Some w.top
 method_of w (Some n) = option_and_then (slice_get w.methods) (method_named w n)
@@ -83,10 +84,12 @@ pub record FitsSubtasks (w : World) (p : Plan) (q : Parent) : Type 0 where
   pub names : List TaskName
   pub are_named : AllZip (IsNamed w p) q.children names
   pub as_many : length q.children ≡ length method.network.subtasks
-  pub as_often : (n : TaskName) → multiplicity n names ≡ multiplicity n (names_of method.network.subtasks)
+  pub as_often : (n : TaskName)
+      → multiplicity n names ≡ multiplicity n (names_of method.network.subtasks)
 
 -- Each line names what the world has, with objects of the right types: an action line an action, a
--- decomposition line a task and a method for it; and the children of each are as its method's subtasks
+-- decomposition line a task and a method for it; and the children of each are as its method's
+-- subtasks
 pub record FitWorld (w : World) (p : Plan) : Type 0 where
   pub actions : All (FitsAction w) p.actions
   pub decompositions : All (FitsDecomposition w) p.decompositions

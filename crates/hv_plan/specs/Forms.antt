@@ -107,7 +107,8 @@ named (w ∷ ws) = Some (record { name = w; arguments = ws })
 abbrev pub task_of : List Piece → Option Task
 task_of ps = option_and_then named (names_of ps)
 
--- the parts of a line that has an arrow: what stands before its first one, and what stands behind it
+-- the parts of a line that has an arrow: what stands before its first one, and what stands behind
+-- it
 pub record Parts : Type 0 where
   pub before : List Piece
   pub after : List Piece
@@ -120,7 +121,9 @@ with_front front (Some h) = Some (record { before = front ++ h.before; after = h
 -- the parts of words in which an arrow stands
 abbrev pub parts_of : List Piece → Option Parts
 parts_of [] = None
-parts_of (p ∷ ps) = if is_arrow p then Some (record { before = []; after = ps }) else with_front (p ∷ []) (parts_of ps)
+parts_of (p ∷ ps) =
+    if is_arrow p then Some (record { before = []; after = ps }) else with_front (p ∷ [])
+    (parts_of ps)
 
 -- what stands behind the arrow: the method's name and the ids of the children
 pub record Method : Type 0 where
@@ -135,7 +138,8 @@ method_of (p ∷ ps) = both (λ w is. record { name = w; children = is }) (name_
 abbrev pub action_of : ℕ → Option ℕ → Option Task → Option Form
 action_of n None t = None
 action_of n (Some i) None = None
-action_of n (Some i) (Some t) = Some (action (record { id = i; name = t.name; arguments = t.arguments; line = n }))
+action_of n (Some i) (Some t) =
+    Some (action (record { id = i; name = t.name; arguments = t.arguments; line = n }))
 
 -- a decomposition line, of an id, a task and what stands behind the arrow, where all are there
 abbrev pub decomposition_of : ℕ → Option ℕ → Option Task → Option Method → Option Form
@@ -143,7 +147,15 @@ decomposition_of n None t m = None
 decomposition_of n (Some i) None m = None
 decomposition_of n (Some i) (Some t) None = None
 decomposition_of n (Some i) (Some t) (Some m) =
-    Some (decomposition (record { id = i; name = t.name; arguments = t.arguments; method = m.name; children = m.children; line = n }))
+    Some (decomposition
+    (record {
+      id = i;
+      name = t.name;
+      arguments = t.arguments;
+      method = m.name;
+      children = m.children;
+      line = n;
+    }))
 
 -- a line that begins with an id: with an arrow a decomposition line, else an action line
 abbrev pub node_of : ℕ → Option ℕ → List Piece → Option Parts → Option Form
@@ -160,7 +172,8 @@ form_of n (left s ∷ ps) = None
 form_of n (right s ∷ ps) = None
 form_of n (bad s ∷ ps) = None
 form_of n (word w s ∷ ps) =
-    if bytes_eq w (codes "root") then option_map (root_of n) (every id_at ps) else node_of n (id_of w) ps (parts_of ps)
+    if bytes_eq w (codes "root") then option_map (root_of n) (every id_at ps) else node_of n
+    (id_of w) ps (parts_of ps)
 
 abbrev pub is_id : ℕ → Bool
 is_id i = nat_le i greatest
@@ -188,4 +201,6 @@ sound n None r = r
 
 -- what a line says, or its fault
 abbrev pub said : NumberedLine → Result Form PlanFault
-said l = sound l.number (first_bad (pieces l.bytes)) (listed l.number (form_of l.number (pieces l.bytes)))
+said l =
+    sound l.number (first_bad (pieces l.bytes))
+    (listed l.number (form_of l.number (pieces l.bytes)))

@@ -12,11 +12,18 @@ use Rattle.hv_plan.specs.declared.plan.decompositions.DecompositionLine.{Decompo
 use Rattle.hv_plan.specs.declared.plan.decompositions.DecompositionLines.{DecompositionLines}
 
 abbrev pub action_view : ActionLine → Action
-action_view a = record { id = a.id; name = text_of a.name; arguments = map text_of a.arguments.now; line = a.line }
+action_view a =
+    record {
+      id = a.id;
+      name = text_of a.name;
+      arguments = map text_of a.arguments.now;
+      line = a.line;
+    }
 
 -- the action line of a head, of these arguments
 abbrev pub headed_action : ActionHead → List Name → Action
-headed_action h names = record { id = h.id; name = text_of h.name; arguments = map text_of names; line = h.line }
+headed_action h names =
+    record { id = h.id; name = text_of h.name; arguments = map text_of names; line = h.line }
 
 abbrev pub actions_view : ActionLines → List Action
 actions_view as' = with_lists headed_action as'.heads.items as'.arguments
@@ -46,10 +53,13 @@ headed h names is = record {
   line = h.line;
 }
 
--- the lines of heads: each takes the first of the lists that are left, and an empty one where none is
+-- the lines of heads: each takes the first of the lists that are left, and an empty one where none
+-- is
 abbrev pub lines_of : List DecompositionHead → List (List Name) → List (List ℕ) → List Decomposition
 lines_of [] names is = []
-lines_of (h ∷ hs) names is = headed h (slice_index_or names 0 []) (slice_index_or is 0 []) ∷ lines_of hs (drop 1 names) (drop 1 is)
+lines_of (h ∷ hs) names is =
+    headed h (slice_index_or names 0 []) (slice_index_or is 0 [])
+    ∷ lines_of hs (drop 1 names) (drop 1 is)
 
 abbrev pub decompositions_view : DecompositionLines → List Decomposition
 decompositions_view ds = lines_of ds.heads.items ds.arguments ds.children

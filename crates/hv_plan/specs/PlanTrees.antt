@@ -11,7 +11,8 @@ use Rattle.hv_plan.specs.Fits.{Says, FitWorld}
 use Rattle.hv_plan.specs.Trees.{Item, Act, Task, Pre, Tree, Reached, IsTree, HasActions}
 
 -- What a decomposition line says, with numbers for names: its id, the number of the line, its task
--- with the objects, the method, and its children. The node of the root line has no id, task or method
+-- with the objects, the method, and its children. The node of the root line has no id, task or
+-- method
 pub record Node : Type 0 where
   pub id : Option ℕ
   pub line : ℕ
@@ -44,7 +45,8 @@ root_number t = length t.nodes - 1
 
 -- which node stands below which
 abbrev pub tree_of : PlanTree → Tree
-tree_of t = record { initial_tasks = children_at t.nodes (root_number t); children = children_at t.nodes }
+tree_of t =
+    record { initial_tasks = children_at t.nodes (root_number t); children = children_at t.nodes }
 
 -- the item that an id stands for: the action, or the node, of the line that begins with it
 abbrev pub StandsFor : PlanTree → ℕ → Item → Type 0
@@ -96,9 +98,10 @@ countdown zero = []
 countdown (suc n) = n ∷ countdown n
 
 -- A tree of so many nodes below that of the root line, and so many actions: children stand before
--- parents, each is a child once, and every action and every node is reached from the root line. Nodes are
--- numbered level by level: where the children of the last node, of the node before it, and so on down
--- to node 0 are listed, their nodes are the numbers below that of the root line, the greatest first
+-- parents, each is a child once, and every action and every node is reached from the root line.
+-- Nodes are numbered level by level: where the children of the last node, of the node before it,
+-- and so on down to node 0 are listed, their nodes are the numbers below that of the root line, the
+-- greatest first
 pub record IsNumberedTree (t : Tree) (nodes actions : ℕ) : Type 0 where
   pub tree : IsTree t
   pub child_once : (v : ℕ) → AllPairs ◌≢◌ (t.children v)
@@ -107,7 +110,8 @@ pub record IsNumberedTree (t : Tree) (nodes actions : ℕ) : Type 0 where
   pub reached_actions : HasActions t actions
 
 -- The tree of a plan: it has the plan's actions, a node for each decomposition line and one for the
--- root line, which name as their children what the lines name by ids; and its nodes are a numbered tree
+-- root line, which name as their children what the lines name by ids; and its nodes are a numbered
+-- tree
 pub record IsTreeOf (w : World) (p : Plan) (t : PlanTree) : Type 0 where
   pub actions : AllZip (IsActionOf w) p.actions t.actions
   pub action_ids : t.action_ids ≡ map (λ a. a.id) p.actions

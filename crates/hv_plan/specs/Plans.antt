@@ -61,9 +61,11 @@ first_of None later = later
 -- the first fault of lines
 abbrev pub fault_from : Bool → List NumberedLine → Option PlanFault
 fault_from rooted [] = None
-fault_from rooted (l ∷ ls) = first_of (fault_of rooted l.number (said l)) (fault_from (rooted || is_root (said l)) ls)
+fault_from rooted (l ∷ ls) =
+    first_of (fault_of rooted l.number (said l)) (fault_from (rooted || is_root (said l)) ls)
 
--- the plan of these lines: none has a fault, and it has their action lines, their decomposition lines and their one root line
+-- the plan of these lines: none has a fault, and it has their action lines, their decomposition
+-- lines and their one root line
 pub record IsBody (ls : List NumberedLine) (p : Plan) : Type 0 where
   pub sound : fault_from false ls ≡ None
   pub actions : p.actions ≡ actions_of ls
@@ -91,13 +93,15 @@ pub record IsPlanRead (text : List ℕ) (p : Plan) : Type 0 where
 
 -- the fault of a text within the limit that has both markers
 abbrev pub IsFaultWithin : List ℕ → PlanFault → Type 0
-IsFaultWithin text f = (length text ≤ MOST_BYTES) × (has_start text ≡ true) × (has_end text ≡ true) × IsBodyFault (between text) f
+IsFaultWithin text f = (length text ≤ MOST_BYTES) × (has_start text ≡ true) × (has_end text ≡ true)
+    × IsBodyFault (between text) f
 
 -- the fault of a text from which no plan is read
 abbrev pub IsFaultRead : List ℕ → PlanFault → Type 0
 IsFaultRead text faults.TooLong = MOST_BYTES < length text
 IsFaultRead text faults.NoStart = (length text ≤ MOST_BYTES) × (has_start text ≡ false)
-IsFaultRead text faults.NoEnd = (length text ≤ MOST_BYTES) × (has_start text ≡ true) × (has_end text ≡ false)
+IsFaultRead text faults.NoEnd = (length text ≤ MOST_BYTES) × (has_start text ≡ true)
+    × (has_end text ≡ false)
 IsFaultRead text faults.Memory = Unit {0}
 IsFaultRead text (faults.BadByte n) = IsFaultWithin text (faults.BadByte n)
 IsFaultRead text (faults.BadLine n) = IsFaultWithin text (faults.BadLine n)

@@ -8,7 +8,8 @@ use Rattle.hv_plan.specs.Values.{Action, Decomposition, Root, Plan}
 abbrev pub head : Decomposition → Action
 head d = record { id = d.id; name = d.name; arguments = d.arguments; line = d.line }
 
--- what the lines say of their ids, the root line aside: the action lines, and then the decomposition lines
+-- what the lines say of their ids, the root line aside: the action lines, and then the
+-- decomposition lines
 abbrev pub heads : Plan → List Action
 heads p = p.actions ++ map head p.decompositions
 
@@ -38,7 +39,8 @@ all_children p = flat_map (λ q. q.children) (parents p)
 -- the line of this id is reached from `root` by children
 pub data IsReached (p : Plan) : ℕ → Type 0 where
   of_root : {i : ℕ} → Contains p.root.ids i → IsReached p i
-  of_line : {i : ℕ} (d : Decomposition) → Contains p.decompositions d → IsReached p d.id → Contains d.children i → IsReached p i
+  of_line : {i : ℕ} (d : Decomposition) → Contains p.decompositions d → IsReached p d.id
+      → Contains d.children i → IsReached p i
 
 -- Each id begins one line, each child is the id of a line, each is a child once, those of `root`
 -- counted, and every line is reached from `root` by children
@@ -52,7 +54,8 @@ pub record FormTree (p : Plan) : Type 0 where
 abbrev pub line_numbers : Plan → List ℕ
 line_numbers p = p.root.line ∷ map (λ a. a.line) (heads p)
 
--- each kind of lines stands in the order of the text, and no two lines have one number, as in every plan that is read from a text
+-- each kind of lines stands in the order of the text, and no two lines have one number, as in every
+-- plan that is read from a text
 pub record IsInTextOrder (p : Plan) : Type 0 where
   pub actions : IsStrictlyIncreasing (map (λ a. a.line) p.actions)
   pub decompositions : IsStrictlyIncreasing (map (λ d. d.line) p.decompositions)

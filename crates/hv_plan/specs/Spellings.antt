@@ -1,5 +1,5 @@
--- The forms of a plan's lines, row by row, as a relation between the words of a line and what it says; the plan that a text
--- holds, and the fault of a text that holds none.
+-- The forms of a plan's lines, row by row, as a relation between the words of a line and what it
+-- says; the plan that a text holds, and the fault of a text that holds none.
 use Rattle.hv_text.specs.declared.fault.TheConstants.{MOST_BYTES}
 use Rattle.std.specs.Prelude.{◌≡◌, ◌<◌, ◌≤◌, ℕ, true, false, List, [], ◌∷◌, ◌++◌, codes, None, Some, length}
 use Rattle.std.specs.List.{flat_map}
@@ -27,22 +27,29 @@ pub data SpellsArrow : Piece → Type 0 where
 -- the members of one list, one after another, for those of the other
 pub data Each {A B : Type 0} (Spells : A → B → Type 0) : List A → List B → Type 0 where
   no_more : Each Spells [] []
-  one_more : (x : A) (xs : List A) (y : B) (ys : List B) → Spells x y → Each Spells xs ys → Each Spells (x ∷ xs) (y ∷ ys)
+  one_more : (x : A) (xs : List A) (y : B) (ys : List B) → Spells x y → Each Spells xs ys
+      → Each Spells (x ∷ xs) (y ∷ ys)
 
 -- the names of a task: `NAME ARG*`, or `( NAME ARG* )`
 pub data SpellsTask : List Piece → List (List ℕ) → Type 0 where
   bare : (ps : List Piece) (ws : List (List ℕ)) → Each SpellsName ps ws → SpellsTask ps ws
-  in_parentheses : (s r : Span) (ps : List Piece) (ws : List (List ℕ)) → Each SpellsName ps ws → SpellsTask (left s ∷ ps ++ right r ∷ []) ws
+  in_parentheses : (s r : Span) (ps : List Piece) (ws : List (List ℕ)) → Each SpellsName ps ws
+      → SpellsTask (left s ∷ ps ++ right r ∷ []) ws
 
 -- line n: nothing, `ID NAME ARG*`, `ID NAME ARG* -> METHOD ID*`, or `root ID*`
 pub data SpellsForm (n : ℕ) : List Piece → Form → Type 0 where
   no_words : SpellsForm n [] blank
-  an_action : (p : Piece) (ps : List Piece) (i : ℕ) (w : List ℕ) (ws : List (List ℕ)) → SpellsId p i → SpellsTask ps (w ∷ ws)
+  an_action : (p : Piece) (ps : List Piece) (i : ℕ) (w : List ℕ) (ws : List (List ℕ)) → SpellsId p i
+      → SpellsTask ps (w ∷ ws)
       → SpellsForm n (p ∷ ps) (action (record { id = i; name = w; arguments = ws; line = n }))
-  a_decomposition : (p a m : Piece) (ps qs : List Piece) (i : ℕ) (w : List ℕ) (ws : List (List ℕ)) (v : List ℕ) (is : List ℕ)
+  a_decomposition : (p a m : Piece) (ps qs : List Piece) (i : ℕ) (w : List ℕ) (ws : List (List ℕ))
+      (v : List ℕ) (is : List ℕ)
       → SpellsId p i → SpellsTask ps (w ∷ ws) → SpellsArrow a → SpellsName m v → Each SpellsId qs is
-      → SpellsForm n (p ∷ ps ++ a ∷ m ∷ qs) (decomposition (record { id = i; name = w; arguments = ws; method = v; children = is; line = n }))
-  a_root : (w : List ℕ) (s : Span) (ps : List Piece) (is : List ℕ) → bytes_eq w (codes "root") ≡ true → Each SpellsId ps is
+      → SpellsForm n (p ∷ ps ++ a ∷ m ∷ qs)
+      (decomposition
+      (record { id = i; name = w; arguments = ws; method = v; children = is; line = n }))
+  a_root : (w : List ℕ) (s : Span) (ps : List Piece) (is : List ℕ)
+      → bytes_eq w (codes "root") ≡ true → Each SpellsId ps is
       → SpellsForm n (word w s ∷ ps) (root (record { ids = is; line = n }))
 
 -- a line says a form: no byte of it is bad, and no id is past the greatest
@@ -93,7 +100,8 @@ pub record SayNoRoot (ls : List NumberedLine) : Type 0 where
   pub each : Each Says ls forms
   pub rootless : roots_among forms ≡ []
 
--- a text holds a plan: it is within the limit, has both markers, and the lines between them say the plan
+-- a text holds a plan: it is within the limit, has both markers, and the lines between them say the
+-- plan
 pub record IsPlan (text : List ℕ) (p : Plan) : Type 0 where
   pub size : length text ≤ MOST_BYTES
   pub starts : has_start text ≡ true
@@ -103,18 +111,25 @@ pub record IsPlan (text : List ℕ) (p : Plan) : Type 0 where
 -- why a line says no form
 pub data IsFaulty (l : NumberedLine) : PlanFault → Type 0 where
   bad_byte : (s : Span) → first_bad (pieces l.bytes) ≡ Some s → IsFaulty l (faults.BadByte l.number)
-  bad_line : first_bad (pieces l.bytes) ≡ None → ((f : Form) → SpellsForm l.number (pieces l.bytes) f → ⊥) → IsFaulty l (faults.BadLine l.number)
-  id_too_large : (f : Form) → first_bad (pieces l.bytes) ≡ None → SpellsForm l.number (pieces l.bytes) f → fits f ≡ false
+  bad_line : first_bad (pieces l.bytes) ≡ None
+      → ((f : Form) → SpellsForm l.number (pieces l.bytes) f → ⊥)
+      → IsFaulty l (faults.BadLine l.number)
+  id_too_large : (f : Form) → first_bad (pieces l.bytes) ≡ None
+      → SpellsForm l.number (pieces l.bytes) f → fits f ≡ false
       → IsFaulty l (faults.IdTooLarge l.number)
 
 -- the first line that says no form, or is a second root
 pub data IsFirstFault (ls : List NumberedLine) : PlanFault → Type 0 where
-  no_form : (before after : List NumberedLine) (l : NumberedLine) (forms : List Form) (f : PlanFault) → ls ≡ before ++ l ∷ after
+  no_form : (before after : List NumberedLine) (l : NumberedLine) (forms : List Form)
+      (f : PlanFault) → ls ≡ before ++ l ∷ after
       → Each Says before forms → length (roots_among forms) ≤ 1 → IsFaulty l f → IsFirstFault ls f
-  second_root : (before after : List NumberedLine) (l : NumberedLine) (forms : List Form) (first second : Root) → ls ≡ before ++ l ∷ after
-      → Each Says before forms → roots_among forms ≡ first ∷ [] → Says l (root second) → IsFirstFault ls (faults.RepeatedRoot l.number)
+  second_root : (before after : List NumberedLine) (l : NumberedLine) (forms : List Form)
+      (first second : Root) → ls ≡ before ++ l ∷ after
+      → Each Says before forms → roots_among forms ≡ first ∷ [] → Says l (root second)
+      → IsFirstFault ls (faults.RepeatedRoot l.number)
 
--- the fault of the lines between the markers: that of the first faulty line, else that there is no root
+-- the fault of the lines between the markers: that of the first faulty line, else that there is no
+-- root
 abbrev pub IsFaultOfLines : List NumberedLine → PlanFault → Type 0
 IsFaultOfLines ls (faults.BadByte n) = IsFirstFault ls (faults.BadByte n)
 IsFaultOfLines ls (faults.BadLine n) = IsFirstFault ls (faults.BadLine n)
@@ -137,7 +152,8 @@ pub record IsFaultBetween (text : List ℕ) (f : PlanFault) : Type 0 where
 abbrev pub IsPlanFault : List ℕ → PlanFault → Type 0
 IsPlanFault text faults.TooLong = MOST_BYTES < length text
 IsPlanFault text faults.NoStart = (length text ≤ MOST_BYTES) × (has_start text ≡ false)
-IsPlanFault text faults.NoEnd = (length text ≤ MOST_BYTES) × (has_start text ≡ true) × (has_end text ≡ false)
+IsPlanFault text faults.NoEnd = (length text ≤ MOST_BYTES) × (has_start text ≡ true)
+    × (has_end text ≡ false)
 IsPlanFault text faults.Memory = Unit {0}
 IsPlanFault text (faults.BadByte n) = IsFaultBetween text (faults.BadByte n)
 IsPlanFault text (faults.BadLine n) = IsFaultBetween text (faults.BadLine n)

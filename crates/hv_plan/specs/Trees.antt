@@ -1,10 +1,10 @@
 -- The tree of a plan: its actions, its decomposition lines, and what stands below what.
 use Rattle.std.specs.Prelude.{◌≡◌, ℕ, ◌<◌, List, [], ◌∷◌, Contains}
 
--- A member of a task network: an action of the plan, a compound task that is still to be decomposed,
--- or the precondition step of the method that was applied to one. Actions are numbered from 0 in
--- plan order. A compound task and its precondition step bear the number of the decomposition line
--- that the plan has for the task
+-- A member of a task network: an action of the plan, a compound task that is still to be
+-- decomposed, or the precondition step of the method that was applied to one. Actions are numbered
+-- from 0 in plan order. A compound task and its precondition step bear the number of the
+-- decomposition line that the plan has for the task
 pub data Item : Type 0 where
   Act : ℕ → Item
   Task : ℕ → Item
@@ -21,7 +21,8 @@ pub record Tree : Type 0 where
 pub data AtOrBelow (t : Tree) (c : Item) : Item → Type 0 where
   itself : AtOrBelow t c c
   its_pre : {v : ℕ} → AtOrBelow t c (Task v) → AtOrBelow t c (Pre v)
-  its_child : {v : ℕ} {x : Item} → AtOrBelow t c (Task v) → Contains (t.children v) x → AtOrBelow t c x
+  its_child : {v : ℕ} {x : Item} → AtOrBelow t c (Task v) → Contains (t.children v) x
+      → AtOrBelow t c x
 
 -- x belongs to the tree: it is an initial task or stands below one
 pub record Reached (t : Tree) (x : Item) : Type 0 where
@@ -48,9 +49,11 @@ pub record IsTree (t : Tree) : Type 0 where
   pub initial_kind : (x : Item) → Contains t.initial_tasks x → IsSubtask x
   pub child_kind : (v : ℕ) (x : Item) → Contains (t.children v) x → IsSubtask x
   pub lower : (v u : ℕ) → Contains (t.children v) (Task u) → u < v
-  pub one_parent : (v w : ℕ) (x : Item) → Contains (t.children v) x → Contains (t.children w) x → v ≡ w
+  pub one_parent : (v w : ℕ) (x : Item) → Contains (t.children v) x → Contains (t.children w) x
+      → v ≡ w
   pub no_initial_below :
-      (c x : Item) (v : ℕ) → Contains t.initial_tasks c → AtOrBelow t c (Task v) → Contains (t.children v) x
+      (c x : Item) (v : ℕ) → Contains t.initial_tasks c → AtOrBelow t c (Task v)
+      → Contains (t.children v) x
       → Contains t.initial_tasks x → ⊥
 
 -- The tree that has one line's task as its only initial task: the network of that task alone

@@ -8,7 +8,8 @@ pub record Action : Type 0 where
   pub arguments : List (List ℕ)
   pub line : ℕ
 
--- a decomposition line: an id, the task's name, its arguments, the method's name, the ids of the children, and the number of the line
+-- a decomposition line: an id, the task's name, its arguments, the method's name, the ids of the
+-- children, and the number of the line
 pub record Decomposition : Type 0 where
   pub id : ℕ
   pub name : List ℕ
@@ -22,7 +23,8 @@ pub record Root : Type 0 where
   pub ids : List ℕ
   pub line : ℕ
 
--- a plan: its action lines and its decomposition lines, each kind in the order of the text, and the root line
+-- a plan: its action lines and its decomposition lines, each kind in the order of the text, and the
+-- root line
 pub record Plan : Type 0 where
   pub actions : List Action
   pub root : Root

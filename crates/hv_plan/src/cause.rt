@@ -7,8 +7,8 @@ ghost use Rattle.hv_plan.specs.inside.LineFaults.{comes_before, earlier};
 use hv_text::Memory;
 use std::alloc::AllocFailed;
 
-/// Why the lines of a plan form no tree that fits a world. Each kind has a number, and is read where
-/// none of a smaller number applies.
+/// Why the lines of a plan form no tree that fits a world. Each kind has a number, and is read
+/// where none of a smaller number applies.
 #[derive(Clone, Copy, Debug, PartialEq, Eq)]
 pub enum CauseKind {
     /// An id begins two lines.
@@ -87,7 +87,8 @@ impl CauseKind {
     }
 }
 
-/// Why the lines of a plan form no tree that fits a world, and the number of the line that is at fault.
+/// Why the lines of a plan form no tree that fits a world, and the number of the line that is at
+/// fault.
 #[derive(Clone, Copy, Debug, PartialEq, Eq)]
 pub struct Cause {
     pub kind: CauseKind,

@@ -110,7 +110,8 @@ fn objects_fault(world: &World<'_>, name: TaskName, objects: &[ObjectId]) -> Opt
     None
 }
 
-// The objects of the arguments of a task or an action, or what keeps them from being as its parameters.
+// The objects of the arguments of a task or an action, or what keeps them from being as its
+// parameters.
 fn fit_arguments<'s>(
     room: Vec<ObjectId>,
     world: &World<'s>,
@@ -118,8 +119,10 @@ fn fit_arguments<'s>(
     arguments: &[Name<'s>],
 ) -> Result<Vec<ObjectId>, LineFault>
     ensures { MatchResult result
-        (λ os. AreArguments (world_view world.now) (name_view name) (map text_of arguments.now) (map object_number os.items))
-        (IsLineFault (IsArgumentFault (world_view world.now) (name_view name) (map text_of arguments.now))) }
+        (λ os. AreArguments (world_view world.now) (name_view name)
+        (map text_of arguments.now) (map object_number os.items))
+        (IsLineFault (IsArgumentFault (world_view world.now) (name_view name)
+        (map text_of arguments.now))) }
 {
     let Some(objects) = objects_named(room, world, arguments)? else {
         return Err(LineFault::Cause(CauseKind::UnknownObject));
@@ -191,8 +194,10 @@ pub(crate) fn fit_line<'s>(
     line: DecompositionLine<'_, 's>,
 ) -> Result<Decomposed, LineFault>
     ensures { MatchResult result
-        (λ x. IsDecomposed (world_view world.now) (decomposition_view line.entry) (decomposed_view x))
-        (IsLineFault (IsSmallest (world_view world.now) (line_entry (decomposition_view line.entry)))) }
+        (λ x. IsDecomposed (world_view world.now) (decomposition_view line.entry)
+        (decomposed_view x))
+        (IsLineFault (IsSmallest (world_view world.now)
+        (line_entry (decomposition_view line.entry)))) }
 {
     let Some(name) = world.task_named(line.name) else {
         return Err(LineFault::Cause(CauseKind::UnknownTask));

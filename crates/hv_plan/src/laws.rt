@@ -1,4 +1,5 @@
-//! What is read of a plan is what the table of its lines spells; and its lines form a tree or have a cause.
+//! What is read of a plan is what the table of its lines spells; and its lines form a tree or have
+//! a cause.
 
 ghost use Rattle.hv_text.specs.declared.fault.TheConstants.{MOST_BYTES};
 ghost use Rattle.std.specs.Prelude.{◌≡◌, ◌↔◌, ◌⊎◌, ◌<◌, ◌≤◌, ◌+◌, ℕ, List, Contains, Some, false, length, IsSome};
@@ -29,8 +30,8 @@ pub fn forms_are_spelled()
     ensures { (n : ℕ) (ps : List Piece) (f : Form) → SpellsForm n ps f ↔ (form_of n ps ≡ Some f) }
 {}
 
-/// Lines hold a plan where each says a form and one of them is the root; else the first that says none, or is a
-/// second root, is the fault.
+/// Lines hold a plan where each says a form and one of them is the root; else the first that says
+/// none, or is a second root, is the fault.
 pub fn plans_are_spelled()
     ensures plan { (ls : List NumberedLine) (p : Plan) → SayPlan ls p ↔ IsBody ls p }
     ensures fault { (ls : List NumberedLine) (e : PlanFault)
@@ -48,8 +49,8 @@ pub fn a_plan_or_a_fault()
         → IsPlanFault text f → f ≡ faults.Memory }
 {}
 
-/// The canonical text of a plan that a text holds, where it is within the size limit, holds that plan, the numbers of its
-/// lines aside; and what it holds is printed alike.
+/// The canonical text of a plan that a text holds, where it is within the size limit, holds that
+/// plan, the numbers of its lines aside; and what it holds is printed alike.
 pub fn plans_are_read_back()
     ensures back { (text : List ℕ) (p : Plan) → IsPlan text p → length (plan_text p) ≤ MOST_BYTES
         → (q : Plan) × IsPlan (plan_text p) q × (bare_plan q ≡ bare_plan p) }
@@ -74,8 +75,8 @@ pub fn nodes_are_lines()
         → Contains (children_at t.nodes v) (Task u) → NodeIs t (λ n. IsSome n.task) u }
 {}
 
-/// The lines of a plan form a tree that fits a world, or there is a cause; one alone, and never both.
-/// A cause is one cause at one line.
+/// The lines of a plan form a tree that fits a world, or there is a cause; one alone, and never
+/// both. A cause is one cause at one line.
 pub fn a_tree_or_a_cause()
     ensures some { (w : World) (p : Plan) → IsSound w → IsInTextOrder p
         → (FormTree p × FitWorld w p) ⊎ ((c : Cause) × IsCause w p c) }

@@ -105,8 +105,8 @@ fn is_only(line: &[u8], marker: &[u8]) -> bool
     }
 }
 
-/// Whether the line is this marker: cut at its first semicolon and stripped of white space, nothing else.
-/// It is inlined, as the marker is known then.
+/// Whether the line is this marker: cut at its first semicolon and stripped of white space, nothing
+/// else. It is inlined, as the marker is known then.
 #[inline(always)]
 pub(crate) fn is_marker(line: Line<'_>, marker: &[u8]) -> bool
     requires { length line.bytes.now ≤ MOST_BYTES }

@@ -10,8 +10,8 @@ ghost use Rattle.hv_plan.specs.Shapes.{IsInTextOrder};
 pub use actions::{ActionLine, ActionLines, ActionLinesIter};
 pub use decompositions::{DecompositionLine, DecompositionLines, DecompositionLinesIter};
 
-/// A plan: its action lines and its decomposition lines, each kind in the order of the text, and its
-/// root line; no two of them have one number.
+/// A plan: its action lines and its decomposition lines, each kind in the order of the text, and
+/// its root line; no two of them have one number.
 #[derive(Drop)]
 pub struct PlanText<'s> {
     pub(crate) actions: ActionLines<'s>,

@@ -20,8 +20,9 @@ use std::alloc::Global;
 ///
 /// # Errors
 ///
-/// `TooLong`, `NoStart` or `NoEnd`, else the fault of the first faulty line, else `NoRoot`. On one line `BadByte` comes
-/// before `BadLine`, that before `IdTooLarge`, and that before `RepeatedRoot`. `Memory` where a growth was refused.
+/// `TooLong`, `NoStart` or `NoEnd`, else the fault of the first faulty line, else `NoRoot`. On one
+/// line `BadByte` comes before `BadLine`, that before `IdTooLarge`, and that before `RepeatedRoot`.
+/// `Memory` where a growth was refused.
 pub fn read_plan<'s>(alloc: Global, text: &'s [u8]) -> Result<PlanText<'s>, PlanFault>
     ensures ok { IfOk result (λ p. IsPlan text.now (plan_view p)) }
     ensures order { IfOk result (λ p. IsInTextOrder (plan_view p)) }

@@ -1,7 +1,7 @@
 //! The shape of a plan: what stands below what, and the number of each node.
 //!
-//! The ids that begin lines stand in one table, in which each child is looked up once. Each step drops
-//! the lists and the table that it made, before the next makes its own.
+//! The ids that begin lines stand in one table, in which each child is looked up once. Each step
+//! drops the lists and the table that it made, before the next makes its own.
 
 mod begins;
 mod nodes;
@@ -38,8 +38,8 @@ use walk::walk_from;
 ///
 /// # Errors
 ///
-/// `RepeatedId`, else `UnknownChild`, else `TwoParents`, else `Unreached`, each at the first line at fault; `Memory`
-/// where a growth was refused.
+/// `RepeatedId`, else `UnknownChild`, else `TwoParents`, else `Unreached`, each at the first line
+/// at fault; `Memory` where a growth was refused.
 pub(crate) fn shape_of(alloc: Global, plan: &PlanText<'_>) -> Result<Shape, TreeFault>
     ensures ok { IfOk result (λ s. FormTree (plan_view plan.now)
         × IsShape (plan_view plan.now) (shape_view s)) }

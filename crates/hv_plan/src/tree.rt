@@ -22,7 +22,8 @@ pub enum Child {
     Node(u32),
 }
 
-/// The line of a node and its number in the text; a decomposition line says an id, a task and a method.
+/// The line of a node and its number in the text; a decomposition line says an id, a task and a
+/// method.
 #[derive(Clone, Copy)]
 pub(crate) enum Head {
     Root {
@@ -93,7 +94,8 @@ impl<'a> Node<'a> {
         self.objects
     }
 
-    /// The method that decomposes its task; for the root line, which stands for the initial network, there is none.
+    /// The method that decomposes its task; for the root line, which stands for the initial
+    /// network, there is none.
     pub fn method(&self) -> Option<MethodId>
         ensures { option_map (λ m. m.0) result ≡ (node_view self.now).method }
     {
@@ -167,8 +169,8 @@ impl<'p, 's> Tree<'p, 's> {
         Some(line.id)
     }
 
-    /// How many nodes there are, one at least: children have lower numbers than parents, and the last
-    /// node is that of the root line.
+    /// How many nodes there are, one at least: children have lower numbers than parents, and the
+    /// last node is that of the root line.
     pub fn node_count(&self) -> u32
         ensures { result ≡ length (tree_view self.now).nodes }
     {
@@ -213,8 +215,8 @@ impl<'p, 's> Tree<'p, 's> {
         }
     }
 
-    /// The node of a number, where there is one. It is inlined, so that what is not asked of the node
-    /// is not looked up.
+    /// The node of a number, where there is one. It is inlined, so that what is not asked of the
+    /// node is not looked up.
     #[inline(always)]
     pub fn node(&self, node: u32) -> Option<Node<'_>>
         ensures { option_map node_view result ≡ slice_get (tree_view self.now).nodes node }
@@ -233,8 +235,8 @@ impl<'p, 's> Tree<'p, 's> {
         self.shape.numbers.get(line).copied()
     }
 
-    /// The number of the k-th node in the order of nodes, where there is one: 0 is the root line, and
-    /// the decomposition lines follow as the text has them.
+    /// The number of the k-th node in the order of nodes, where there is one: 0 is the root line,
+    /// and the decomposition lines follow as the text has them.
     pub fn node_at(&self, k: usize) -> Option<u32>
         ensures number { result ≡ slice_get (tree_view self.now).order k }
         ensures within { IfSome result (λ v. v < length (tree_view self.now).nodes) }

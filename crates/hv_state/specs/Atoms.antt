@@ -25,7 +25,8 @@ After S deletes adds g = (S g × (deletes g → ⊥)) ⊎ adds g
 
 -- the objects, and the atom, that the code reads
 abbrev pub objects_read : Objects → List ℕ
-objects_read (OfTerms terms binding) = map (object_of (objects_in binding.now)) (map term_view terms.now)
+objects_read (OfTerms terms binding) =
+    map (object_of (objects_in binding.now)) (map term_view terms.now)
 objects_read (Given numbers) = numbers.now
 
 abbrev pub atom_read : AtomView → GroundAtom
@@ -33,7 +34,8 @@ atom_read v = ground_atom v.predicate.0 (objects_read v.objects)
 
 -- with other last objects, from its own on up to before a number, an atom is not in the set
 abbrev pub IsPassedOver : Atoms → GroundAtom → ℕ → Type 0
-IsPassedOver S g until = (os : List ℕ) (o n : ℕ) → g.objects ≡ os ++ o ∷ [] → o ≤ n → n < until → S (ground_atom g.predicate (os ++ n ∷ [])) → ⊥
+IsPassedOver S g until = (os : List ℕ) (o n : ℕ) → g.objects ≡ os ++ o ∷ [] → o ≤ n → n < until
+    → S (ground_atom g.predicate (os ++ n ∷ [])) → ⊥
 
 -- an atom as a row: its predicate, and then its objects
 abbrev pub row_of : GroundAtom → List ℕ

@@ -19,7 +19,8 @@ Stays p g n = StateAt p n g ↔ StateAt p (suc n) g
 pub data AreChanges (p : Plan) (g : GroundAtom) : ℕ → List Change → Type 0 where
   none_yet : AreChanges p g 0 []
   stays : {n : ℕ} {cs : List Change} → AreChanges p g n cs → Stays p g n → AreChanges p g (suc n) cs
-  turns : {n : ℕ} {cs : List Change} {b : Bool} → AreChanges p g n cs → (Stays p g n → ⊥) → (IsTrue b ↔ StateAt p (suc n) g) → AreChanges p g (suc n) (cs ++ (suc n, b) ∷ [])
+  turns : {n : ℕ} {cs : List Change} {b : Bool} → AreChanges p g n cs → (Stays p g n → ⊥)
+      → (IsTrue b ↔ StateAt p (suc n) g) → AreChanges p g (suc n) (cs ++ (suc n, b) ∷ [])
 
 -- what the last change up to an index says; before the first one nothing
 abbrev pub told_from : Option Bool → ℕ → List Change → Option Bool
@@ -54,19 +55,24 @@ module _ (w : Typing) (g : GroundAtom) where
     SomeMention no_formulas env = ⊥
     SomeMention (more_formulas f fs) env = Mentions f env ⊎ SomeMention fs env
 
--- j is the first index after k at which an atom changes that the formula speaks of, or one past the last
+-- j is the first index after k at which an atom changes that the formula speaks of, or one past the
+-- last
 pub record IsNextChange (p : Plan) (k : ℕ) (f : Formula) (env : List ℕ) (j : ℕ) : Type 0 where
   pub after : k < j
   pub within : j ≤ length p.actions + 1
-  pub quiet : (i : ℕ) (g : GroundAtom) → k ≤ i → i + 1 < j → Mentions p.world.typing g f env → Stays p g i
-  pub change : j ≤ length p.actions → (i : ℕ) × (i + 1 ≡ j) × ((g : GroundAtom) × Mentions p.world.typing g f env × (Stays p g i → ⊥))
+  pub quiet : (i : ℕ) (g : GroundAtom) → k ≤ i → i + 1 < j → Mentions p.world.typing g f env
+      → Stays p g i
+  pub change : j ≤ length p.actions
+      → (i : ℕ) × (i + 1 ≡ j)
+      × ((g : GroundAtom) × Mentions p.world.typing g f env × (Stays p g i → ⊥))
 
 -- the formula is false from one index on, up to before another
 abbrev pub AreFalse : Plan → Formula → List ℕ → ℕ → ℕ → Type 0
-AreFalse p f env from end = (k : ℕ) → from ≤ k → k < end → True p.world.typing (StateAt p k) f env → ⊥
+AreFalse p f env from end = (k : ℕ) → from ≤ k → k < end → True p.world.typing (StateAt p k) f env
+    → ⊥
 
--- i is the first index between two, both with, at which the formula is true, and j the last before an atom changes that
--- it speaks of: up to there it is true
+-- i is the first index between two, both with, at which the formula is true, and j the last before
+-- an atom changes that it speaks of: up to there it is true
 pub record IsFirstTrue (p : Plan) (f : Formula) (env : List ℕ) (from upto i j : ℕ) : Type 0 where
   pub after : from ≤ i
   pub within : i ≤ upto

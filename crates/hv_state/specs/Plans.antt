@@ -29,11 +29,18 @@ plan_of w actions = plan (world_view w) (ground_actions_view actions)
 
 -- an action is applicable in a state: the world has it, and its precondition is true there
 abbrev pub IsApplicableIn : World → Atoms → GroundAction → Type 0
-IsApplicableIn w S g = IsSomeAnd (slice_get w.actions g.action) (λ a. True w.typing S a.precondition g.objects)
+IsApplicableIn w S g =
+    IsSomeAnd (slice_get w.actions g.action) (λ a. True w.typing S a.precondition g.objects)
 
--- what is true after an action, with its objects: all that its effect deletes, and then all that it adds; an action that the world does not have changes nothing
+-- what is true after an action, with its objects: all that its effect deletes, and then all that it
+-- adds; an action that the world does not have changes nothing
 abbrev pub AfterAction : World → Atoms → GroundAction → Atoms
-AfterAction w S g = elim (slice_get w.actions g.action) [ None ↦ S | Some a ↦ After S (Deletes w.typing g.objects a.effect) (Adds w.typing g.objects a.effect) ]
+AfterAction w S g =
+    elim (slice_get w.actions g.action) [
+      | None ↦ S
+      | Some a ↦ After S (Deletes w.typing g.objects a.effect)
+          (Adds w.typing g.objects a.effect)
+    ]
 
 -- what is true after actions, one after another
 abbrev pub AfterActions : World → Atoms → List GroundAction → Atoms
@@ -48,7 +55,8 @@ Start w = Contains (atoms_under [] w.init)
 abbrev pub StateAt : Plan → ℕ → Atoms
 StateAt p k = AfterActions p.world (Start p.world) (take k p.actions)
 
--- a formula of the code is true after the first k actions, where its variables have the objects of a binding
+-- a formula of the code is true after the first k actions, where its variables have the objects of
+-- a binding
 abbrev pub IsTrueAt : Plan → ℕ → code_formula.Formula → Binding → Type 0
 IsTrueAt p k f b = True p.world.typing (StateAt p k) (formula_view f) (objects_in b)
 
@@ -71,4 +79,6 @@ IsStop p stops.Memory = Unit {0}
 
 -- the goal is true at the end of the plan; where there is none, so it is
 abbrev pub GoalHolds : Plan → Type 0
-GoalHolds p = MatchOption p.world.goal (Unit {0}) (λ f. True p.world.typing (StateAt p (length p.actions)) f [])
+GoalHolds p =
+    MatchOption p.world.goal (Unit {0})
+    (λ f. True p.world.typing (StateAt p (length p.actions)) f [])

@@ -1,4 +1,5 @@
--- How the code keeps states and changes, step by step, for its proofs. No public clause means any of this.
+-- How the code keeps states and changes, step by step, for its proofs. No public clause means any
+-- of this.
 pub mod Rows
 pub mod Histories
 pub mod Notes

@@ -60,9 +60,9 @@ impl<'a> AtomView<'a> {
         }
     }
 
-    /// The same as `new`, with the objects of up to three terms looked up once and put down in `numbers`. It is
-    /// written out where it is called, since what it answers is large, and a copy of it would wait for
-    /// all that was written before.
+    /// The same as `new`, with the objects of up to three terms looked up once and put down in
+    /// `numbers`. It is written out where it is called, since what it answers is large, and a copy
+    /// of it would wait for all that was written before.
     #[inline(always)]
     pub(crate) fn resolved(
         atom: &'a Atom,

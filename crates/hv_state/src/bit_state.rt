@@ -21,8 +21,8 @@ use std::cell::Cell;
 use std::marker::Model;
 use std::rc::Rc;
 
-/// A state as a row of bits: one for each atom of a table, which copies share. An atom is found at a
-/// guess, and one that the table lacks is false.
+/// A state as a row of bits: one for each atom of a table, which copies share. An atom is found at
+/// a guess, and one that the table lacks is false.
 #[derive(Drop)]
 pub struct BitState {
     table: Rc<Vec<Row>>,
@@ -92,8 +92,8 @@ impl BitState {
         BitState::over(alloc, lit, &rows)
     }
 
-    /// The first number, from that of an atom's last object on, with which in its place the table may
-    /// have the atom.
+    /// The first number, from that of an atom's last object on, with which in its place the table
+    /// may have the atom.
     pub(crate) fn next_known(&self, atom: &AtomView<'_>) -> usize
         ensures { IsPassedOver (Listed self.now.0) (atom_read atom.now) result }
     {

@@ -29,9 +29,9 @@ use std::cell::Cell;
 use std::marker::Model;
 
 /// The atoms that a plan's actions touch, in order, each with its changes; guesses of where an atom
-/// stands, and where those stood that were found last; how many changes of the atom asked last were up
-/// to the index that was asked; and for each predicate a bit, which is set where an atom of it stands
-/// there.
+/// stands, and where those stood that were found last; how many changes of the atom asked last were
+/// up to the index that was asked; and for each predicate a bit, which is set where an atom of it
+/// stands there.
 #[derive(Drop)]
 pub(crate) struct Changes {
     list: Vec<History>,
@@ -82,8 +82,10 @@ impl Changes {
     /// Whether an action touches an atom of a predicate.
     #[inline(always)]
     pub(crate) fn has_some_of(&self, predicate: PredicateId) -> bool
-        ensures { result ≡ false →
+        ensures none { result ≡ false →
             (g : GroundAtom) → g.predicate ≡ predicate.0 → kept self.now g ≡ [] }
+        ensures unlisted { result ≡ false →
+            (g : GroundAtom) → g.predicate ≡ predicate.0 → Listed (rows_of self.now) g → ⊥ }
     {
         has_bit(&self.flags, predicate.0)
     }
@@ -103,12 +105,16 @@ impl Changes {
         found
     }
 
-    /// The first number, from that of an atom's last object on, with which in its place an action may
-    /// touch the atom.
+    /// The first number, from that of an atom's last object on, with which in its place an action
+    /// may touch the atom; the greatest of all where none touches an atom of its predicate.
     pub(crate) fn next_touched(&self, atom: &AtomView<'_>) -> usize
         ensures { IsPassedOver (Listed (rows_of self.now)) (atom_read atom.now) result }
     {
-        next_possible(&self.list, atom)
+        if self.has_some_of(atom.predicate) {
+            next_possible(&self.list, atom)
+        } else {
+            usize::MAX
+        }
     }
 
     // The history of an atom; none where no action touches it.

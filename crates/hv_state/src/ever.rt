@@ -8,8 +8,8 @@ use crate::bit_state::BitState;
 use crate::changes::Changes;
 use crate::history::least;
 
-/// The atoms that are true somewhere in a stretch of a plan's states: from one state on, up to before
-/// another.
+/// The atoms that are true somewhere in a stretch of a plan's states: from one state on, up to
+/// before another.
 #[derive(Clone, Copy)]
 pub struct EverTrue<'a> {
     pub(crate) first: &'a BitState,
@@ -30,8 +30,8 @@ impl EverTrue<'_> {
             .is_true_in(self.first, atom, self.from, self.end)
     }
 
-    /// The first number, from that of an atom's last object on, with which in its place the atom may
-    /// be true in the stretch. Nothing is worked out for it either, and it may be told too low.
+    /// The first number, from that of an atom's last object on, with which in its place the atom
+    /// may be true in the stretch. Nothing is worked out for it either, and it may be told too low.
     pub fn next_possible(&self, atom: &AtomView<'_>) -> usize
         ensures { IsPassedOver (λ g. is_listed (ever_rows self.now) g ≡ true)
             (atom_read atom.now) result }

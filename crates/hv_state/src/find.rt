@@ -52,8 +52,8 @@ fn stands_at<T: HasRow>(list: &[T], place: usize, atom: &AtomView<'_>) -> bool
     }
 }
 
-/// Where the row of an atom stands, if it does: at one of the guesses; else, where there was no room
-/// for all of them, by halving.
+/// Where the row of an atom stands, if it does: at one of the guesses; else, where there was no
+/// room for all of them, by halving.
 pub(crate) fn look_up<T: HasRow>(
     list: &[T],
     guesses: &Guesses,
@@ -117,8 +117,8 @@ fn number_behind(row: &[usize], predicate: PredicateId, before: &[usize]) -> usi
 }
 
 /// The first number, from that of an atom's last object on, with which in its place the row of the
-/// atom may be listed: by halving. It may be told too low: nothing is looked for where the row itself
-/// is listed, or where the objects of the atom are not put down.
+/// atom may be listed: by halving. It may be told too low: nothing is looked for where the row
+/// itself is listed, or where the objects of the atom are not put down.
 pub(crate) fn next_possible<T: HasRow>(list: &[T], atom: &AtomView<'_>) -> usize
     requires { Ascend (map T.numbers list.now) }
     ensures { IsPassedOver (Listed (map T.numbers list.now)) (atom_read atom.now) result }

@@ -51,8 +51,8 @@ impl GroundAtoms {
         }
     }
 
-    /// The atoms that effects make true, or false, with the objects of a binding: also those that an
-    /// effect makes so for some objects of its variables. One may stand there more than once.
+    /// The atoms that effects make true, or false, with the objects of a binding: also those that
+    /// an effect makes so for some objects of its variables. One may stand there more than once.
     ///
     /// # Errors
     ///

@@ -14,8 +14,8 @@ use std::alloc::Global;
 
 /// Numbers of places in a list, counted from 1, four at most for each hash; 0 stands where there is
 /// room for one more. A number is looked at before it is taken. What has none is not in the list
-/// where there is room, and else is looked for in another way: so nothing hangs on the hash, and where
-/// a text makes hashes collide, no more than four places are looked at for one.
+/// where there is room, and else is looked for in another way: so nothing hangs on the hash, and
+/// where a text makes hashes collide, no more than four places are looked at for one.
 #[derive(Drop)]
 pub(crate) struct Guesses {
     pub(crate) buckets: Vec<[u32; 4]>,
@@ -64,7 +64,8 @@ impl Guesses {
 const NEAR: usize = 4;
 
 /// Where atoms were found one after another. Those that an effect changes for all objects, or a
-/// quantifier asks for, stand at equal distances, mostly, and so the next is looked for there first.
+/// quantifier asks for, stand at equal distances, mostly, and so the next is looked for there
+/// first.
 #[derive(Clone, Copy)]
 pub(crate) struct Stride {
     last: usize,

@@ -17,8 +17,9 @@ use crate::state::State;
 use hv_text::Memory;
 use std::cell::Cell;
 
-/// From an index on an atom is true, or false. The number is twice the index, and one more where the
-/// atom is true: the changes of a long plan are many, and wait for memory the less the shorter they are.
+/// From an index on an atom is true, or false. The number is twice the index, and one more where
+/// the atom is true: the changes of a long plan are many, and wait for memory the less the shorter
+/// they are.
 #[derive(Clone, Copy)]
 pub(crate) struct Change {
     number: u32,
@@ -91,9 +92,9 @@ fn are_past(list: &[Change], count: usize, k: usize) -> bool
     list[count - 1].index() <= k && k < list[count].index()
 }
 
-// How many changes are up to an index, where they are as many as in the list that was asked before, or
-// one more or fewer: an effect for all objects changes many atoms at the same indices, and a plan is
-// mostly gone through from one index to the next.
+// How many changes are up to an index, where they are as many as in the list that was asked before,
+// or one more or fewer: an effect for all objects changes many atoms at the same indices, and a
+// plan is mostly gone through from one index to the next.
 #[inline(always)]
 fn near(list: &[Change], likely: usize, k: usize) -> Option<usize>
     requires { Rise (map change_view list.now) }
@@ -251,8 +252,8 @@ impl History {
         Ok(())
     }
 
-    /// What the last change up to an index says. How many changes were up to the index that was asked
-    /// before, of whichever atom, is looked at first.
+    /// What the last change up to an index says. How many changes were up to the index that was
+    /// asked before, of whichever atom, is looked at first.
     #[inline(always)]
     pub(crate) fn told(&self, k: usize, recent: &Cell<usize>) -> Option<bool>
         requires { Rise (changes_of self.now) }

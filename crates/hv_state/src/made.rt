@@ -73,9 +73,9 @@ fn take_made_by<T: Take>(
     }
 }
 
-/// Takes the atoms that effects make true, or false: those that an effect makes so for each object of
-/// its variables, too. Where nothing can be made so, no object is looked at. It takes no memory of its
-/// own but a frame of the stack for each effect and each variable.
+/// Takes the atoms that effects make true, or false: those that an effect makes so for each object
+/// of its variables, too. Where nothing can be made so, no object is looked at. It takes no memory
+/// of its own but a frame of the stack for each effect and each variable.
 #[cycle(made)]
 pub(crate) fn take_made<T: Take>(
     world: &World<'_>,
@@ -94,8 +94,8 @@ pub(crate) fn take_made<T: Take>(
     Ok(())
 }
 
-// The same of effects for all objects of these types that the next variables may have; of a variable
-// that they do not speak of, one object serves for all.
+// The same of effects for all objects of these types that the next variables may have; of a
+// variable that they do not speak of, one object serves for all.
 #[cycle(made)]
 fn take_made_for_each<T: Take>(
     world: &World<'_>,

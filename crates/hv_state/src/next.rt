@@ -102,7 +102,8 @@ fn next_of_parts(
 }
 
 // The same of a formula for all objects of these types that the next variables may have. They are
-// gone through only where an atom of the formula may change: truth may be told by the first of many.
+// gone through only where an atom of the formula may change: truth may be told by the first of
+// many.
 #[cycle(next_change)]
 fn next_of_choices(
     world: &World<'_>,

@@ -48,8 +48,8 @@ pub trait State: Sized + Drop {
     fn holds(&self, atom: &AtomView<'_>) -> bool
         ensures { IsTrue result ↔ atoms self.now (atom_read atom.now) };
 
-    /// The first number, from that of an atom's last object on, with which in its place the atom may
-    /// be true; it may be told too low.
+    /// The first number, from that of an atom's last object on, with which in its place the atom
+    /// may be true; it may be told too low.
     fn next_possible(&self, atom: &AtomView<'_>) -> usize
         ensures { IsPassedOver (atoms self.now) (atom_read atom.now) result };
 

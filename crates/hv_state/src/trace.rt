@@ -66,8 +66,8 @@ impl<'a, 's, S: State> Model for Trace<'a, 's, S> {
 }
 
 impl Trace<'_, '_, BitState> {
-    /// The atoms that are true somewhere in a stretch of the plan's states: after `from` actions, or
-    /// more, but fewer than `end`.
+    /// The atoms that are true somewhere in a stretch of the plan's states: after `from` actions,
+    /// or more, but fewer than `end`.
     pub fn ever_true(&self, from: usize, end: usize) -> EverTrue<'_>
         requires some { from < end }
         requires within { from ≤ length self.now.actions }

@@ -69,7 +69,9 @@ abbrev pub bare_constraint : Constraint → Constraint
 bare_constraint c = constraint c.is_equal (bare_term c.left, bare_term c.right)
 
 abbrev pub bare_network : Network → Network
-bare_network n = network (map bare_subtask n.subtasks) n.is_ordered (map bare_pair n.pairs) (map bare_constraint n.constraints)
+bare_network n =
+    network (map bare_subtask n.subtasks) n.is_ordered (map bare_pair n.pairs)
+    (map bare_constraint n.constraints)
 
 abbrev pub bare_predicate : Predicate → Predicate
 bare_predicate p = predicate (bare_word p.name) (map bare_variable p.parameters)
@@ -79,10 +81,14 @@ bare_task t = task nowhere (bare_word t.name) (map bare_variable t.parameters)
 
 abbrev pub bare_method : Method → Method
 bare_method m =
-    method nowhere (bare_word m.name) ((map bare_variable m.parameters, bare_atom m.task), bare_network m.network) (bare_formula m.precondition)
+    method nowhere (bare_word m.name)
+    ((map bare_variable m.parameters, bare_atom m.task), bare_network m.network)
+    (bare_formula m.precondition)
 
 abbrev pub bare_action : Action → Action
-bare_action a = action nowhere (bare_word a.name) (map bare_variable a.parameters, bare_effect a.effect) (bare_formula a.precondition)
+bare_action a =
+    action nowhere (bare_word a.name) (map bare_variable a.parameters, bare_effect a.effect)
+    (bare_formula a.precondition)
 
 abbrev pub bare_domain : Domain → Domain
 bare_domain d =

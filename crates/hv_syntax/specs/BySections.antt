@@ -1,4 +1,5 @@
--- Whole texts said a second time: by their sections alone, with no word of those that stand before one.
+-- Whole texts said a second time: by their sections alone, with no word of those that stand before
+-- one.
 use Rattle.std.specs.Prelude.{◌≡◌, ◌≢◌, ℕ, true, List, [], ◌∷◌, Option, Some, None, codes}
 use Rattle.std.specs.List.{filter_map}
 use Rattle.hv_text.specs.Trees.{Tree, word, list, Trees, more}
@@ -14,13 +15,16 @@ use Rattle.hv_syntax.specs.Spellings.{SpellEach, join}
 use Rattle.hv_syntax.specs.Tables.{SpellsDefine, SpellsDomainSection, SpellsProblemSection}
 
 -- a section, wherever it stands: a list that its keyword heads
-pub data IsSection {S : Type 0} (Spells : List ℕ → Span → Trees → S → Type 0) : Tree → S → Type 0 where
-  a_list : (w : List ℕ) (p s : Span) (ts : Trees) (x : S) → Spells w s ts x → IsSection Spells (list (more (word w p) ts) s) x
+pub data IsSection {S : Type 0} (Spells : List ℕ → Span → Trees → S → Type 0) : Tree → S
+    → Type 0 where
+  a_list : (w : List ℕ) (p s : Span) (ts : Trees) (x : S) → Spells w s ts x
+      → IsSection Spells (list (more (word w p) ts) s) x
 
 -- no two of these are headed by one word that may stand once
 abbrev pub StandOnce : (List ℕ → Standing) → Trees → Type 0
 StandOnce standing ts =
-    (w : List ℕ) (before between behind : Trees) (t u : Tree) → ts ≡ join before (more t (join between (more u behind)))
+    (w : List ℕ) (before between behind : Trees) (t u : Tree)
+    → ts ≡ join before (more t (join between (more u behind)))
     → is_headed_by w t ≡ true → is_headed_by w u ≡ true → standing w ≢ standings.Once
 
 -- the first of two values that there may be, and else the second
@@ -78,10 +82,13 @@ pub record SaysDomain (n : WordAt) (xs : List DomainSection) (d : Domain) : Type
   pub methods : d.methods ≡ filter_map of_method xs
   pub actions : d.actions ≡ filter_map of_action xs
 
--- a domain: its list, whose members are sections, each once where it may stand once, and what they say
+-- a domain: its list, whose members are sections, each once where it may stand once, and what they
+-- say
 pub data IsDomainBySections : Trees → Domain → Type 0 where
-  domain_by_sections : (es : Trees) (n : WordAt) (ts : Trees) (s : Span) (xs : List DomainSection) (d : Domain) → SpellsDefine (codes "domain") es n ts s
-      → SpellEach (IsSection SpellsDomainSection) ts xs → StandOnce domain_standing ts → SaysDomain n xs d
+  domain_by_sections : (es : Trees) (n : WordAt) (ts : Trees) (s : Span) (xs : List DomainSection)
+      (d : Domain) → SpellsDefine (codes "domain") es n ts s
+      → SpellEach (IsSection SpellsDomainSection) ts xs → StandOnce domain_standing ts
+      → SaysDomain n xs d
       → IsDomainBySections es d
 
 -- what a section of each kind says, and nothing of the others
@@ -119,8 +126,11 @@ pub record SaysProblem (n : WordAt) (xs : List ProblemSection) (p : Problem) : T
   pub init : said of_init xs ≡ Some p.init
   pub goal : p.goal ≡ said of_goal xs
 
--- a problem: its list, whose members are sections, each once where it may stand once, and what they say
+-- a problem: its list, whose members are sections, each once where it may stand once, and what they
+-- say
 pub data IsProblemBySections : Trees → Problem → Type 0 where
-  problem_by_sections : (es : Trees) (n : WordAt) (ts : Trees) (s : Span) (xs : List ProblemSection) (p : Problem) → SpellsDefine (codes "problem") es n ts s
-      → SpellEach (IsSection SpellsProblemSection) ts xs → StandOnce problem_standing ts → SaysProblem n xs p
+  problem_by_sections : (es : Trees) (n : WordAt) (ts : Trees) (s : Span) (xs : List ProblemSection)
+      (p : Problem) → SpellsDefine (codes "problem") es n ts s
+      → SpellEach (IsSection SpellsProblemSection) ts xs → StandOnce problem_standing ts
+      → SaysProblem n xs p
       → IsProblemBySections es p

@@ -60,7 +60,8 @@ atom_expression a = form a.symbol.text (each term_expression a.terms)
 abbrev pub type_name_expression : TypeOf → Tree
 type_name_expression t = the_word (type_name t)
 
--- the type of a variable: `object` where no name is written, one name as it is, and else `(either ..)`
+-- the type of a variable: `object` where no name is written, one name as it is, and else `(either
+-- ..)`
 abbrev pub type_expression : List WordAt → Tree
 type_expression [] = the_word (codes "object")
 type_expression (n ∷ []) = word_expression n
@@ -69,7 +70,8 @@ type_expression (n ∷ m ∷ ns) = form (codes "either") (each word_expression (
 -- each name or variable with its own type
 abbrev pub members_by : {T : Type 0} → (T → Tree) → List (TypedBy T) → Trees
 members_by f [] = none
-members_by f (v ∷ vs) = more (word_expression v.name) (more (the_word (codes "-")) (more (f v.of) (members_by f vs)))
+members_by f (v ∷ vs) =
+    more (word_expression v.name) (more (the_word (codes "-")) (more (f v.of) (members_by f vs)))
 
 -- names, each with its own type
 abbrev pub typed_members : List Typed → Trees
@@ -86,10 +88,14 @@ abbrev mutual
   formula_expression (and fs) = conjunction (formula_expressions fs)
   formula_expression (or fs) = form (codes "or") (formula_expressions fs)
   formula_expression (not f) = form (codes "not") (more (formula_expression f) none)
-  formula_expression (imply f g) = form (codes "imply") (two_members (formula_expression f) (formula_expression g))
-  formula_expression (forall vs f) = form (codes "forall") (two_members (the_list (variable_members vs)) (formula_expression f))
-  formula_expression (exists vs f) = form (codes "exists") (two_members (the_list (variable_members vs)) (formula_expression f))
-  formula_expression (equal x y) = form (codes "=") (two_members (term_expression x) (term_expression y))
+  formula_expression (imply f g) =
+      form (codes "imply") (two_members (formula_expression f) (formula_expression g))
+  formula_expression (forall vs f) =
+      form (codes "forall") (two_members (the_list (variable_members vs)) (formula_expression f))
+  formula_expression (exists vs f) =
+      form (codes "exists") (two_members (the_list (variable_members vs)) (formula_expression f))
+  formula_expression (equal x y) =
+      form (codes "=") (two_members (term_expression x) (term_expression y))
 
   pub formula_expressions : Formulas → Trees
   formula_expressions no_formulas = none
@@ -113,7 +119,9 @@ abbrev mutual
   -- an item; behind a `forall` one item of an effect stands alone
   pub item_expression : Item → Tree
   item_expression (becomes l) = literal_expression l
-  item_expression (for_each vs e) = form (codes "forall") (two_members (the_list (variable_members vs)) (conjunction_or_one (item_expressions e)))
+  item_expression (for_each vs e) =
+      form (codes "forall")
+      (two_members (the_list (variable_members vs)) (conjunction_or_one (item_expressions e)))
 
   pub item_expressions : Effect → Trees
   item_expressions no_items = none
@@ -122,8 +130,10 @@ abbrev mutual
 -- an effect; one `forall` stands alone, and one literal behind `and`
 abbrev pub effect_expression : Effect → Tree
 effect_expression no_items = the_list none
-effect_expression (more_items (becomes l) e) = conjunction (item_expressions (more_items (becomes l) e))
-effect_expression (more_items (for_each vs f) e) = conjunction_or_one (item_expressions (more_items (for_each vs f) e))
+effect_expression (more_items (becomes l) e) =
+    conjunction (item_expressions (more_items (becomes l) e))
+effect_expression (more_items (for_each vs f) e) =
+    conjunction_or_one (item_expressions (more_items (for_each vs f) e))
 
 -- a task, behind its label where it has one
 abbrev pub labelled_by : Option WordAt → Tree → Tree
@@ -135,7 +145,8 @@ subtask_expression s = labelled_by s.label (atom_expression s.task)
 
 -- a pair: `(< l m)`
 abbrev pub pair_expression : Pair → Tree
-pair_expression p = form (codes "<") (two_members (word_expression p.earlier) (word_expression p.later))
+pair_expression p =
+    form (codes "<") (two_members (word_expression p.earlier) (word_expression p.later))
 
 -- `(= x y)`
 abbrev pub equation : Term → Term → Tree

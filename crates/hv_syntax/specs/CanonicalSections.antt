@@ -18,7 +18,8 @@ predicate_expression p = form p.name.text (variable_members p.parameters)
 
 -- the section of a task: its `:parameters`
 abbrev pub task_section : Task → Tree
-task_section t = form (codes ":task") (more (word_expression t.name) (with_parameters t.parameters none))
+task_section t =
+    form (codes ":task") (more (word_expression t.name) (with_parameters t.parameters none))
 
 -- the section of a method: its `:parameters`, `:task`, `:precondition`, and its network
 abbrev pub method_section : Method → Tree
@@ -44,7 +45,8 @@ abbrev pub section_of_each : {A : Type 0} → (A → Tree) → List A → List T
 section_of_each f [] = []
 section_of_each f (x ∷ xs) = f x ∷ section_of_each f xs
 
--- the sections of a domain: what each kind says where it is not empty, then all tasks, all methods and all actions
+-- the sections of a domain: what each kind says where it is not empty, then all tasks, all methods
+-- and all actions
 abbrev pub domain_sections : Domain → List Tree
 domain_sections d =
     unless_empty (codes ":requirements") (each word_expression d.requirements)
@@ -64,7 +66,8 @@ abbrev pub goal_section : Option Formula → List Tree
 goal_section None = []
 goal_section (Some f) = form (codes ":goal") (more (formula_expression f) none) ∷ []
 
--- the sections of a problem: its domain, requirements and objects where there are any, its network, its initial state, and its goal where there is one
+-- the sections of a problem: its domain, requirements and objects where there are any, its network,
+-- its initial state, and its goal where there is one
 abbrev pub problem_sections : Problem → List Tree
 problem_sections p =
     form (codes ":domain") (more (word_expression p.domain) none) ∷ []
@@ -95,7 +98,8 @@ abbrev pub lines : List Tree → List ℕ
 lines [] = []
 lines (t ∷ ts) = text t ++ 10 ∷ lines ts
 
--- the text of a definition: its title on the first line, each section on a line, and the parenthesis that ends it on the last
+-- the text of a definition: its title on the first line, each section on a line, and the
+-- parenthesis that ends it on the last
 abbrev pub definition_text : List ℕ → WordAt → List Tree → List ℕ
 definition_text kind n ts = codes "(define " ++ text (title kind n) ++ 10 ∷ lines ts ++ 41 ∷ 10 ∷ []
 

@@ -16,7 +16,11 @@ task_view t = task t.span (word_view t.name) (map variable_view t.parameters.ite
 
 abbrev pub method_view : MethodText → Method
 method_view m =
-    method m.span (word_view m.name) ((map variable_view m.parameters.items, atom_view m.task), network_view m.network) (formula_view m.precondition)
+    method m.span (word_view m.name)
+    ((map variable_view m.parameters.items, atom_view m.task), network_view m.network)
+    (formula_view m.precondition)
 
 abbrev pub action_view : ActionText → Action
-action_view a = action a.span (word_view a.name) (map variable_view a.parameters.items, effect_view a.effect) (formula_view a.precondition)
+action_view a =
+    action a.span (word_view a.name) (map variable_view a.parameters.items, effect_view a.effect)
+    (formula_view a.precondition)

@@ -27,4 +27,5 @@ is_nothing (Some t) = is_empty_list t
 -- the fields that a method may have
 abbrev pub method_slots : List Slot
 method_slots =
-    slots.Parameters ∷ slots.Task ∷ slots.Precondition ∷ slots.Subtasks ∷ slots.OrderedSubtasks ∷ slots.Ordering ∷ slots.Constraints ∷ []
+    slots.Parameters ∷ slots.Task ∷ slots.Precondition ∷ slots.Subtasks ∷ slots.OrderedSubtasks
+    ∷ slots.Ordering ∷ slots.Constraints ∷ []

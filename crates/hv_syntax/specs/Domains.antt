@@ -19,15 +19,26 @@ pub data DomainSection : Type 0 where
 -- which heads may stand in a domain, and how often
 abbrev pub domain_standing : List ℕ → Standing
 domain_standing w =
-    if is w (codes ":requirements") || is w (codes ":types") || is w (codes ":constants") || is w (codes ":predicates") then standings.Once else
-    if is w (codes ":task") || is w (codes ":method") || is w (codes ":action") then standings.Often else
+    if is w (codes ":requirements") || is w (codes ":types") || is w (codes ":constants")
+    || is w (codes ":predicates") then standings.Once else
+    if is w (codes ":task") || is w (codes ":method")
+    || is w (codes ":action") then standings.Often else
     if is_unsupported w then standings.Unsupported else
     standings.Unknown
 
 -- a domain of this name without sections
 abbrev pub no_domain : WordAt → Domain
 no_domain n =
-    record { name = n; requirements = []; types = []; constants = []; predicates = []; tasks = []; methods = []; actions = [] }
+    record {
+      name = n;
+      requirements = [];
+      types = [];
+      constants = [];
+      predicates = [];
+      tasks = [];
+      methods = [];
+      actions = [];
+    }
 
 -- what is known of a domain, and what one more section says
 abbrev pub add_section : Domain → DomainSection → Domain

@@ -10,7 +10,8 @@ use Rattle.hv_syntax.specs.Fields.{slot_of, is_in, field}
 -- these are pairs of a keyword and an expression: each with the field that the keyword names
 pub data ArePairs : Trees → List (Slot × Tree) → Type 0 where
   no_pairs : ArePairs none []
-  more_pairs : (k : List ℕ) (p : Span) (e : Tree) (ts : Trees) (fs : List (Slot × Tree)) → ArePairs ts fs → ArePairs (more (word k p) (more e ts)) ((slot_of k, e) ∷ fs)
+  more_pairs : (k : List ℕ) (p : Span) (e : Tree) (ts : Trees) (fs : List (Slot × Tree))
+      → ArePairs ts fs → ArePairs (more (word k p) (more e ts)) ((slot_of k, e) ∷ fs)
 
 -- a pair is one of these
 abbrev pub IsOneOf : Slot × Tree → List (Slot × Tree) → Type 0
@@ -31,10 +32,12 @@ pub record IsOfFields (allowed : List Slot) (ts : Trees) : Type 0 where
 
 -- what is found of a field is the expression of its pair, and nothing where there is none
 abbrev pub AreFound : List Slot → Trees → Type 0
-AreFound allowed ts = (h : IsOfFields allowed ts) (s : Slot) (e : Tree) → (field s ts ≡ Some e) ↔ IsOneOf (s, e) h.pairs
+AreFound allowed ts = (h : IsOfFields allowed ts) (s : Slot) (e : Tree)
+    → (field s ts ≡ Some e) ↔ IsOneOf (s, e) h.pairs
 
 -- a field says nothing: it is absent, `()` or `(and)`
 pub data SaysNothing : Option Tree → Type 0 where
   it_is_absent : SaysNothing None
   it_is_empty : (s : Span) → SaysNothing (Some (list none s))
-  it_is_and_alone : (w : List ℕ) (p s : Span) → head_of w ≡ heads.And → SaysNothing (Some (list (more (word w p) none) s))
+  it_is_and_alone : (w : List ℕ) (p s : Span) → head_of w ≡ heads.And
+      → SaysNothing (Some (list (more (word w p) none) s))

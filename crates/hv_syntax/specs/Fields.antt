@@ -14,7 +14,8 @@ slot_of w =
     if is w (codes ":precondition") then slots.Precondition else
     if is w (codes ":effect") then slots.Effect else
     if is w (codes ":subtasks") || is w (codes ":tasks") then slots.Subtasks else
-    if is w (codes ":ordered-subtasks") || is w (codes ":ordered-tasks") then slots.OrderedSubtasks else
+    if is w (codes ":ordered-subtasks")
+    || is w (codes ":ordered-tasks") then slots.OrderedSubtasks else
     if is w (codes ":ordering") || is w (codes ":order") then slots.Ordering else
     if is w (codes ":constraints") then slots.Constraints else
     slots.Other

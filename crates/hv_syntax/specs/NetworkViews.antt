@@ -17,4 +17,6 @@ abbrev pub constraint_view : ConstraintText → Constraint
 constraint_view c = constraint c.is_equal (term_view c.left, term_view c.right)
 
 abbrev pub network_view : NetworkText → Network
-network_view n = network (map subtask_view n.subtasks.items) n.is_ordered (map pair_view n.pairs.items) (map constraint_view n.constraints.items)
+network_view n =
+    network (map subtask_view n.subtasks.items) n.is_ordered (map pair_view n.pairs.items)
+    (map constraint_view n.constraints.items)

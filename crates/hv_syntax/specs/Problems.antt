@@ -19,12 +19,15 @@ pub data ProblemSection : Type 0 where
 
 -- the fields that an initial network may have
 abbrev pub htn_slots : List Slot
-htn_slots = slots.Parameters ∷ slots.Subtasks ∷ slots.OrderedSubtasks ∷ slots.Ordering ∷ slots.Constraints ∷ []
+htn_slots =
+    slots.Parameters ∷ slots.Subtasks ∷ slots.OrderedSubtasks ∷ slots.Ordering ∷ slots.Constraints
+    ∷ []
 
 -- which heads may stand in a problem, and how often
 abbrev pub problem_standing : List ℕ → Standing
 problem_standing w =
-    if is w (codes ":domain") || is w (codes ":requirements") || is w (codes ":objects") || is w (codes ":htn") || is w (codes ":init") || is w (codes ":goal")
+    if is w (codes ":domain") || is w (codes ":requirements") || is w (codes ":objects")
+    || is w (codes ":htn") || is w (codes ":init") || is w (codes ":goal")
     then standings.Once else
     if is_unsupported w then standings.Unsupported else
     standings.Unknown
@@ -40,7 +43,8 @@ pub record Parts : Type 0 where
 
 -- nothing is said yet
 abbrev pub no_parts : Parts
-no_parts = record { domain = None; requirements = []; objects = []; htn = None; init = None; goal = None }
+no_parts =
+    record { domain = None; requirements = []; objects = []; htn = None; init = None; goal = None }
 
 -- what is known of a problem, and what one more section says
 abbrev pub add_part : Parts → ProblemSection → Parts

@@ -28,7 +28,8 @@ occurs v (t ∷ ts) = is_headed_by v t || occurs v ts
 -- the heads of sections that no kind of text may have
 abbrev pub is_unsupported : List ℕ → Bool
 is_unsupported w =
-    is w (codes ":functions") || is w (codes ":durative-action") || is w (codes ":derived") || is w (codes ":metric") || is w (codes ":constraints")
+    is w (codes ":functions") || is w (codes ":durative-action") || is w (codes ":derived")
+    || is w (codes ":metric") || is w (codes ":constraints")
 
 -- where a fault of the whole text stands
 abbrev pub at_start : Span

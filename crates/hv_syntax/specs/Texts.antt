@@ -14,7 +14,8 @@ use Rattle.hv_syntax.specs.FirstFaults.{IsFaultyDomain, IsFaultyProblem}
 abbrev pub IsSpelledBy : {V : Type 0} → (Trees → V → Type 0) → List ℕ → V → Type 0
 IsSpelledBy Spells text v = (ts : Trees) × AreExpressions text ts × Spells ts v
 
--- the fault of a text: it has no expressions, or they are faulty; that memory ran out is said of a text within the limit
+-- the fault of a text: it has no expressions, or they are faulty; that memory ran out is said of a
+-- text within the limit
 abbrev pub IsFaultBy : (Trees → SyntaxKind → Span → Type 0) → List ℕ → SyntaxKind → Span → Type 0
 IsFaultBy Faulty text (kinds.Text kind) s = IsTextFault text kind s
 IsFaultBy Faulty text kind s = (ts : Trees) × AreExpressions text ts × Faulty ts kind s
@@ -36,7 +37,8 @@ abbrev pub IsProblemFault : List ℕ → SyntaxKind → Span → Type 0
 IsProblemFault text kind s = IsFaultBy IsFaultyProblem text kind s
 
 -- a fault of the text itself: any but that memory ran out
-abbrev pub IsOwnFaultBy : (List ℕ → SyntaxKind → Span → Type 0) → List ℕ → SyntaxKind → Span → Type 0
+abbrev pub IsOwnFaultBy : (List ℕ → SyntaxKind → Span → Type 0) → List ℕ → SyntaxKind → Span
+    → Type 0
 IsOwnFaultBy IsFault text kind s = (kind ≢ kinds.Text texts.Memory) × IsFault text kind s
 
 -- a text says a value

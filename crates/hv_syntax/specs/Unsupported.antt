@@ -9,8 +9,10 @@ use Rattle.hv_syntax.specs.Words.{is, is_the_word}
 abbrev pub heads_form : Form → List ℕ → Bool
 heads_form forms.Quantified w = is w (codes "forall")
 heads_form forms.Anywhere w =
-    is w (codes "when") || is w (codes "either") || is w (codes "increase") || is w (codes "decrease") || is w (codes "assign")
-    || is w (codes "scale-up") || is w (codes "scale-down") || is w (codes "preference") || is w (codes "sortof")
+    is w (codes "when") || is w (codes "either") || is w (codes "increase")
+    || is w (codes "decrease") || is w (codes "assign")
+    || is w (codes "scale-up") || is w (codes "scale-down") || is w (codes "preference")
+    || is w (codes "sortof")
 
 -- whether the list of these members is of this kind
 abbrev pub is_headed_form : Form → Trees → Bool
@@ -44,6 +46,10 @@ abbrev pub holds_at : Form → Option Tree → Bool
 holds_at f None = false
 holds_at f (Some t) = holds_form f t
 
--- whether a section with this head and these members behind it holds an unsupported form: one of those that are so anywhere, or in an action a `forall` in the member after its first word `:effect`
+-- whether a section with this head and these members behind it holds an unsupported form: one of
+-- those that are so anywhere, or in an action a `forall` in the member after its first word
+-- `:effect`
 abbrev pub has_unsupported : List ℕ → Trees → Bool
-has_unsupported w ts = is_form_list forms.Anywhere ts || (is w (codes ":action") && holds_at forms.Quantified (after_effect ts))
+has_unsupported w ts =
+    is_form_list forms.Anywhere ts
+    || (is w (codes ":action") && holds_at forms.Quantified (after_effect ts))

@@ -45,11 +45,13 @@ typed t w = record { name = w; of = t }
 abbrev pub Typed : Type 0
 Typed = TypedBy TypeOf
 
--- a variable and its type: the names that are written, where an object of one of them is of the type; it is `object` where none is written
+-- a variable and its type: the names that are written, where an object of one of them is of the
+-- type; it is `object` where none is written
 abbrev pub Variable : Type 0
 Variable = TypedBy (List WordAt)
 
--- a formula: an atom is true, all or some of a list hold, one does not hold, one holds where another does, for all or some objects, two terms are one
+-- a formula: an atom is true, all or some of a list hold, one does not hold, one holds where
+-- another does, for all or some objects, two terms are one
 mutual
   pub data Formula : Type 0 where
     holds : Atom → Formula
@@ -77,7 +79,8 @@ pub record Literal : Type 0 where
 abbrev pub literal : Bool → Atom → Literal
 literal b a = record { is_positive = b; atom = a }
 
--- what an action brings about: all items of a list; an item is a literal, which becomes true, or an effect for all objects of these types
+-- what an action brings about: all items of a list; an item is a literal, which becomes true, or an
+-- effect for all objects of these types
 mutual
   pub data Effect : Type 0 where
     no_items : Effect
@@ -143,7 +146,8 @@ pub record Task : Type 0 where
 abbrev pub task : Span → WordAt → List Variable → Task
 task s w ps = record { name = w; parameters = ps; place = s }
 
--- a method: the task that it is for, when it may be used, and its network; with the place of its section
+-- a method: the task that it is for, when it may be used, and its network; with the place of its
+-- section
 pub record Method : Type 0 where
   pub name : WordAt
   pub parameters : List Variable
@@ -153,7 +157,8 @@ pub record Method : Type 0 where
   pub place : Span
 
 abbrev pub method : Span → WordAt → (List Variable × Atom) × Network → Formula → Method
-method s w ((ps, t), n) f = record { name = w; parameters = ps; task = t; precondition = f; network = n; place = s }
+method s w ((ps, t), n) f =
+    record { name = w; parameters = ps; task = t; precondition = f; network = n; place = s }
 
 -- an action: when it may be done, and what it brings about; with the place of its section
 pub record Action : Type 0 where
@@ -166,7 +171,8 @@ pub record Action : Type 0 where
 abbrev pub action : Span → WordAt → List Variable × Effect → Formula → Action
 action s w (ps, e) f = record { name = w; parameters = ps; precondition = f; effect = e; place = s }
 
--- a domain: what each kind of section says, tasks, methods and actions each in the order of the text
+-- a domain: what each kind of section says, tasks, methods and actions each in the order of the
+-- text
 pub record Domain : Type 0 where
   pub name : WordAt
   pub requirements : List WordAt

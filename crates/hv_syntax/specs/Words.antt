@@ -11,11 +11,14 @@ use Rattle.hv_syntax.specs.declared.word.Head.TheVariants as heads
 abbrev pub is : List ℕ → List ℕ → Bool
 is w v = bytes_eq w v
 
--- a name begins with neither `?` nor `:` and is not `-`, `<` or `=`; a variable begins with `?`, a keyword with `:`, and both have two bytes or more
+-- a name begins with neither `?` nor `:` and is not `-`, `<` or `=`; a variable begins with `?`, a
+-- keyword with `:`, and both have two bytes or more
 abbrev pub sort_of : List ℕ → Sort
 sort_of [] = sorts.Mark
-sort_of (b ∷ []) = if b == 63 || b == 58 || b == 45 || b == 60 || b == 61 then sorts.Mark else sorts.Name
-sort_of (b ∷ c ∷ bs) = if b == 63 then sorts.Variable else if b == 58 then sorts.Keyword else sorts.Name
+sort_of (b ∷ []) =
+    if b == 63 || b == 58 || b == 45 || b == 60 || b == 61 then sorts.Mark else sorts.Name
+sort_of (b ∷ c ∷ bs) =
+    if b == 63 then sorts.Variable else if b == 58 then sorts.Keyword else sorts.Name
 
 -- two sorts are the same; a mark is none that is looked for
 abbrev pub same_sort : Sort → Sort → Bool

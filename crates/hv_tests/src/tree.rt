@@ -7,7 +7,8 @@ use hv_world::{ObjectId, World};
 use std::alloc::Global;
 use std::test::Fail;
 
-// The number of the cause for which a plan has no tree in a world, and the line; both 0 where it has one.
+// The number of the cause for which a plan has no tree in a world, and the line; both 0 where it
+// has one.
 fn cause(alloc: Global, world: &World<'static>, text: &[u8]) -> (u32, u32) {
     match read_plan(alloc, text) {
         Err(_) => (1, 0),
@@ -72,7 +73,8 @@ fn child_at(tree: &Tree<'_, '_>, k: usize) -> Option<Child> {
     Some(Child::Node(tree.node_at(k)?))
 }
 
-// Whether the node of the delivery says what its line says, and its children stand in the order of the line.
+// Whether the node of the delivery says what its line says, and its children stand in the order of
+// the line.
 fn is_delivery(tree: &Tree<'_, '_>) -> Option<bool> {
     let node = nth(tree, 1)?;
     let children = [
@@ -202,7 +204,8 @@ fn delivery_with(alloc: Global, others: &[(usize, &'static str)]) -> Result<Stri
     Ok(text)
 }
 
-// The first of some plans for the package that has another cause than the one beside it, by its place.
+// The first of some plans for the package that has another cause than the one beside it, by its
+// place.
 fn misjudged(alloc: Global) -> Result<Option<usize>, Fail> {
     let Some(world) = world_of(alloc, TRANSPORT, ONE) else {
         return Ok(Some(0));

@@ -15,7 +15,8 @@ is_word_byte b = nat_le 33 b && nat_le b 126 && not (b == 40) && not (b == 41) &
 
 -- a byte that may stand in comments alone
 abbrev pub is_bad_byte : ℕ → Bool
-is_bad_byte b = not (is_blank b) && not (is_word_byte b) && not (b == 40) && not (b == 41) && not (b == 59)
+is_bad_byte b =
+    not (is_blank b) && not (is_word_byte b) && not (b == 40) && not (b == 41) && not (b == 59)
 
 -- the bytes of a word: one or more
 abbrev pub is_word : List ℕ → Bool

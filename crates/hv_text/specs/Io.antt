@@ -5,7 +5,8 @@ use Rattle.hv_text.specs.declared.io.DeviceFault.{DeviceFault}
 use Rattle.hv_text.specs.declared.io.ReadFault.{ReadFault}
 use Rattle.hv_text.specs.declared.io.ReadFault.TheVariants.{Device, TooLong, Memory}
 
--- how many failures a write counts: one where it failed, or took no byte of a text that is not empty
+-- how many failures a write counts: one where it failed, or took no byte of a text that is not
+-- empty
 abbrev pub failure_of : Result ℕ DeviceFault → ℕ → ℕ
 failure_of (Err e) n = 1
 failure_of (Ok k) zero = 0
@@ -18,11 +19,15 @@ pub record IsRead (old new : Option (List ℕ)) (limit : ℕ) (bytes : List ℕ)
   pub ended : IsAtEnd new
   pub size : length bytes ≤ limit
 
--- the reader moved on by the bytes that it gave: more than the limit where they were too many, and else no more
+-- the reader moved on by the bytes that it gave: more than the limit where they were too many, and
+-- else no more
 abbrev pub IsReadFault : Option (List ℕ) → Option (List ℕ) → ℕ → ReadFault → Type 0
-IsReadFault old new limit Device = (bytes : List ℕ) × Consumes old new bytes × (length bytes ≤ limit)
-IsReadFault old new limit TooLong = (bytes : List ℕ) × Consumes old new bytes × (limit < length bytes)
-IsReadFault old new limit Memory = (bytes : List ℕ) × Consumes old new bytes × (length bytes ≤ limit)
+IsReadFault old new limit Device = (bytes : List ℕ) × Consumes old new bytes
+    × (length bytes ≤ limit)
+IsReadFault old new limit TooLong = (bytes : List ℕ) × Consumes old new bytes
+    × (limit < length bytes)
+IsReadFault old new limit Memory = (bytes : List ℕ) × Consumes old new bytes
+    × (length bytes ≤ limit)
 
 -- whether a read failed
 abbrev pub is_device_fault : {T : Type 0} → Result T ReadFault → Bool

@@ -1,11 +1,13 @@
--- What stands from a place on: expressions up to the end of the list there, and so on for each list around it.
+-- What stands from a place on: expressions up to the end of the list there, and so on for each list
+-- around it.
 use Rattle.std.specs.Prelude.{ℕ, List, [], ◌∷◌}
 use Rattle.hv_text.specs.Trees.{Tree, Trees, word, list, none, more}
 use Rattle.hv_text.specs.Words as found
 use Rattle.hv_text.specs.Words.{Piece, left, right, bad, pieces, pieces_at}
 use Rattle.hv_text.specs.declared.span.Span.{Span}
 
--- expressions up to the end of the text; or up to a `)` that ends at this place, and what stands behind it
+-- expressions up to the end of the text; or up to a `)` that ends at this place, and what stands
+-- behind it
 pub data Rest : Type 0 where
   last : Trees → Rest
   upto : Trees → ℕ → Rest → Rest
@@ -20,7 +22,8 @@ abbrev pub add_all : Trees → Rest → Rest
 add_all none r = r
 add_all (more t ts) r = add t (add_all ts r)
 
--- a `(` at this place: it begins the list that the next open `)` ends; nothing is said where none does
+-- a `(` at this place: it begins the list that the next open `)` ends; nothing is said where none
+-- does
 abbrev pub enclose : Span → Rest → Rest
 enclose s (last ts) = last none
 enclose s (upto ts e r) = add (list ts (record { start = s.start; past = e })) r

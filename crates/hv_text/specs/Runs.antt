@@ -17,7 +17,8 @@ pub record IsInComment (text : List ℕ) (k : ℕ) : Type 0 where
 abbrev pub word_byte_at : List ℕ → ℕ → Bool
 word_byte_at bytes k = is_word_byte (get_or bytes k 32)
 
--- the bytes of a span are a maximal run: one or more bytes of a word, with none directly before or behind them
+-- the bytes of a span are a maximal run: one or more bytes of a word, with none directly before or
+-- behind them
 pub record IsRun (bytes : List ℕ) (s : Span) : Type 0 where
   pub some : s.start < s.past
   pub inside : (k : ℕ) → s.start ≤ k → k < s.past → word_byte_at bytes k ≡ true
@@ -28,7 +29,8 @@ pub record IsRun (bytes : List ℕ) (s : Span) : Type 0 where
 abbrev pub IsByte : List ℕ → Span → ℕ → Type 0
 IsByte bytes s b = (s.past ≡ s.start + 1) × (slice_get bytes s.start ≡ Some b)
 
--- what stands among bytes without comments: a maximal run by its lower case, a parenthesis, a bad byte
+-- what stands among bytes without comments: a maximal run by its lower case, a parenthesis, a bad
+-- byte
 abbrev pub IsAmong : List ℕ → Piece → Type 0
 IsAmong bytes (word w s) = IsRun bytes s × (w ≡ lower (slice_range bytes s.start s.past))
 IsAmong bytes (left s) = IsByte bytes s 40
@@ -46,10 +48,12 @@ span_of (left s) = s
 span_of (right s) = s
 span_of (bad s) = s
 
--- each of them is one byte or more, and begins no earlier than the one before it ends, the first no earlier than n
+-- each of them is one byte or more, and begins no earlier than the one before it ends, the first no
+-- earlier than n
 abbrev pub IsInOrder : ℕ → List Piece → Type 0
 IsInOrder n [] = Unit {0}
-IsInOrder n (p ∷ ps) = (n ≤ (span_of p).start) × ((span_of p).start < (span_of p).past) × IsInOrder (span_of p).past ps
+IsInOrder n (p ∷ ps) = (n ≤ (span_of p).start) × ((span_of p).start < (span_of p).past)
+    × IsInOrder (span_of p).past ps
 
 -- a span has place k in it
 abbrev pub Holds : Span → ℕ → Type 0

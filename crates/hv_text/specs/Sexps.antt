@@ -17,7 +17,8 @@ abbrev pub closing : Span → Span
 closing s = record { start = s.past - 1; past = s.past }
 
 abbrev mutual
-  -- what an expression spells: a word itself, a list a parenthesis, its members in order, and a parenthesis
+  -- what an expression spells: a word itself, a list a parenthesis, its members in order, and a
+  -- parenthesis
   pub spelled : Tree → List Piece
   spelled (word w s) = found.word w s ∷ []
   spelled (list ts s) = left (opening s) ∷ spelled_all ts ++ right (closing s) ∷ []
@@ -44,7 +45,8 @@ is_right (bad s) = false
 abbrev pub open_before : List Piece → ℕ → ℕ
 open_before ps k = count_by is_left (take k ps) - count_by is_right (take k ps)
 
--- the fault of a piece before which so many parentheses are open: a bad byte, a `)` where none is open, or a `(` where as many as may be are
+-- the fault of a piece before which so many parentheses are open: a bad byte, a `)` where none is
+-- open, or a `(` where as many as may be are
 abbrev pub fault_of : Option Piece → ℕ → Option (TextKind × Span)
 fault_of None n = None
 fault_of (Some (found.word t s)) n = None
@@ -62,17 +64,20 @@ IsSound ps = (k : ℕ) → fault_at ps k ≡ None
 
 -- the first fault
 abbrev pub IsFirstFault : List Piece → TextKind → Span → Type 0
-IsFirstFault ps kind s = (k : ℕ) × (fault_at ps k ≡ Some (kind, s)) × ((j : ℕ) → j < k → fault_at ps j ≡ None)
+IsFirstFault ps kind s = (k : ℕ) × (fault_at ps k ≡ Some (kind, s))
+    × ((j : ℕ) → j < k → fault_at ps j ≡ None)
 
 -- the k-th piece is a `(` whose balance is passed by that of every later place up to the end
 abbrev pub StaysOpen : List Piece → ℕ → Span → Type 0
-StaysOpen ps k s = (slice_get ps k ≡ Some (left s)) × ((j : ℕ) → k < j → j ≤ length ps → open_before ps k < open_before ps j)
+StaysOpen ps k s = (slice_get ps k ≡ Some (left s))
+    × ((j : ℕ) → k < j → j ≤ length ps → open_before ps k < open_before ps j)
 
 -- the last `(` that stays open
 abbrev pub IsUnclosed : List Piece → Span → Type 0
 IsUnclosed ps s = (k : ℕ) × StaysOpen ps k s × ((m : ℕ) (t : Span) → k < m → StaysOpen ps m t → ⊥)
 
--- these are the expressions of a text: it is within the limit, no fault stands in it, no parenthesis is open at its end, and they spell what stands in it
+-- these are the expressions of a text: it is within the limit, no fault stands in it, no
+-- parenthesis is open at its end, and they spell what stands in it
 pub record AreExpressions (text : List ℕ) (ts : Trees) : Type 0 where
   pub size : length text ≤ MOST_BYTES
   pub sound : IsSound (pieces text)
@@ -83,10 +88,14 @@ pub record AreExpressions (text : List ℕ) (ts : Trees) : Type 0 where
 abbrev pub IsTextFault : List ℕ → TextKind → Span → Type 0
 IsTextFault text kinds.TooLong s = (MOST_BYTES < length text) × (s ≡ nowhere)
 IsTextFault text kinds.Memory s = (length text ≤ MOST_BYTES) × (s ≡ nowhere)
-IsTextFault text kinds.BadByte s = (length text ≤ MOST_BYTES) × IsFirstFault (pieces text) kinds.BadByte s
-IsTextFault text kinds.Unopened s = (length text ≤ MOST_BYTES) × IsFirstFault (pieces text) kinds.Unopened s
-IsTextFault text kinds.TooDeep s = (length text ≤ MOST_BYTES) × IsFirstFault (pieces text) kinds.TooDeep s
-IsTextFault text kinds.Unclosed s = (length text ≤ MOST_BYTES) × IsSound (pieces text) × IsUnclosed (pieces text) s
+IsTextFault text kinds.BadByte s = (length text ≤ MOST_BYTES)
+    × IsFirstFault (pieces text) kinds.BadByte s
+IsTextFault text kinds.Unopened s = (length text ≤ MOST_BYTES)
+    × IsFirstFault (pieces text) kinds.Unopened s
+IsTextFault text kinds.TooDeep s = (length text ≤ MOST_BYTES)
+    × IsFirstFault (pieces text) kinds.TooDeep s
+IsTextFault text kinds.Unclosed s = (length text ≤ MOST_BYTES) × IsSound (pieces text)
+    × IsUnclosed (pieces text) s
 
 -- a text has expressions
 abbrev pub HasExpressions : List ℕ → Type 0

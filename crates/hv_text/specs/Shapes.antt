@@ -1,4 +1,5 @@
--- Expressions, and what stands in texts, with their places aside; what their words are, and how deep they nest.
+-- Expressions, and what stands in texts, with their places aside; what their words are, and how
+-- deep they nest.
 use Rattle.std.specs.Prelude.{◌≡◌, ◌+◌, ℕ, max, true}
 use Rattle.hv_text.specs.Bytes.{is_word, lower}
 use Rattle.hv_text.specs.Trees.{Tree, word, list, Trees, none, more}

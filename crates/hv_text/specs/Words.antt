@@ -21,14 +21,16 @@ class_of b =
     if b == 40 then Left else if b == 41 then Right else if b == 59 then Semicolon else
     if is_blank b then Blank else if is_word_byte b then Inner else Bad
 
--- whether a byte is in a comment, where `before` says it of the byte before it: from a semicolon on, up to a byte 10
+-- whether a byte is in a comment, where `before` says it of the byte before it: from a semicolon
+-- on, up to a byte 10
 abbrev pub in_comment : Bool → ℕ → Bool
 in_comment before b = not (b == 10) && (before || b == 59)
 
 -- the text with each byte of a comment as a blank
 abbrev pub uncommented : Bool → List ℕ → List ℕ
 uncommented before [] = []
-uncommented before (b ∷ bs) = (if in_comment before b then 32 else b) ∷ uncommented (in_comment before b) bs
+uncommented before (b ∷ bs) =
+    (if in_comment before b then 32 else b) ∷ uncommented (in_comment before b) bs
 
 -- what stands in a text: a word by its lower case, a parenthesis or a bad byte, each with its place
 pub data Piece : Type 0 where
@@ -41,20 +43,24 @@ pub data Piece : Type 0 where
 abbrev pub span : ℕ → ℕ → Span
 span p n = record { start = p; past = p + n }
 
--- what begins at place p, where the bytes from there on are bs: a word begins where no word byte stands before it, and goes on as long as word bytes do
+-- what begins at place p, where the bytes from there on are bs: a word begins where no word byte
+-- stands before it, and goes on as long as word bytes do
 abbrev pub beginning : Class → Bool → ℕ → List ℕ → List Piece
 beginning Inner true p bs = []
-beginning Inner false p bs = word (lower (take_while is_word_byte bs)) (span p (prefix_len is_word_byte bs)) ∷ []
+beginning Inner false p bs =
+    word (lower (take_while is_word_byte bs)) (span p (prefix_len is_word_byte bs)) ∷ []
 beginning Left after p bs = left (span p 1) ∷ []
 beginning Right after p bs = right (span p 1) ∷ []
 beginning Bad after p bs = bad (span p 1) ∷ []
 beginning Blank after p bs = []
 beginning Semicolon after p bs = []
 
--- what stands in a text without comments from place p on, where `after` says that a word byte stands before it
+-- what stands in a text without comments from place p on, where `after` says that a word byte
+-- stands before it
 abbrev pub pieces_from : Bool → ℕ → List ℕ → List Piece
 pieces_from after p [] = []
-pieces_from after p (b ∷ bs) = beginning (class_of b) after p (b ∷ bs) ++ pieces_from (is_word_byte b) (p + 1) bs
+pieces_from after p (b ∷ bs) =
+    beginning (class_of b) after p (b ∷ bs) ++ pieces_from (is_word_byte b) (p + 1) bs
 
 -- what stands in a text from place i on, which is in no comment and no word
 abbrev pub pieces_at : List ℕ → ℕ → List Piece
@@ -93,12 +99,14 @@ IsPlaced (words.Right s) = s.past ≡ s.start + 1
 -- what comes next from place i on, and where to go on
 abbrev pub IsNext : List ℕ → ℕ → Option Found → Type 0
 IsNext text i (Some found) =
-    (i < found.past) × (found.past ≤ length text) × IsPlaced found.word × (pieces_at text i ≡ piece_of found.word ∷ pieces_at text found.past)
+    (i < found.past) × (found.past ≤ length text) × IsPlaced found.word
+    × (pieces_at text i ≡ piece_of found.word ∷ pieces_at text found.past)
 IsNext text i None = pieces_at text i ≡ []
 
 -- a bad byte comes next from place i on
 abbrev pub IsBadNext : List ℕ → ℕ → TextFault → Type 0
-IsBadNext text i f = (f.kind ≡ kinds.BadByte) × (pieces_at text i ≡ bad f.span ∷ pieces_at text f.span.past)
+IsBadNext text i f = (f.kind ≡ kinds.BadByte)
+    × (pieces_at text i ≡ bad f.span ∷ pieces_at text f.span.past)
 
 -- the first bad byte among what stands in a text
 abbrev pub first_bad : List Piece → Option Span

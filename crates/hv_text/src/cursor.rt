@@ -1,4 +1,5 @@
-//! The expressions of a text one at a time: a text is checked once, and then read with no tree of it all.
+//! The expressions of a text one at a time: a text is checked once, and then read with no tree of
+//! it all.
 
 ghost use Rattle.std.specs.Prelude.{◌≡◌, ◌<◌, ◌≤◌, OnOk, IfOk, IfErr, IfSome, IfNone};
 ghost use Rattle.hv_text.specs.Trees.{tree, trees, list, none};
@@ -16,7 +17,8 @@ use crate::span::Span;
 use crate::words::{Word, next_word};
 use std::alloc::Global;
 
-/// Checks that a text has expressions, with a stack of the parentheses that are open and nothing else.
+/// Checks that a text has expressions, with a stack of the parentheses that are open and nothing
+/// else.
 ///
 /// # Errors
 ///
@@ -91,7 +93,8 @@ impl<'s> Cursor<'s> {
         Ok(Cursor { text, at: 0 })
     }
 
-    /// The word or parenthesis that comes next, and the place behind it; None at the end of the text.
+    /// The word or parenthesis that comes next, and the place behind it; None at the end of the
+    /// text.
     pub fn next(self) -> Option<(Word<'s>, Cursor<'s>)>
         ensures none { IfNone result (rest_at self.entry ≡ last none) }
         ensures some { IfSome result (λ p. rest_at self.entry ≡ step (piece_of p.0) (rest_at p.1)) }
@@ -142,7 +145,8 @@ impl<'s> Cursor<'s> {
         }
     }
 
-    /// The expression that comes next, and the place behind it; None at the end of the list, or of the text.
+    /// The expression that comes next, and the place behind it; None at the end of the list, or of
+    /// the text.
     ///
     /// # Errors
     ///

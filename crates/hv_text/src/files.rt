@@ -5,7 +5,8 @@ ghost use Rattle.std.specs.Prelude.{◌≡◌};
 use crate::io::{DeviceFault, Sink, Source};
 use std::io::{ErrorKind, Read, Write};
 
-/// A reader of std, as a file is, with a count of its failures. Its bytes are those that the reader's own contract names: none of a file.
+/// A reader of std, as a file is, with a count of its failures. Its bytes are those that the
+/// reader's own contract names: none of a file.
 #[derive(Drop)]
 pub struct FromReader<R: Read + Drop> {
     pub reader: R,
@@ -41,7 +42,8 @@ impl<R: Read + Drop> Source for FromReader<R> {
     }
 }
 
-/// A writer of std, as standard output is, with a count of its failures. What it took is what the writer's own contract names: nothing of standard output.
+/// A writer of std, as standard output is, with a count of its failures. What it took is what the
+/// writer's own contract names: nothing of standard output.
 #[derive(Drop)]
 pub struct ToWriter<W: Write + Drop> {
     pub writer: W,

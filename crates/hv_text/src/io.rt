@@ -55,7 +55,8 @@ pub trait Sink {
     // The bytes that were taken, where a contract can name them.
     ghost taken: { Self → Option (List ℕ) };
 
-    // How many writes have failed so far, those that took no byte of a text that is not empty among them.
+    // How many writes have failed so far, those that took no byte of a text that is not empty among
+    // them.
     ghost failures: { Self → ℕ };
 
     /// Takes some of the first bytes, and says how many.
@@ -68,9 +69,9 @@ pub trait Sink {
             ≡ failures self.old + failure_of result (length bytes.now) };
 }
 
-/// All bytes up to the end, where they are no more than the limit.
-/// `Device` where a read failed, also one that was interrupted; `TooLong` where more than the limit came; `Memory`
-/// where a growth was refused. The reader moves on by what it gave.
+/// All bytes up to the end, where they are no more than the limit. `Device` where a read failed,
+/// also one that was interrupted; `TooLong` where more than the limit came; `Memory` where a growth
+/// was refused. The reader moves on by what it gave.
 pub fn read_all<R: Source>(
     alloc: Global,
     reader: &mut R,
@@ -102,7 +103,8 @@ pub fn read_all<R: Source>(
     }
 }
 
-/// Writes all of the bytes, or a beginning of them and `Device` where a write failed or took nothing.
+/// Writes all of the bytes, or a beginning of them and `Device` where a write failed or took
+/// nothing.
 pub fn write_all<W: Sink>(out: &mut W, bytes: &[u8]) -> Result<(), WriteFault>
     requires { W.failures out.old < 2 ^ 64 - 1 }
     ensures ok { OnOk result (Appends (W.taken out.old) (W.taken out.new) bytes.now) }
@@ -124,7 +126,8 @@ pub fn write_all<W: Sink>(out: &mut W, bytes: &[u8]) -> Result<(), WriteFault>
     Ok(())
 }
 
-/// Writes texts one after another. Where a write fails, a beginning of them was written. No memory is taken.
+/// Writes texts one after another. Where a write fails, a beginning of them was written. No memory
+/// is taken.
 pub fn write_parts<W: Sink>(out: &mut W, parts: &[&[u8]]) -> Result<(), WriteFault>
     requires { W.failures out.old < 2 ^ 64 - 1 }
     ensures ok { OnOk result (Appends (W.taken out.old) (W.taken out.new)

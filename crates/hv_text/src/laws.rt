@@ -1,4 +1,5 @@
-//! What holds of the words, expressions and names of any text. These functions do nothing: their contracts are the laws.
+//! What holds of the words, expressions and names of any text. These functions do nothing: their
+//! contracts are the laws.
 
 ghost use Rattle.std.specs.Prelude.{◌≡◌, ◌↔◌, ◌≤◌, ◌⊎◌, ℕ, List, true, false, Some, Contains, length, map, slice_get};
 ghost use Rattle.std.specs.Str.{bytes_eq};
@@ -25,7 +26,8 @@ pub fn comments_are_blanks(text: &[u8])
         → slice_get (uncommented false text.now) k ≡ slice_get text.now k }
 {}
 
-/// The words of a text are its maximal runs of word bytes outside comments, and its parentheses and bad bytes stand there too.
+/// The words of a text are its maximal runs of word bytes outside comments, and its parentheses and
+/// bad bytes stand there too.
 pub fn words_are_maximal_runs(text: &[u8])
     ensures { (p : Piece) → Contains (pieces text.now) p ↔ StandsIn text.now p }
 {}
@@ -56,20 +58,23 @@ pub fn expressions_or_one_fault()
         → IsOwnFault text l t → (k ≡ l) × (s ≡ t) }
 {}
 
-/// The words of a text's expressions are words in lower case, and no more parentheses are open at once in them than may be.
+/// The words of a text's expressions are words in lower case, and no more parentheses are open at
+/// once in them than may be.
 pub fn expressions_are_tidy()
     ensures { (text : List ℕ) (ts : Trees) → AreExpressions text ts
         → AreTidy ts × (depth_all ts ≤ MOST_OPEN) }
 {}
 
-/// A text within the limit has the expressions that it spells, places aside, where no more parentheses are open at once in them than may be.
+/// A text within the limit has the expressions that it spells, places aside, where no more
+/// parentheses are open at once in them than may be.
 pub fn texts_have_what_they_spell()
     ensures { (text : List ℕ) (ts : Trees) → length text ≤ MOST_BYTES
         → map bare_piece (pieces text) ≡ map bare_piece (spelled_all ts) → depth_all ts ≤ MOST_OPEN
         → (us : Trees) × AreExpressions text us × (bare_trees us ≡ bare_trees ts) }
 {}
 
-/// Two names are equal exactly where their lower case is the same, and exactly where their order says so; equal names are hashed alike.
+/// Two names are equal exactly where their lower case is the same, and exactly where their order
+/// says so; equal names are hashed alike.
 pub fn names_agree(one: Name<'_>, other: Name<'_>)
     ensures equal { on text_of bytes_eq one.entry other.entry ≡ true
         ↔ text_of one.entry ≡ text_of other.entry }

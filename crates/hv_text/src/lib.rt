@@ -1,4 +1,5 @@
-//! The text layer: words, expressions and names of a text, places in it, and the bytes that come in and go out.
+//! The text layer: words, expressions and names of a text, places in it, and the bytes that come in
+//! and go out.
 #![tactic(auto)]
 
 mod at;

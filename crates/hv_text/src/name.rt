@@ -17,8 +17,8 @@ pub struct Name<'s> {
     pub ghost is_word: { IsTrue (is_word bytes.now) },
 }
 
-// For each byte a 1 where it may stand in a word: one look costs less than comparisons, and a text has
-// many bytes.
+// For each byte a 1 where it may stand in a word: one look costs less than comparisons, and a text
+// has many bytes.
 const WORD_BYTES: [u8; 256] = [
     0, 0, 0, 0, 0, 0, 0, 0, 0, 0, 0, 0, 0, 0, 0, 0, 0, 0, 0, 0, 0, 0, 0, 0, 0, 0, 0, 0, 0, 0, 0, 0,
     0, 1, 1, 1, 1, 1, 1, 1, 0, 0, 1, 1, 1, 1, 1, 1, 1, 1, 1, 1, 1, 1, 1, 1, 1, 1, 1, 0, 1, 1, 1, 1,
@@ -88,7 +88,8 @@ fn hash_lower<H: Hasher>(bytes: &[u8], state: &mut H)
     state.write(&lower_word(rest));
 }
 
-// Eight bytes in lower case, or fewer, and zeros behind them. It is inlined, as whole words have no loop then.
+// Eight bytes in lower case, or fewer, and zeros behind them. It is inlined, as whole words have no
+// loop then.
 #[inline(always)]
 fn lower_word(bytes: &[u8]) -> [u8; 8]
     requires { length bytes.now ≤ 8 }
@@ -172,7 +173,8 @@ impl PartialOrd for Name<'_> {
 
     ghost partial_cmp = { as_partial_cmp (on text_of (slice_cmp nat_cmp)) };
 
-    ghost laws = { partial_order_from_own_ties (Prim.search (comparing, rules)) (Prim.search (comparing, rules)) };
+    ghost laws = { partial_order_from_own_ties (Prim.search (comparing, rules))
+        (Prim.search (comparing, rules)) };
 
     fn partial_cmp(&self, other: &Self) -> Option<Ordering> {
         Some(self.cmp(other))

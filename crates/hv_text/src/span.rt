@@ -22,7 +22,8 @@ fn text_before(text: &[u8], start: usize) -> &[u8]
     }
 }
 
-/// Line and column of the start, both from 1; a column counts bytes. A start past the end of the text counts as its end.
+/// Line and column of the start, both from 1; a column counts bytes. A start past the end of the
+/// text counts as its end.
 pub fn place(text: &[u8], span: Span) -> (u32, u32)
     requires { length text.now ≤ MOST_BYTES }
     ensures line { result.0 ≡ 1 + count_by (λ b. b == 10) (take span.start text.now) }

@@ -74,9 +74,10 @@ fn word_end(text: &[u8], i: usize) -> usize
     text.len()
 }
 
-/// The next word from place `at` on, which is in no comment and behind no word byte, and where to go on behind it.
-/// None where only white space and comments are left; the first bad byte where no word stands before it.
-/// It is inlined, as a word that is handed over by itself costs as much as to find it.
+/// The next word from place `at` on, which is in no comment and behind no word byte, and where to
+/// go on behind it. None where only white space and comments are left; the first bad byte where no
+/// word stands before it. It is inlined, as a word that is handed over by itself costs as much as
+/// to find it.
 #[inline(always)]
 pub fn next_word<'s>(text: &'s [u8], at: usize) -> Result<Option<Found<'s>>, TextFault>
     requires within { at ≤ length text.now }

@@ -20,7 +20,8 @@ object_at (x ∷ xs) (suc k) = object_at xs k
 abbrev pub IsFixed : List Subtask → TaskName → ℕ → Type 0
 IsFixed ss n k = (s : Subtask) → Contains ss s → s.name ≡ n → IsSome (object_at s.terms k)
 
--- two subtasks of one class: they have one name, and the same object at each position that is fixed for it
+-- two subtasks of one class: they have one name, and the same object at each position that is fixed
+-- for it
 pub record AreAlike (ss : List Subtask) (s t : Subtask) : Type 0 where
   pub name : s.name ≡ t.name
   pub objects : (k : ℕ) → IsFixed ss s.name k → object_at s.terms k ≡ object_at t.terms k
@@ -37,12 +38,14 @@ has_object xs k = is_some (object_at xs k)
 -- whether a position is fixed for a name
 abbrev pub is_fixed : List Subtask → TaskName → ℕ → Bool
 is_fixed [] n k = true
-is_fixed (s ∷ ss) n k = (if same_name s.name n then has_object s.terms k else true) && is_fixed ss n k
+is_fixed (s ∷ ss) n k =
+    (if same_name s.name n then has_object s.terms k else true) && is_fixed ss n k
 
 -- the objects at the fixed positions, the first of the terms at position k
 abbrev pub fixed_objects : (ℕ → Bool) → ℕ → List Term → List ℕ
 fixed_objects f k [] = []
-fixed_objects f k (object o ∷ xs) = if f k then o ∷ fixed_objects f (k + 1) xs else fixed_objects f (k + 1) xs
+fixed_objects f k (object o ∷ xs) =
+    if f k then o ∷ fixed_objects f (k + 1) xs else fixed_objects f (k + 1) xs
 fixed_objects f k (variable v ∷ xs) = fixed_objects f (k + 1) xs
 
 -- what tells classes apart

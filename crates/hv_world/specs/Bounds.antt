@@ -1,4 +1,5 @@
--- The numbers of a world are those of what it has: types, objects, predicates, tasks, actions, and variables in scope.
+-- The numbers of a world are those of what it has: types, objects, predicates, tasks, actions, and
+-- variables in scope.
 use Rattle.std.specs.Prelude.{◌≡◌, ℕ, ◌+◌, ◌<◌, ◌≤◌, ◌++◌, List, length, Option, Some, None, All, MatchOption}
 use Rattle.std.specs.List.{slice_get}
 use Rattle.hv_world.specs.Values.{Term, object, variable, Atom, Formula, Formulas, holds, and, or, not, imply, forall, exists, equal, no_formulas, more_formulas, Effect, Effects, becomes, for_each, no_effects, more_effects, TaskName, compound, primitive, Subtask, Constraint}
@@ -72,7 +73,9 @@ module _ (w : World) where
   -- a method is for a task, and not for an action
   abbrev pub IsBoundTask : ℕ → Option Subtask → Type 0
   IsBoundTask n None = Unit {0}
-  IsBoundTask n (Some x) = elim x.name [ compound t ↦ TaskTakes t (length x.terms) | primitive a ↦ ⊥ ] × AreBoundTerms n x.terms
+  IsBoundTask n (Some x) =
+      elim x.name [ compound t ↦ TaskTakes t (length x.terms) | primitive a ↦ ⊥ ]
+      × AreBoundTerms n x.terms
 
   pub record IsBoundMethod (m : Method) : Type 0 where
     pub parameters : All IsType m.parameters
@@ -102,7 +105,8 @@ pub record IsSoundNetwork (net : Network) : Type 0 where
   pub order : net.order.len ≡ length net.subtasks
   pub arrangeable : IsArrangeable net.order
 
--- what every world keeps: each kind of name stands once, the types with a name stand first, there are as many objects as names of them, and orders are sound
+-- what every world keeps: each kind of name stands once, the types with a name stand first, there
+-- are as many objects as names of them, and orders are sound
 pub record IsSound (w : World) : Type 0 where
   pub named : AreNamedOnce w
   pub typing : IsInRange w.typing

@@ -1,4 +1,5 @@
--- Formulas and effects as trees of numbers, which give them back: so a proof tells two worlds apart.
+-- Formulas and effects as trees of numbers, which give them back: so a proof tells two worlds
+-- apart.
 use Rattle.std.specs.Prelude.{◌≡◌, ℕ, Bool, true, false, nat_eq, List, [], ◌∷◌, if◌then◌else◌}
 use Rattle.std.specs.Coded.{Coded, code_by}
 use Rattle.std.proofs.Math.Path.{refl, ap, ◌∙◌}
@@ -99,7 +100,9 @@ abbrev mutual
   effect_in (gnum n) = for_each [] no_effects
   effect_in (gcons k gnil) = for_each [] no_effects
   effect_in (gcons k (gnum n)) = for_each [] no_effects
-  effect_in (gcons k (gcons a b)) = if nat_eq (num k) 0 then becomes (bool_in a) (atom_in b) else for_each (types_in a) (effects_in b)
+  effect_in (gcons k (gcons a b)) =
+      if nat_eq (num k) 0 then becomes (bool_in a) (atom_in b) else for_each (types_in a)
+      (effects_in b)
 
   pub effects_in : Gv → Effects
   effects_in gnil = no_effects
@@ -112,7 +115,8 @@ term_again (variable v) = refl
 
 terms_again : (xs : List Term) → terms_in (terms_tree xs) ≡ xs
 terms_again [] = refl
-terms_again (x ∷ xs) = ap (λ y. y ∷ terms_in (terms_tree xs)) (term_again x) ∙ ap (λ ys. x ∷ ys) (terms_again xs)
+terms_again (x ∷ xs) =
+    ap (λ y. y ∷ terms_in (terms_tree xs)) (term_again x) ∙ ap (λ ys. x ∷ ys) (terms_again xs)
 
 types_again : (ts : List ℕ) → types_in (types_tree ts) ≡ ts
 types_again [] = refl
@@ -124,14 +128,23 @@ mutual
   formula_again (and fs) = ap and (formulas_again fs)
   formula_again (or fs) = ap or (formulas_again fs)
   formula_again (not f) = ap not (formula_again f)
-  formula_again (imply f g) = ap (λ h. imply h (formula_in (formula_tree g))) (formula_again f) ∙ ap (imply f) (formula_again g)
-  formula_again (forall ts f) = ap (λ us. forall us (formula_in (formula_tree f))) (types_again ts) ∙ ap (forall ts) (formula_again f)
-  formula_again (exists ts f) = ap (λ us. exists us (formula_in (formula_tree f))) (types_again ts) ∙ ap (exists ts) (formula_again f)
-  formula_again (equal x y) = ap (λ z. equal z (term_in (term_tree y))) (term_again x) ∙ ap (equal x) (term_again y)
+  formula_again (imply f g) =
+      ap (λ h. imply h (formula_in (formula_tree g))) (formula_again f)
+      ∙ ap (imply f) (formula_again g)
+  formula_again (forall ts f) =
+      ap (λ us. forall us (formula_in (formula_tree f))) (types_again ts)
+      ∙ ap (forall ts) (formula_again f)
+  formula_again (exists ts f) =
+      ap (λ us. exists us (formula_in (formula_tree f))) (types_again ts)
+      ∙ ap (exists ts) (formula_again f)
+  formula_again (equal x y) =
+      ap (λ z. equal z (term_in (term_tree y))) (term_again x) ∙ ap (equal x) (term_again y)
 
   pub formulas_again : (fs : Formulas) → formulas_in (formulas_tree fs) ≡ fs
   formulas_again no_formulas = refl
-  formulas_again (more_formulas f fs) = ap (λ g. more_formulas g (formulas_in (formulas_tree fs))) (formula_again f) ∙ ap (more_formulas f) (formulas_again fs)
+  formulas_again (more_formulas f fs) =
+      ap (λ g. more_formulas g (formulas_in (formulas_tree fs))) (formula_again f)
+      ∙ ap (more_formulas f) (formulas_again fs)
 
 abbrev pub formula_code : Coded Formula
 formula_code = code_by Gv itself formula_tree formula_in formula_again
@@ -142,12 +155,18 @@ bool_again true = refl
 
 mutual
   pub effect_again : (e : Effect) → effect_in (effect_tree e) ≡ e
-  effect_again (becomes b a) = ap (λ c. becomes c (atom a.predicate (terms_in (terms_tree a.terms)))) (bool_again b) ∙ ap (λ xs. becomes b (atom a.predicate xs)) (terms_again a.terms)
-  effect_again (for_each ts es) = ap (λ us. for_each us (effects_in (effects_tree es))) (types_again ts) ∙ ap (for_each ts) (effects_again es)
+  effect_again (becomes b a) =
+      ap (λ c. becomes c (atom a.predicate (terms_in (terms_tree a.terms)))) (bool_again b)
+      ∙ ap (λ xs. becomes b (atom a.predicate xs)) (terms_again a.terms)
+  effect_again (for_each ts es) =
+      ap (λ us. for_each us (effects_in (effects_tree es))) (types_again ts)
+      ∙ ap (for_each ts) (effects_again es)
 
   pub effects_again : (es : Effects) → effects_in (effects_tree es) ≡ es
   effects_again no_effects = refl
-  effects_again (more_effects e es) = ap (λ f. more_effects f (effects_in (effects_tree es))) (effect_again e) ∙ ap (more_effects e) (effects_again es)
+  effects_again (more_effects e es) =
+      ap (λ f. more_effects f (effects_in (effects_tree es))) (effect_again e)
+      ∙ ap (more_effects e) (effects_again es)
 
 -- a world has a list of effects for each action
 abbrev pub effects_code : Coded Effects

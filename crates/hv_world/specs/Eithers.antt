@@ -1,4 +1,5 @@
--- The types of variables that several names make. Each list of names is a type of its own, above those that it names.
+-- The types of variables that several names make. Each list of names is a type of its own, above
+-- those that it names.
 use Rattle.std.specs.Prelude.{ℕ, Bool, false, not, List, [], ◌∷◌, ◌++◌, map, filter, position, Option, Some, None, bytes_eq, codes, if◌then◌else◌}
 use Rattle.std.specs.List.{list_any, flat_map}
 use Rattle.std.specs.Cmp.Lexicographic.{pointwise}
@@ -42,16 +43,20 @@ goal_variables None = []
 goal_variables (Some f) = formula_variables f
 
 abbrev pub domain_variables : Domain → List Variable
-domain_variables d = flat_map (λ t. t.parameters) d.tasks ++ flat_map method_variables d.methods ++ flat_map action_variables d.actions
+domain_variables d =
+    flat_map (λ t. t.parameters) d.tasks ++ flat_map method_variables d.methods
+    ++ flat_map action_variables d.actions
 
 abbrev pub problem_variables : Problem → List Variable
 problem_variables p = p.htn.parameters ++ goal_variables p.goal
 
--- the variables of a domain and a problem, but the parameters of predicates, whose types mean nothing
+-- the variables of a domain and a problem, but the parameters of predicates, whose types mean
+-- nothing
 abbrev pub all_variables : Domain → Problem → List Variable
 all_variables d p = domain_variables d ++ problem_variables p
 
--- several names make a type of their own; but with `object` among them they are `object`, since each object is of that
+-- several names make a type of their own; but with `object` among them they are `object`, since
+-- each object is of that
 abbrev pub is_either : List (List ℕ) → Bool
 is_either [] = false
 is_either (n ∷ []) = false
@@ -67,7 +72,8 @@ is_listed seen ns = list_any (are_same ns) seen
 -- these lists, and then the others of those, by first sight
 abbrev pub with_lists : List (List (List ℕ)) → List (List (List ℕ)) → List (List (List ℕ))
 with_lists seen [] = seen
-with_lists seen (ns ∷ others) = with_lists (if is_listed seen ns then seen else seen ++ ns ∷ []) others
+with_lists seen (ns ∷ others) =
+    with_lists (if is_listed seen ns then seen else seen ++ ns ∷ []) others
 
 -- the lists of names that make types of their own, as variables have them
 abbrev pub either_lists : List Variable → List (List (List ℕ))

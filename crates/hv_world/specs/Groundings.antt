@@ -11,4 +11,5 @@ AreOf w os ts = AllZip (Of w) os ts
 
 -- the world has the action, and its parameters can have these objects
 abbrev pub IsGrounding : World → GroundAction → Type 0
-IsGrounding w g = MatchOption (slice_get w.actions g.action) ⊥ (λ a. AreOf w.typing g.objects a.parameters)
+IsGrounding w g =
+    MatchOption (slice_get w.actions g.action) ⊥ (λ a. AreOf w.typing g.objects a.parameters)

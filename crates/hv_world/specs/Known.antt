@@ -14,7 +14,8 @@ pub record Signature : Type 0 where
 abbrev pub signature : ℕ → ℕ → Signature
 signature n k = record { number = n; arity = k }
 
--- a task or an action as it is declared: what it is, how many terms it takes, its name, and where its section starts
+-- a task or an action as it is declared: what it is, how many terms it takes, its name, and where
+-- its section starts
 pub record Declaration : Type 0 where
   pub what : TaskName
   pub arity : ℕ
@@ -26,17 +27,22 @@ declaration x k w s = record { what = x; arity = k; name = w; start = s }
 
 abbrev pub task_declarations : ℕ → List Task → List Declaration
 task_declarations n [] = []
-task_declarations n (t ∷ ts) = declaration (compound n) (length t.parameters) t.name t.place.start ∷ task_declarations (suc n) ts
+task_declarations n (t ∷ ts) =
+    declaration (compound n) (length t.parameters) t.name t.place.start
+    ∷ task_declarations (suc n) ts
 
 abbrev pub action_declarations : ℕ → List Action → List Declaration
 action_declarations n [] = []
-action_declarations n (a ∷ as') = declaration (primitive n) (length a.parameters) a.name a.place.start ∷ action_declarations (suc n) as'
+action_declarations n (a ∷ as') =
+    declaration (primitive n) (length a.parameters) a.name a.place.start
+    ∷ action_declarations (suc n) as'
 
 -- the first of these that start before a declaration
 abbrev pub those_before : Declaration → List Declaration → List Declaration
 those_before d es = take_while (λ e. nat_lt e.start d.start) es
 
--- two lists in one, by their places: each of the first stands behind those of the second that start before it
+-- two lists in one, by their places: each of the first stands behind those of the second that start
+-- before it
 abbrev pub by_place : List Declaration → List Declaration → List Declaration
 by_place [] es = es
 by_place (d ∷ ds) es = those_before d es ++ d ∷ by_place ds (drop (length (those_before d es)) es)
@@ -62,7 +68,8 @@ at_place xs (Some i) = slice_get xs i
 
 abbrev pub signature_at : List Predicate → Option ℕ → Option Signature
 signature_at ps None = None
-signature_at ps (Some i) = elim (slice_get ps i) [ None ↦ None | Some q ↦ Some (signature i (length q.parameters)) ]
+signature_at ps (Some i) =
+    elim (slice_get ps i) [ None ↦ None | Some q ↦ Some (signature i (length q.parameters)) ]
 
 -- the names or variables of a typed list
 abbrev pub variables : {T : Type 0} → List (TypedBy T) → List (List ℕ)
@@ -83,8 +90,9 @@ type_names d = by_sight (codes "object" ∷ flat_map both_types d.types)
 abbrev pub object_names : Domain → Problem → List (List ℕ)
 object_names d p = by_sight (variables (d.constants ++ p.objects))
 
--- what the static rules ask of names: which are types and objects, and how predicates, tasks and actions are declared, a name declared twice as it is first;
--- and which lists of names are types of variables
+-- what the static rules ask of names: which are types and objects, and how predicates, tasks and
+-- actions are declared, a name declared twice as it is first; and which lists of names are types of
+-- variables
 pub record Known : Type 0 where
   pub types : List (List ℕ)
   pub eithers : List (List (List ℕ))
@@ -98,6 +106,7 @@ known_in d p =
       types = type_names d;
       eithers = either_types d p;
       objects = object_names d p;
-      predicate = λ n. signature_at d.predicates (place_in (names (predicate_words d.predicates)) n);
+      predicate =
+          λ n. signature_at d.predicates (place_in (names (predicate_words d.predicates)) n);
       task = λ n. at_place (declarations d) (place_in (names (declared_words (declarations d))) n);
     }

@@ -7,4 +7,6 @@ use Rattle.hv_world.specs.NetworkViews.{network_view}
 use Rattle.hv_world.specs.Worlds.{Method, method}
 
 abbrev pub method_view : code.Method → Method
-method_view m = method (option_map text_of m.name) (map type_number m.parameters.items) (option_map subtask_view m.task) (formula_view m.precondition) (network_view m.network)
+method_view m =
+    method (option_map text_of m.name) (map type_number m.parameters.items)
+    (option_map subtask_view m.task) (formula_view m.precondition) (network_view m.network)

@@ -36,7 +36,8 @@ number_in ns n = number_or (length ns) (place_in ns n)
 abbrev pub repeated_after : List (List ℕ) → List WordAt → List WordAt
 repeated_after before [] = []
 repeated_after before (w ∷ ws) =
-    if is_among before w.text then w ∷ repeated_after (before ++ w.text ∷ []) ws else repeated_after (before ++ w.text ∷ []) ws
+    if is_among before w.text then w
+    ∷ repeated_after (before ++ w.text ∷ []) ws else repeated_after (before ++ w.text ∷ []) ws
 
 abbrev pub repeated : List WordAt → List WordAt
 repeated ws = repeated_after [] ws

@@ -5,4 +5,5 @@ use Rattle.hv_world.specs.Views.{subtask_view, constraint_view}
 use Rattle.hv_world.specs.Worlds.{Network, network}
 
 abbrev pub network_view : code.Network → Network
-network_view n = network (map subtask_view n.subtasks.items) n.order (map constraint_view n.constraints.items)
+network_view n =
+    network (map subtask_view n.subtasks.items) n.order (map constraint_view n.constraints.items)

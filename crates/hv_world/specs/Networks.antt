@@ -15,7 +15,8 @@ label_names xs = names (labels xs)
 abbrev pub has_label : List ℕ → Subtask → Bool
 has_label l x = elim x.label [ None ↦ false | Some w ↦ bytes_eq l w.text ]
 
--- the number of the first subtask that has a label, where the first of all has number k; for a label that none has, the number behind the last
+-- the number of the first subtask that has a label, where the first of all has number k; for a
+-- label that none has, the number behind the last
 abbrev pub labelled_from : ℕ → List Subtask → List ℕ → ℕ
 labelled_from k [] l = k
 labelled_from k (x ∷ xs) l = if has_label l x then k else labelled_from (suc k) xs l

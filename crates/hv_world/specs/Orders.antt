@@ -2,7 +2,8 @@
 use Rattle.std.specs.Prelude.{ℕ, ◌≡◌, ◌+◌, ◌<◌, ◌⊎◌, ◌↔◌, Bool, true, false, List, length, Contains, slice_index}
 use Rattle.hv_lists.specs.Lists.{Once}
 
--- what is written of the order: how many subtasks there are, whether the form orders them as written, and the pairs
+-- what is written of the order: how many subtasks there are, whether the form orders them as
+-- written, and the pairs
 pub record Written : Type 0 where
   pub len : ℕ
   pub is_ordered : Bool
@@ -37,17 +38,21 @@ pub record IsRow (Comes : ℕ → ℕ → Type 0) (len : ℕ) (xs : List ℕ) : 
   pub within : (i : ℕ) → Contains xs i → i < len
   pub whole : (i : ℕ) → i < len → Contains xs i
   pub once : Once xs
-  pub in_order : (p q : ℕ) → p < length xs → q < length xs → Comes (slice_index xs p) (slice_index xs q) → p < q
+  pub in_order : (p q : ℕ) → p < length xs → q < length xs
+      → Comes (slice_index xs p) (slice_index xs q) → p < q
 
 -- the subtasks stand in a row as their order allows
 abbrev pub IsArrangement : Written → List ℕ → Type 0
 IsArrangement n xs = IsRow (Before n) n.len xs
 
--- one subtask stands directly before another: in the ordered form in front of it, and otherwise by a pair
+-- one subtask stands directly before another: in the ordered form in front of it, and otherwise by
+-- a pair
 abbrev pub IsDirect : Written → ℕ → ℕ → Type 0
-IsDirect n i j = ((n.is_ordered ≡ true) × (i + 1 ≡ j) × (j < n.len)) ⊎ ((n.is_ordered ≡ false) × Contains n.pairs (i, j))
+IsDirect n i j = ((n.is_ordered ≡ true) × (i + 1 ≡ j) × (j < n.len))
+    ⊎ ((n.is_ordered ≡ false) × Contains n.pairs (i, j))
 
--- these stand directly before j, each comes before it, and whatever else comes before j comes before one of them
+-- these stand directly before j, each comes before it, and whatever else comes before j comes
+-- before one of them
 pub record AreDirect (n : Written) (j : ℕ) (xs : List ℕ) : Type 0 where
   pub direct : (i : ℕ) → Contains xs i ↔ IsDirect n i j
   pub sound : (i : ℕ) → Contains xs i → Before n i j

@@ -2,7 +2,8 @@
 use Rattle.std.specs.Prelude.{ℕ, ◌+◌, Bool, true, false, ◌||◌, List, length, Option, Some, None}
 use Rattle.hv_world.specs.Names.{place_in}
 
--- the parameters of a section, by how many there are and the number of each, or the variables of a quantifier inside a scope
+-- the parameters of a section, by how many there are and the number of each, or the variables of a
+-- quantifier inside a scope
 pub data Scope : Type 0 where
   outer : ℕ → (List ℕ → Option ℕ) → Scope
   inside : Scope → List (List ℕ) → Scope
@@ -18,7 +19,8 @@ size (inside s ns) = size s + length ns
 -- the number of a variable: one of the innermost quantifier hides one of its name further out
 abbrev pub variable_in : Scope → List ℕ → Option ℕ
 variable_in (outer k number) n = number n
-variable_in (inside s ns) n = elim (place_in ns n) [ None ↦ variable_in s n | Some i ↦ Some (size s + i) ]
+variable_in (inside s ns) n =
+    elim (place_in ns n) [ None ↦ variable_in s n | Some i ↦ Some (size s + i) ]
 
 abbrev pub is_some : Option ℕ → Bool
 is_some None = false

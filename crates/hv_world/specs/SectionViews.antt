@@ -11,4 +11,6 @@ abbrev pub task_view : code_task.Task → Task
 task_view t = task (text_of t.name) (map type_number t.parameters.items)
 
 abbrev pub action_view : code_action.Action → Action
-action_view a = action (text_of a.name) (map type_number a.parameters.items) (formula_view a.precondition) (effects_of (map effect_view a.effect.items))
+action_view a =
+    action (text_of a.name) (map type_number a.parameters.items) (formula_view a.precondition)
+    (effects_of (map effect_view a.effect.items))

@@ -6,9 +6,12 @@ use Rattle.hv_world.specs.declared.id.ObjectId.{ObjectId}
 
 -- what is declared of types and objects, by number
 pub record Typing : Type 0 where
-  pub types : ℕ  -- how many types there are; number 0 is `object`, and behind those declared stand the either types of variables
+  -- how many types there are; number 0 is `object`, and behind those declared stand the either
+  -- types of variables
+  pub types : ℕ
   pub objects : ℕ  -- how many objects there are
-  pub parents : List (ℕ × ℕ)  -- a type and its parent; an either type is one of each type that it names
+  -- a type and its parent; an either type is one of each type that it names
+  pub parents : List (ℕ × ℕ)
   pub declared : List (ℕ × ℕ)  -- an object and its type
 
 -- there is a type `object`, and each number of a pair is that of a type or an object
@@ -24,7 +27,8 @@ pub data Reaches (parents : List (ℕ × ℕ)) : ℕ → ℕ → Type 0 where
 
 -- the object is of the type: it is `object`, or a chain leads to it from a type that the object has
 abbrev pub Of : Typing → ℕ → ℕ → Type 0
-Of w o t = (o < w.objects) × (t < w.types) × ((t ≡ 0) ⊎ ((a : ℕ) × Contains w.declared (o, a) × Reaches w.parents a t))
+Of w o t = (o < w.objects) × (t < w.types)
+    × ((t ≡ 0) ⊎ ((a : ℕ) × Contains w.declared (o, a) × Reaches w.parents a t))
 
 -- the object is of one of these types
 abbrev pub IsOfOne : Typing → ℕ → List ℕ → Type 0
@@ -43,7 +47,10 @@ typing types objects parents declared =
 abbrev pub object_numbers : List ObjectId → List ℕ
 object_numbers = map (λ o. o.0)
 
--- the objects of these numbers, from one on, are not below that of the first of them, and below another
+-- the objects of these numbers, from one on, are not below that of the first of them, and below
+-- another
 abbrev pub AreBelow : List ℕ → ℕ → ℕ → ℕ → Type 0
 AreBelow os from until upto =
-    (from ≤ upto) × ((i : ℕ) → from ≤ i → i < upto → (i < length os) × (slice_index os from ≤ slice_index os i) × (slice_index os i < until))
+    (from ≤ upto)
+    × ((i : ℕ) → from ≤ i → i < upto
+    → (i < length os) × (slice_index os from ≤ slice_index os i) × (slice_index os i < until))

@@ -1,7 +1,8 @@
 -- What a world says, with a number for each name.
 use Rattle.std.specs.Prelude.{ℕ, Bool, List, [], ◌∷◌}
 
--- a term: the object of a number, or the variable of a number; the parameters come first, then the variables of the quantifiers and effects around, the outermost first
+-- a term: the object of a number, or the variable of a number; the parameters come first, then the
+-- variables of the quantifiers and effects around, the outermost first
 pub data Term : Type 0 where
   object : ℕ → Term
   variable : ℕ → Term

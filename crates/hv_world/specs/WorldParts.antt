@@ -13,7 +13,8 @@ use Rattle.hv_world.specs.SectionViews.{task_view, action_view}
 use Rattle.hv_world.specs.Types.{Typing}
 use Rattle.hv_world.specs.Worlds.{World}
 
-abbrev pub world_from : List Name → List Name → Typing → List Name → List Task → List Method → List Action → List Atom → Option Formula → Method → World
+abbrev pub world_from : List Name → List Name → Typing → List Name → List Task → List Method
+    → List Action → List Atom → Option Formula → Method → World
 world_from types objects typing predicates tasks methods actions init goal top =
     record {
       types = map text_of types;

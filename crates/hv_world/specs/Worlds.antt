@@ -20,7 +20,8 @@ pub record Network : Type 0 where
 abbrev pub network : List Subtask → Written → List Constraint → Network
 network xs o cs = record { subtasks = xs; order = o; constraints = cs }
 
--- a method: the types of its parameters, the task that it is for, when it may be used, and its network; the initial network is a method without a name and without a task
+-- a method: the types of its parameters, the task that it is for, when it may be used, and its
+-- network; the initial network is a method without a name and without a task
 pub record Method : Type 0 where
   pub name : Option (List ℕ)
   pub parameters : List ℕ
@@ -93,7 +94,12 @@ said_method_names ms = map (λ m. m.name.text) ms
 
 -- what a name of a task or an action names: they share one space
 abbrev pub task_named : World → List ℕ → Option TaskName
-task_named w n = elim (place_in (task_names w.tasks) n) [ None ↦ option_map primitive (place_in (action_names w.actions) n) | Some i ↦ Some (compound i) ]
+task_named w n =
+    elim (place_in (task_names w.tasks) n) [
+      | None ↦ option_map primitive (place_in (action_names w.actions) n)
+      | Some i ↦ Some
+          (compound i)
+    ]
 
 -- the number of the method of a name
 abbrev pub method_named : World → List ℕ → Option ℕ
@@ -112,12 +118,14 @@ module _ (k : Known) where
   abbrev pub type_of : Typed → ℕ
   type_of v = number_in k.types (type_name v.of)
 
-  -- the number of the type of this place among the either types, which stand behind those declared; without a place it is `object`
+  -- the number of the type of this place among the either types, which stand behind those declared;
+  -- without a place it is `object`
   abbrev pub either_number : Option ℕ → ℕ
   either_number None = 0
   either_number (Some i) = length k.types + i
 
-  -- the number of the type of a variable: of `object` where none is written, of the one that is written, or of that which several names make
+  -- the number of the type of a variable: of `object` where none is written, of the one that is
+  -- written, or of that which several names make
   abbrev pub number_of_type : List WordAt → ℕ
   number_of_type [] = 0
   number_of_type (w ∷ []) = number_in k.types w.text
@@ -146,13 +154,16 @@ module _ (k : Known) where
     formula_in scope (text.or fs) = or (formulas_in scope fs)
     formula_in scope (text.not f) = negation (formula_in scope f)
     formula_in scope (text.imply f g) = imply (formula_in scope f) (formula_in scope g)
-    formula_in scope (text.forall vs f) = forall (types_of vs) (formula_in (inside scope (variables vs)) f)
-    formula_in scope (text.exists vs f) = exists (types_of vs) (formula_in (inside scope (variables vs)) f)
+    formula_in scope (text.forall vs f) =
+        forall (types_of vs) (formula_in (inside scope (variables vs)) f)
+    formula_in scope (text.exists vs f) =
+        exists (types_of vs) (formula_in (inside scope (variables vs)) f)
     formula_in scope (text.equal x y) = equal (term_in scope x) (term_in scope y)
 
     pub formulas_in : Scope → text.Formulas → Formulas
     formulas_in scope text.no_formulas = no_formulas
-    formulas_in scope (text.more_formulas f fs) = more_formulas (formula_in scope f) (formulas_in scope fs)
+    formulas_in scope (text.more_formulas f fs) =
+        more_formulas (formula_in scope f) (formulas_in scope fs)
 
   -- the atoms of those literals that are positive
   abbrev pub added : Scope → List text.Literal → List Atom
@@ -165,7 +176,8 @@ module _ (k : Known) where
 
     pub effect_in : Scope → text.Item → Effect
     effect_in scope (text.becomes l) = becomes l.is_positive (atom_in scope l.atom)
-    effect_in scope (text.for_each vs e) = for_each (types_of vs) (effects_in (inside scope (variables vs)) e)
+    effect_in scope (text.for_each vs e) =
+        for_each (types_of vs) (effects_in (inside scope (variables vs)) e)
 
   abbrev pub task_in : Scope → text.Atom → Subtask
   task_in scope a = subtask (task_of (k.task a.symbol.text)) (terms_in scope a.terms)
@@ -238,7 +250,8 @@ module _ (k : Known) where
   eithers_pairs t [] = []
   eithers_pairs t (ns ∷ others) = either_pairs t ns ++ eithers_pairs (suc t) others
 
-  -- the types are those declared, and behind them the either types, each of them a parent of those that it names
+  -- the types are those declared, and behind them the either types, each of them a parent of those
+  -- that it names
   abbrev pub typing_by : Domain → Problem → Typing
   typing_by d p =
       record {

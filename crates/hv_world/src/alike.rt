@@ -33,8 +33,8 @@ impl Hash for TaskName {
 
     ghost respects_eq = { Prim.search (hashing, rules) };
 
-    // The number alone is fed, in one word: a task and an action of one number have one hash, and no
-    // third name has it.
+    // The number alone is fed, in one word: a task and an action of one number have one hash, and
+    // no third name has it.
     fn hash<H: Hasher>(&self, state: &mut H) {
         match self {
             TaskName::Compound(task) => state.write_usize(task.0),
@@ -358,7 +358,8 @@ fn marked_numbers(alloc: Global, marks: &[bool]) -> Result<Vec<usize>, Memory>
     Ok(numbers)
 }
 
-/// The numbers of the parameters that are arguments neither of the task nor of a subtask, ascending.
+/// The numbers of the parameters that are arguments neither of the task nor of a subtask,
+/// ascending.
 pub(crate) fn free_parameters(
     alloc: Global,
     parameters: usize,
@@ -375,7 +376,8 @@ pub(crate) fn free_parameters(
     marked_numbers(alloc, &marks)
 }
 
-/// Two subtasks of a network are alike exactly where their keys are the same. This function does nothing: its contract is the law.
+/// Two subtasks of a network are alike exactly where their keys are the same. This function does
+/// nothing: its contract is the law.
 pub fn keys_tell_classes()
     ensures { (ss : List value.Subtask) (s t : value.Subtask) → Contains ss s → Contains ss t
         → alike.AreAlike ss s t ↔ alike.key ss s ≡ alike.key ss t }

@@ -135,8 +135,8 @@ impl Graph {
         above.0 < bases.len() && bases[above.0] == above && self.sole(above) == Some(at)
     }
 
-    // Gives the base of a type to those directly above it of which it is the one below, and has them
-    // wait.
+    // Gives the base of a type to those directly above it of which it is the one below, and has
+    // them wait.
     fn take_in(
         &self,
         base: TypeId,
@@ -228,8 +228,8 @@ pub(crate) fn bases(
     Ok(bases)
 }
 
-/// The pairs of types and their parents, each child taken for its base, and of the parents only those
-/// that are their own.
+/// The pairs of types and their parents, each child taken for its base, and of the parents only
+/// those that are their own.
 pub(crate) fn contracted(
     alloc: Global,
     parents: &[(TypeId, TypeId)],

@@ -300,8 +300,8 @@ impl<'s> World<'s> {
         }
     }
 
-    /// The world of a domain and a problem that have no static fault, by the tables of their names and
-    /// the atoms that are true at the start.
+    /// The world of a domain and a problem that have no static fault, by the tables of their names
+    /// and the atoms that are true at the start.
     ///
     /// # Errors
     ///

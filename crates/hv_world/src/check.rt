@@ -25,8 +25,8 @@ use hv_syntax::{DomainText, ProblemText};
 use hv_text::Memory;
 use std::alloc::Global;
 
-/// The static fault that stands first in a domain, and where the domain has none the one that stands
-/// first in its problem, where this is the first of the initial state.
+/// The static fault that stands first in a domain, and where the domain has none the one that
+/// stands first in its problem, where this is the first of the initial state.
 ///
 /// # Errors
 ///

@@ -23,8 +23,9 @@ pub(crate) struct TypeLists {
 }
 
 impl TypeLists {
-    /// The lists of the types. Types that have just the objects of one type below them share its list.
-    /// For each object and each list that it is in, it takes a step, and one for each list above that.
+    /// The lists of the types. Types that have just the objects of one type below them share its
+    /// list. For each object and each list that it is in, it takes a step, and one for each list
+    /// above that.
     pub(crate) fn new(
         alloc: Global,
         types: usize,

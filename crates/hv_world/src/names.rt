@@ -83,8 +83,8 @@ impl<'s> Names<'s> {
         Ok(names)
     }
 
-    // Notes a place, where the name has none. One that has a place is given it back, so that each is
-    // looked for once, as most stand once.
+    // Notes a place, where the name has none. One that has a place is given it back, so that each
+    // is looked for once, as most stand once.
     fn add(&mut self, name: Name<'s>, place: usize) -> Result<(), Memory>
         ensures places { OnOk result
             (places_by self.new ≡ with_place (places_by self.old) (text_of name.entry) place) }

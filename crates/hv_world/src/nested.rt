@@ -296,9 +296,9 @@ fn length_of(span: Option<Span>) -> usize {
 }
 
 impl Nested {
-    /// The objects of a world in a line, where those of each type can stand together: no type has two
-    /// parents but `object`, and no object two types. None where it is not so. It takes as many steps
-    /// as there are types and objects, and pairs of them.
+    /// The objects of a world in a line, where those of each type can stand together: no type has
+    /// two parents but `object`, and no object two types. None where it is not so. It takes as many
+    /// steps as there are types and objects, and pairs of them.
     pub(crate) fn new(
         alloc: Global,
         types: usize,

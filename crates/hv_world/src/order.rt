@@ -128,8 +128,8 @@ fn by_pairs(
 }
 
 impl Order {
-    /// The order that is written; None where a subtask comes before itself. It takes time and memory
-    /// in proportion to the subtasks and the pairs.
+    /// The order that is written; None where a subtask comes before itself. It takes time and
+    /// memory in proportion to the subtasks and the pairs.
     pub(crate) fn new(
         alloc: Global,
         len: usize,

@@ -8,8 +8,8 @@ ghost use Rattle.hv_world.specs.inside.ListParts.{HasPlaces, IsTold};
 
 use crate::id::ObjectId;
 
-/// Which part of a longer list is meant: where it begins, and for each object of the longer list its
-/// place there.
+/// Which part of a longer list is meant: where it begins, and for each object of the longer list
+/// its place there.
 #[derive(Clone, Copy)]
 pub(crate) struct Part<'a> {
     pub(crate) start: usize,

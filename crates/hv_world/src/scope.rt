@@ -10,8 +10,8 @@ use crate::names::{Names, place_among};
 use hv_syntax::VariableText;
 use hv_text::{Memory, Name};
 
-/// The parameters of a section and how many they are, or the variables of a quantifier or an effect inside
-/// it.
+/// The parameters of a section and how many they are, or the variables of a quantifier or an effect
+/// inside it.
 #[derive(Clone, Copy)]
 pub(crate) enum Scope<'a, 's> {
     Parameters(&'a Names<'s>, usize),

@@ -67,8 +67,8 @@ impl<'s> World<'s> {
     ghost use Rattle.hv_world.specs.Worlds.{task_named, method_named};
     ghost use Rattle.hv_world.specs.WorldViews.{world_view};
 
-    /// The objects of a type, each once, and what tells of an object whether it is one of them. None
-    /// for a number that no type has.
+    /// The objects of a type, each once, and what tells of an object whether it is one of them.
+    /// None for a number that no type has.
     pub fn range_of(&self, of: TypeId) -> Range<'_>
         ensures { IsRange (world_view self.now).typing (range_view result) of.0 }
     {

@@ -47,14 +47,18 @@ abbrev pub tasks_at : code_tree.Tree → code_node.Node → List (Option Subtask
 tasks_at t n = child_tasks (tree_view t) (node_view n)
 
 -- the child at a place does what a subtask of the code says
-abbrev pub ChildDoes : code_tree.Tree → List code_child.Child → List ℕ → ℕ → code_subtask.Subtask → Type 0
+abbrev pub ChildDoes : code_tree.Tree → List code_child.Child → List ℕ → ℕ → code_subtask.Subtask
+    → Type 0
 ChildDoes t cs B x s = Does (tasks_of t cs) B x (subtask_view s)
 
 -- the children at these places do what the subtasks say
-abbrev pub ChildrenDo : code_tree.Tree → List code_child.Child → List ℕ → List ℕ → List code_subtask.Subtask → Type 0
+abbrev pub ChildrenDo : code_tree.Tree → List code_child.Child → List ℕ → List ℕ
+    → List code_subtask.Subtask → Type 0
 ChildrenDo t cs B M ss = AllZip (Does (tasks_of t cs) B) M (map subtask_view ss)
 
 -- a candidate of a node by a method, all of the code
-abbrev pub IsCandidateBy : code_world.World → code_method.Method → code_tree.Tree → code_node.Node → List ℕ → List ObjectId → Type 0
+abbrev pub IsCandidateBy : code_world.World → code_method.Method → code_tree.Tree → code_node.Node
+    → List ℕ → List ObjectId → Type 0
 IsCandidateBy w m t n M os =
-    IsCandidate (world_view w) (method_view m) (node_view n).objects (tasks_at t n) M (map object_number os)
+    IsCandidate (world_view w) (method_view m) (node_view n).objects (tasks_at t n) M
+    (map object_number os)

@@ -12,7 +12,8 @@ abbrev pub rising : List Key → ℕ
 rising [] = 1
 rising (k ∷ ks) = (1 + how_many k ks) * rising ks
 
--- M gives to each of the places, whose keys are ks, a number of its own with that key; the numbers are all below the number of places
+-- M gives to each of the places, whose keys are ks, a number of its own with that key; the numbers
+-- are all below the number of places
 pub record IsMatching (key : ℕ → Key) (ks : List Key) (M : List ℕ) : Type 0 where
   pub once : Once M
   pub below : (x : ℕ) → Contains M x → x < length ks

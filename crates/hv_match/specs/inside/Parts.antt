@@ -43,16 +43,20 @@ ListsMatches p l = AreEachOnce p → l.coming ≡ listed p
 
 -- where the search for the matches of a puzzle may be
 abbrev pub IsStateOf : code.Puzzle → State → Type 0
-IsStateOf p at = IsState (options (puzzle_view p)) (levels (puzzle_view p)) (length p.table.now.subtasks.now) (length p.children.items) at
+IsStateOf p at =
+    IsState (options (puzzle_view p)) (levels (puzzle_view p)) (length p.table.now.subtasks.now)
+    (length p.children.items) at
 
 -- what a search has still to give
 abbrev pub to_find : Seeker → List (List ℕ × List ℕ)
 to_find s = coming (puzzle_view s.puzzle) s.at
 
--- the search stands where it may, and what is lent has room for the children and the objects of a match
+-- the search stands where it may, and what is lent has room for the children and the objects of a
+-- match
 abbrev pub HasRoom : Seeker → List ℕ → List ObjectId → Type 0
 HasRoom s M os =
-    IsStateOf s.puzzle s.at × (length M ≡ length s.puzzle.table.now.subtasks.now) × (length os ≡ length s.puzzle.table.now.ranges.items)
+    IsStateOf s.puzzle s.at × (length M ≡ length s.puzzle.table.now.subtasks.now)
+    × (length os ≡ length s.puzzle.table.now.ranges.items)
 
 -- those that are still to come; the one that is written down is the one that is lent then
 abbrev pub still_coming : Coming → List ℕ → List ObjectId → List (List ℕ × List ℕ)
@@ -70,16 +74,22 @@ abbrev pub IsListing : Coming → List ℕ → List ObjectId → Type 0
 IsListing (comings.Written b) M os = Unit {0}
 IsListing (comings.Sought s) M os = HasRoom s.value M os
 
--- the first of those that were to come are left out, which have their first children at these places
+-- the first of those that were to come are left out, which have their first children at these
+-- places
 pub record LosesSome (places : List ℕ) (old new : List (List ℕ × List ℕ)) : Type 0 where
   pub gone : List (List ℕ × List ℕ)
   pub coming : old ≡ gone ++ new
   pub alike : (M B : List ℕ) → Contains gone (M, B) → take (length places) M ≡ places
 
--- to come are just the candidates of a node by its method that are possible, each once, and no more than the count
-pub record IsWhole (w : World) (m : Method) (t : PlanTree) (n : Node) (ever : Option (List (List ℕ))) (l : Listing) : Type 0 where
+-- to come are just the candidates of a node by its method that are possible, each once, and no more
+-- than the count
+pub record IsWhole (w : World) (m : Method) (t : PlanTree) (n : Node)
+    (ever : Option (List (List ℕ))) (l : Listing) : Type 0 where
   pub exact :
-      (M B : List ℕ) → Contains l.coming (M, B) ↔ (IsCandidate w m n.objects (child_tasks t n) M B × (are_possible ever B (needed m.precondition) ≡ true))
+      (M B : List ℕ)
+      → Contains l.coming (M, B)
+      ↔ (IsCandidate w m n.objects (child_tasks t n) M B
+      × (are_possible ever B (needed m.precondition) ≡ true))
   pub once : Once l.coming
   pub few : (k : ℕ) → IsCount w m k → length l.coming ≤ k
 

@@ -18,9 +18,10 @@ pub record Work : Type 0 where
 abbrev pub work : TaskName → List ℕ → Work
 work n os = record { name = n; objects = os }
 
--- the objects that each parameter may have, the terms of the task and the objects that stand for them, the subtasks, the
--- constraints, what the children do, for the subtask of a number the places of the children that are tried for it, the atoms
--- that the precondition needs, and the rows of atoms that are ever true, where these count
+-- the objects that each parameter may have, the terms of the task and the objects that stand for
+-- them, the subtasks, the constraints, what the children do, for the subtask of a number the places
+-- of the children that are tried for it, the atoms that the precondition needs, and the rows of
+-- atoms that are ever true, where these count
 pub record Puzzle : Type 0 where
   pub ranges : List (List ℕ)
   pub task : List Term
@@ -42,11 +43,12 @@ objects_of (Some c) = c.objects
 
 -- what may be chosen next: for a subtask a child, and then for a parameter an object
 
--- the place at which the i-th parameter is first among these terms of the subtask j, or of the task, the first of them at
--- position k; or the other
+-- the place at which the i-th parameter is first among these terms of the subtask j, or of the
+-- task, the first of them at position k; or the other
 abbrev pub first_in : Option ℕ → ℕ → ℕ → List Term → Option (Option ℕ × ℕ) → Option (Option ℕ × ℕ)
 first_in j i k [] other = other
-first_in j i k (t ∷ ts) other = if is_variable i t then Some (j, k) else first_in j i (k + 1) ts other
+first_in j i k (t ∷ ts) other =
+    if is_variable i t then Some (j, k) else first_in j i (k + 1) ts other
 
 -- the same for these subtasks, the first of them of number j
 abbrev pub first_of : ℕ → ℕ → List Subtask → Option (Option ℕ × ℕ) → Option (Option ℕ × ℕ)
@@ -61,7 +63,8 @@ source_of ts ss i = first_in None i 0 ts (first_of i 0 ss None)
 abbrev pub look : Puzzle → List ℕ → Option (Option ℕ × ℕ) → Option ℕ
 look p q None = None
 look p q (Some (None, k)) = slice_get p.objects k
-look p q (Some (Some j, k)) = elim (slice_get q j) [ None ↦ None | Some x ↦ slice_get (objects_of (child_at p.children x)) k ]
+look p q (Some (Some j, k)) =
+    elim (slice_get q j) [ None ↦ None | Some x ↦ slice_get (objects_of (child_at p.children x)) k ]
 
 -- what the task and the children chosen say of the i-th parameter
 abbrev pub bound : Puzzle → List ℕ → ℕ → Option ℕ
@@ -83,12 +86,14 @@ same_values B _ _ = false
 -- the places of the children that pass a test, the first of the children at place k
 abbrev pub places_where : (Option Work → Bool) → ℕ → List (Option Work) → List ℕ
 places_where test k [] = []
-places_where test k (c ∷ cs) = if test c then k ∷ places_where test (k + 1) cs else places_where test (k + 1) cs
+places_where test k (c ∷ cs) =
+    if test c then k ∷ places_where test (k + 1) cs else places_where test (k + 1) cs
 
 abbrev pub options : Puzzle → List ℕ → List ℕ
 options p q = elim (slice_get p.subtasks (length q)) [
   | Some s ↦ p.rows (length q)
-  | None ↦ pick (bound p q (length q - length p.subtasks)) (range_of p (length q - length p.subtasks))
+  | None ↦ pick (bound p q (length q - length p.subtasks))
+      (range_of p (length q - length p.subtasks))
 ]
 
 -- so many are chosen
@@ -135,7 +140,10 @@ all_hold B (c ∷ cs) = holds B c && all_hold B cs
 -- the children at M do the subtasks under B, and all else holds under B
 abbrev pub suits : Puzzle → List ℕ → List ℕ → Bool
 suits p M B =
-    are_in B p.ranges && (same_values B p.task p.objects && (all_do p.children B M p.subtasks && (all_hold B p.constraints && are_possible p.ever B p.atoms)))
+    are_in B p.ranges
+    && (same_values B p.task p.objects
+    && (all_do p.children B M p.subtasks
+    && (all_hold B p.constraints && are_possible p.ever B p.atoms)))
 
 -- M and B are a candidate
 abbrev pub fits : Puzzle → List ℕ → List ℕ → Bool
@@ -155,12 +163,14 @@ is_good p q = nat_eq (length p.subtasks) (length p.children) && fits p (places p
 abbrev pub Done : List (Option Work) → List ℕ → ℕ → Subtask → Type 0
 Done cs B x s = child_at cs x ≡ Some (work s.name (map (object_of B) s.terms))
 
--- A row that will do for a subtask: places of children, each once, and among them that of each child that does a subtask
--- alike to it, under whatever objects
-pub record IsRow (ss : List Subtask) (cs : List (Option Work)) (s : Subtask) (row : List ℕ) : Type 0 where
+-- A row that will do for a subtask: places of children, each once, and among them that of each
+-- child that does a subtask alike to it, under whatever objects
+pub record IsRow (ss : List Subtask) (cs : List (Option Work)) (s : Subtask)
+    (row : List ℕ) : Type 0 where
   pub once : Once row
   pub within : (x : ℕ) → Contains row x → x < length cs
-  pub all : (t : Subtask) → Contains ss t → key ss t ≡ key ss s → (B : List ℕ) (x : ℕ) → Done cs B x t → has x row ≡ true
+  pub all : (t : Subtask) → Contains ss t → key ss t ≡ key ss s → (B : List ℕ) (x : ℕ)
+      → Done cs B x t → has x row ≡ true
 
 -- each subtask has such a row
 abbrev pub AreRowsOf : List Subtask → List (Option Work) → (ℕ → List ℕ) → Type 0
@@ -213,8 +223,8 @@ IsChosen p q v o = slice_get q (length p.subtasks + v) ≡ Some o
 abbrev pub IsForetold : Puzzle → ℕ → ℕ → Type 0
 IsForetold p v o = (M B : List ℕ) → IsMatch p M B → slice_index B v ≡ o
 
--- B goes on from the choices q: it has what the task and the children chosen say of parameters, the objects chosen,
--- and for each parameter an object that it may have
+-- B goes on from the choices q: it has what the task and the children chosen say of parameters, the
+-- objects chosen, and for each parameter an object that it may have
 pub record GoesOn (p : Puzzle) (q B : List ℕ) : Type 0 where
   pub agrees : Agrees p q B
   pub chosen : (v o : ℕ) → IsChosen p q v o → slice_index B v ≡ o
@@ -240,10 +250,14 @@ AreKnown p q ts os = (B : List ℕ) → GoesOn p q B → map (object_of B) ts �
 abbrev pub CannotBeTrue : Puzzle → List ℕ → Atom → Type 0
 CannotBeTrue p q a = (B : List ℕ) → GoesOn p q B → is_possible p.ever B a ≡ false
 
--- with each of these objects for the v-th parameter, from one on up to before another, the atom is not possible
+-- with each of these objects for the v-th parameter, from one on up to before another, the atom is
+-- not possible
 abbrev pub NeverWith : Puzzle → List ℕ → ℕ → ℕ → ℕ → Atom → Type 0
-NeverWith p q v from upto a = (o : ℕ) → from ≤ o → o < upto → (B : List ℕ) → GoesOn p q B → slice_index B v ≡ o → is_possible p.ever B a ≡ false
+NeverWith p q v from upto a = (o : ℕ) → from ≤ o → o < upto → (B : List ℕ) → GoesOn p q B
+    → slice_index B v ≡ o → is_possible p.ever B a ≡ false
 
 -- nothing that is wanted begins with q and any of the objects of these numbers
 abbrev pub NothingWith : Search → List ℕ → List ℕ → ℕ → ℕ → Type 0
-NothingWith s q os from upto = (from ≤ upto) × ((i : ℕ) → from ≤ i → i < upto → (i < length os) × NothingBegins s (q ++ slice_index os i ∷ []))
+NothingWith s q os from upto = (from ≤ upto)
+    × ((i : ℕ) → from ≤ i → i < upto
+    → (i < length os) × NothingBegins s (q ++ slice_index os i ∷ []))

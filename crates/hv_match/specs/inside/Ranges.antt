@@ -62,7 +62,8 @@ pub record AreTablesOf (w : World) (top : MethodTable) (ts : List MethodTable) :
   pub methods : AllZip (IsTableOf w) w.methods ts
 
 -- the puzzle of a method, the objects of a node and what its children do
-pub record IsPuzzleOf (w : World) (m : Method) (objects : List ℕ) (children : List (Option Subtask)) (p : Puzzle) : Type 0 where
+pub record IsPuzzleOf (w : World) (m : Method) (objects : List ℕ) (children : List (Option Subtask))
+    (p : Puzzle) : Type 0 where
   pub ranges : AreRanges w.typing p.ranges m.parameters
   pub task : p.task ≡ terms_of m.task
   pub given : p.objects ≡ objects

@@ -7,19 +7,23 @@ abbrev pub IsPath : (List ℕ → List ℕ) → List ℕ → List ℕ → Type 0
 IsPath options p [] = Unit {0}
 IsPath options p (x ∷ xs) = Contains (options p) x × IsPath options (p ++ x ∷ []) xs
 
--- all that is wanted with k choices after p, the first of them not among the first c that may follow
+-- all that is wanted with k choices after p, the first of them not among the first c that may
+-- follow
 abbrev pub below : (List ℕ → List ℕ) → (List ℕ → Bool) → ℕ → List ℕ → ℕ → List (List ℕ)
 below options good zero p c = if good p then p ∷ [] else []
-below options good (suc k) p c = flat_map (λ x. below options good k (p ++ x ∷ []) 0) (drop c (options p))
+below options good (suc k) p c =
+    flat_map (λ x. below options good k (p ++ x ∷ []) 0) (drop c (options p))
 
 -- q is wanted: a whole list of choices, each of them allowed, that is good
-pub record IsWanted (options : List ℕ → List ℕ) (good : List ℕ → Bool) (levels : ℕ) (q : List ℕ) : Type 0 where
+pub record IsWanted (options : List ℕ → List ℕ) (good : List ℕ → Bool) (levels : ℕ)
+    (q : List ℕ) : Type 0 where
   pub whole : length q ≡ levels
   pub path : IsPath options [] q
   pub is_good : good q ≡ true
 
--- What a search chooses from, and what it wants: the choices that may follow others, whether a whole list of choices is
--- wanted, how many a whole one has, how many of the first differ from each other, and the number that these are below
+-- What a search chooses from, and what it wants: the choices that may follow others, whether a
+-- whole list of choices is wanted, how many a whole one has, how many of the first differ from each
+-- other, and the number that these are below
 pub record Search : Type 0 where
   pub options : List ℕ → List ℕ
   pub good : List ℕ → Bool
@@ -47,6 +51,10 @@ Differs s p x = length p < s.distinct → Contains p x → ⊥
 abbrev pub IsChoice : List ℕ → ℕ → Option ℕ → Type 0
 IsChoice xs n choice = MatchOption choice (length xs ≤ n) (λ x. drop n xs ≡ x ∷ drop (n + 1) xs)
 
--- nothing that is wanted begins with p and any of the choices from one number on up to before another
+-- nothing that is wanted begins with p and any of the choices from one number on up to before
+-- another
 abbrev pub ArePassed : Search → List ℕ → ℕ → ℕ → Type 0
-ArePassed s p from upto = (from ≤ upto) × ((i : ℕ) → from ≤ i → i < upto → (x : ℕ) × (drop i (s.options p) ≡ x ∷ drop (i + 1) (s.options p)) × NothingBegins s (p ++ x ∷ []))
+ArePassed s p from upto = (from ≤ upto)
+    × ((i : ℕ) → from ≤ i → i < upto
+    → (x : ℕ) × (drop i (s.options p) ≡ x ∷ drop (i + 1) (s.options p))
+    × NothingBegins s (p ++ x ∷ []))

@@ -41,7 +41,8 @@ row_at rows i = slice_index_or (map (λ v. v.items) rows) i []
 -- a place stands behind those of a class, if there is one, and the other rows are as they were
 abbrev pub HasPut : Option ℕ → ℕ → List (Vec ℕ) → List (Vec ℕ) → Type 0
 HasPut class place old new =
-    (i : ℕ) → i < length old → row_at new i ≡ row_at old i ++ (if is_number i class then place ∷ [] else [])
+    (i : ℕ) → i < length old
+    → row_at new i ≡ row_at old i ++ (if is_number i class then place ∷ [] else [])
 
 -- the row of each class has the places of the children that are of it
 abbrev pub AreClassRows : List Subtask → List (Option Work) → List (Vec ℕ) → Type 0
@@ -57,7 +58,8 @@ abbrev pub places_named : TaskName → List (Option code_work.Work) → List ℕ
 places_named n cs = places_where (has_name n) 0 (map (option_map work_view) cs)
 
 -- there is a row for each subtask of the code, by its name
-abbrev pub AreNamedRows : List code_subtask.Subtask → List (Option code_work.Work) → List (List ℕ) → Type 0
+abbrev pub AreNamedRows : List code_subtask.Subtask → List (Option code_work.Work) → List (List ℕ)
+    → Type 0
 AreNamedRows ss cs rows = rows ≡ map (λ s. places_named s.name cs) (map subtask_view ss)
 
 -- how many subtasks are of the class of the subtask of a number
@@ -89,23 +91,29 @@ abbrev pub source_at : List (Option Source) → ℕ → Option (Option ℕ × �
 source_at xs i = option_map source_view (slice_index_or xs i None)
 
 -- each of so many parameters has its source
-pub record AreSources (n : ℕ) (ts : List Term) (ss : List Subtask) (xs : List (Option Source)) : Type 0 where
+pub record AreSources (n : ℕ) (ts : List Term) (ss : List Subtask)
+    (xs : List (Option Source)) : Type 0 where
   pub size : length xs ≡ n
   pub sources : (i : ℕ) → i < n → source_at xs i ≡ source_of ts ss i
 
 -- the same with the terms and subtasks of the code
-abbrev pub AreSourcesOf : ℕ → List code_term.Term → List code_subtask.Subtask → List (Option Source) → Type 0
+abbrev pub AreSourcesOf : ℕ → List code_term.Term → List code_subtask.Subtask → List (Option Source)
+    → Type 0
 AreSourcesOf n ts ss xs = AreSources n (map term_view ts) (map subtask_view ss) xs
 
 -- the parameter that the term is, if it is one, has the source, and the others have what they had
 abbrev pub IsWritten : List (Option Source) → Term → Option ℕ × ℕ → List (Option Source) → Type 0
 IsWritten old t s new =
-    (i : ℕ) → i < length old → source_at new i ≡ (if is_variable i t then Some s else source_at old i)
+    (i : ℕ) → i < length old
+    → source_at new i ≡ (if is_variable i t then Some s else source_at old i)
 
--- each parameter among the terms of a subtask or of the task has its first position there for its source
+-- each parameter among the terms of a subtask or of the task has its first position there for its
+-- source
 abbrev pub AreWritten : List (Option Source) → Option ℕ → List Term → List (Option Source) → Type 0
-AreWritten old j ts new = (i : ℕ) → i < length old → source_at new i ≡ first_in j i 0 ts (source_at old i)
+AreWritten old j ts new = (i : ℕ) → i < length old
+    → source_at new i ≡ first_in j i 0 ts (source_at old i)
 
 -- each parameter among the terms of subtasks has its first position there for its source
 abbrev pub AreAllWritten : List (Option Source) → List Subtask → List (Option Source) → Type 0
-AreAllWritten old ss new = (i : ℕ) → i < length old → source_at new i ≡ first_of i 0 ss (source_at old i)
+AreAllWritten old ss new = (i : ℕ) → i < length old
+    → source_at new i ≡ first_of i 0 ss (source_at old i)

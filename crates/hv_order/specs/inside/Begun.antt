@@ -21,7 +21,8 @@ pub record CanBeOver (q : Facts) (c : Arrangement) (at f : ℕ) : Type 0 where
       (λ j. ChildFits q.fits (child_at c.children j)) index f
 
 -- the starts of a candidate's subtasks behind `at`, and the least finish of each, which f allows
-pub record AreLaidOut (q : Facts) (c : Arrangement) (at f : ℕ) (starts finishes : List ℕ) : Type 0 where
+pub record AreLaidOut (q : Facts) (c : Arrangement) (at f : ℕ)
+    (starts finishes : List ℕ) : Type 0 where
   pub as_many : length starts ≡ length c.children
   pub fits :
       (j : ℕ) → j < length c.children
@@ -44,7 +45,8 @@ HasFinish q v s = (f : ℕ) × IsLeastAt (q.fits v s) q.last f
 abbrev pub HaveFinishes : Facts → List (Option ℕ) → Type 0
 HaveFinishes q starts = (v s : ℕ) → said_of starts v ≡ Some s → HasFinish q v s
 
--- a node stands that begins at s, and behind its index its candidate's subtasks can be over when it is
+-- a node stands that begins at s, and behind its index its candidate's subtasks can be over when it
+-- is
 pub record IsStandFrom (q : Facts) (v s : ℕ) (t : Stand) : Type 0 where
   pub start : t.start ≡ s
   pub is : IsStand q v t
@@ -58,7 +60,8 @@ pub record AreSet
   pub kept : (u : ℕ) → ((j : ℕ) × IsChildAt cs j u) ⊎ (said_of starts' u ≡ said_of starts u)
 
 -- the children of a node that stands are begun by a candidate
-pub record AreBegun (q : Facts) (starts : List (Option ℕ)) (t : Stand) (c : Arrangement) : Type 0 where
+pub record AreBegun (q : Facts) (starts : List (Option ℕ)) (t : Stand)
+    (c : Arrangement) : Type 0 where
   pub begins : List ℕ
   pub ends : List ℕ
   pub laid : AreLaidOut q c t.at t.finish begins ends

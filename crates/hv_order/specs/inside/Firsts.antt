@@ -20,7 +20,8 @@ item_first firsts (Pre v) = never
 
 -- no earlier than whatever all of these are no earlier than
 abbrev pub IsFirstOf : List ℕ → List Item → ℕ → Type 0
-IsFirstOf firsts xs b = (s : ℕ) → s ≤ never → ((x : Item) → Contains xs x → s ≤ item_first firsts x) → s ≤ b
+IsFirstOf firsts xs b = (s : ℕ) → s ≤ never → ((x : Item) → Contains xs x → s ≤ item_first firsts x)
+    → s ≤ b
 
 -- so is the first of each node, of its children
 abbrev pub AreFirsts : PlanTree → List ℕ → Type 0

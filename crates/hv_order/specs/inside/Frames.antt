@@ -34,7 +34,8 @@ IsHead left left' o = MatchOption o (left ≡ []) (λ c. left ≡ arrangement_of
 
 -- none of these candidates finishes before this
 abbrev pub IsEarliest : Facts → ℕ → List Arrangement → ℕ → Type 0
-IsEarliest q s all earliest = (c : Arrangement) (g : ℕ) → Contains all c → FitsWith q s c g → earliest ≤ g
+IsEarliest q s all earliest = (c : Arrangement) (g : ℕ) → Contains all c → FitsWith q s c g
+    → earliest ≤ g
 
 -- the least finish of the node from s with this candidate, if it is no later than n
 abbrev pub IsLeastWith : Facts → ℕ → Arrangement → ℕ → Option ℕ → Type 0
@@ -44,14 +45,14 @@ IsLeastWith q s c n o = IsLeast (FitsWith q s c) n o
 abbrev pub IsLeastOf : Facts → ℕ → List Arrangement → Option ℕ → Type 0
 IsLeastOf q s all o = IsLeast (Gives all (FitsWith q s)) q.last o
 
--- The least finish of the node with one of these candidates for each start from s on up to which the
--- best is kept; where there is no best, none for any start from s on
+-- The least finish of the node with one of these candidates for each start from s on up to which
+-- the best is kept; where there is no best, none for any start from s on
 abbrev pub AreLeastOf : Facts → ℕ → List Arrangement → Option Best → Type 0
 AreLeastOf q s all None = (x : ℕ) → s ≤ x → IsLeastOf q x all None
 AreLeastOf q s all (Some b) = (x : ℕ) → s ≤ x → x ≤ b.last → IsLeastOf q x all (Some b.finish)
 
--- with this candidate the node fits up to the finish from the last start that is kept, and so from each
--- before it
+-- with this candidate the node fits up to the finish from the last start that is kept, and so from
+-- each before it
 pub record IsWonBy (q : Facts) (s : ℕ) (c : Arrangement) (b : Best) : Type 0 where
   pub late : s ≤ b.last
   pub within : b.finish ≤ q.last
@@ -61,7 +62,8 @@ pub record IsWonBy (q : Facts) (s : ℕ) (c : Arrangement) (b : Best) : Type 0 w
 abbrev pub Won : Facts → ℕ → Arrangement → Option Best → Type 0
 Won q s winner best = (b : Best) → best ≡ Some b → IsWonBy q s winner b
 
--- all of these candidates but those that are left were tried, and this is the best of what they gave
+-- all of these candidates but those that are left were tried, and this is the best of what they
+-- gave
 pub record IsBest (q : Facts) (s : ℕ) (all left : List Arrangement) (best : Option Best)
     : Type 0 where
   pub tried : IsSoFar all left (FitsWith q s) q.last (finish_of best)
@@ -77,17 +79,21 @@ abbrev pub StaysBest :
 StaysBest q s left left' best best' =
     (all : List Arrangement) → IsBest q s all left best → IsBest q s all left' best'
 
--- a candidate is being laid out, and what its layout comes to is its least finish under the cap; its
--- precondition is true as long as the layout stays alike
+-- a candidate is being laid out, and what its layout comes to is its least finish under the cap;
+-- its precondition is true as long as the layout stays alike
 pub record IsTrying (q : Facts) (s : ℕ) (c : Arranged) (t : Trial) : Type 0 where
   pub under : IsUnderCap q t
   pub late : s ≤ t.at
   pub holds : (k : ℕ) → t.at ≤ k → k ≤ t.last → q.holds (arrangement_of c) k
   pub zeros : List ℕ
   pub room : length t.finishes.items ≡ length c.children.items
-  pub trial : IsTrialOf q t.cap c.children.items c.sequencing.value.order.items c.sequencing.value.direct zeros t
+  pub trial :
+      IsTrialOf q t.cap c.children.items c.sequencing.value.order.items
+      c.sequencing.value.direct zeros t
   pub gives :
-      (o : Option ℕ) → LaysOut q t.cap c.children.items c.sequencing.value.order.items c.sequencing.value.direct t.at zeros o
+      (o : Option ℕ)
+      → LaysOut q t.cap c.children.items c.sequencing.value.order.items
+      c.sequencing.value.direct t.at zeros o
       → IsLeastWith q s (arrangement_of c) t.cap o
 
 -- what begins a candidate: its precondition is true nowhere under the cap, or it is being laid out
@@ -96,8 +102,8 @@ IsBegun q s c cap o =
     MatchOption o (IsLeastWith q s (arrangement_of c) cap None)
     (λ t. IsTrying q s c t × (t.cap ≡ cap))
 
--- the current candidate is being laid out under the cap that the best so far leaves; of those that were
--- left it is one, and fewer are left
+-- the current candidate is being laid out under the cap that the best so far leaves; of those that
+-- were left it is one, and fewer are left
 pub record IsTurn
     (q : Facts) (n s : ℕ) (best : Option Best) (turn : Turn) (before after : List Arrangement)
     : Type 0 where
@@ -110,8 +116,8 @@ pub record IsTurn
       (c : Arrangement) → Contains (arrangement_of turn.candidate ∷ after) c → Contains before c
   pub fewer : length after < length before
 
--- One node from one start: the current candidate is being laid out under the cap that the best so far
--- leaves, and the winner gave the best so far
+-- One node from one start: the current candidate is being laid out under the cap that the best so
+-- far leaves, and the winner gave the best so far
 pub record IsFrame (q : Facts) (n s : ℕ) (f : Frame) (left : List Arrangement) : Type 0 where
   pub trying : IsTrying q s f.candidate f.trial
   pub cap : cap_under q.last (finish_of f.best) ≡ Some f.trial.cap
@@ -120,8 +126,8 @@ pub record IsFrame (q : Facts) (n s : ℕ) (f : Frame) (left : List Arrangement)
   pub rest : AreArranged q n left
   pub won : Won q s (arrangement_of f.winner) f.best
 
--- The next turn, where these candidates were left and now those are: there is none, and the best is the
--- least finish; or the candidate of the turn and those left are all that were not tried
+-- The next turn, where these candidates were left and now those are: there is none, and the best is
+-- the least finish; or the candidate of the turn and those left are all that were not tried
 abbrev pub IsNext :
     Facts → ℕ → Option Best → List Arrangement → List Arrangement → Option Turn → Type 0
 IsNext q s best left left' None = Decides q s left best best

@@ -48,9 +48,10 @@ arranged_with l cs =
       direct = l.sequencing.value.direct;
     }
 
--- All possible candidates of the node of number v are to come: these are the node's children, and the
--- subtasks are laid out as its method allows, and the spans are those of the tree
-pub record ListsAll (w : World) (t : PlanTree) (v : ℕ) (ever : Option (List (List ℕ))) (l : Lister) : Type 0 where
+-- All possible candidates of the node of number v are to come: these are the node's children, and
+-- the subtasks are laid out as its method allows, and the spans are those of the tree
+pub record ListsAll (w : World) (t : PlanTree) (v : ℕ) (ever : Option (List (List ℕ)))
+    (l : Lister) : Type 0 where
   pub of_node : l.node ≡ v
   pub node : Node
   pub has_node : slice_get t.nodes v ≡ Some node
@@ -61,11 +62,12 @@ pub record ListsAll (w : World) (t : PlanTree) (v : ℕ) (ever : Option (List (L
   pub spans : AreSpans t l.spans.value
   pub all : HasAllAt w t v ever l.coming
 
--- each atom that is true in a state from a start on in which the node of number v may begin has its row
--- among these
+-- each atom that is true in a state from a start on in which the node of number v may begin has its
+-- row among these
 abbrev pub HasAllFrom : Setting → ℕ → ℕ → List (List ℕ) → Type 0
 HasAllFrom q v start rows =
-    (k f : ℕ) (g : GroundAtom) → start ≤ k → k ≤ last q → FitsNode q v k f → StateAt q.plan k g → is_listed rows g ≡ true
+    (k f : ℕ) (g : GroundAtom) → start ≤ k → k ≤ last q → FitsNode q v k f → StateAt q.plan k g
+    → is_listed rows g ≡ true
 
 -- so it has where rows are given, and preconditions count then
 abbrev pub IsEver : Setting → ℕ → ℕ → Option (List (List ℕ)) → Type 0

@@ -33,7 +33,8 @@ IsSmall o = (f : ℕ) → o ≡ Some f → f < 4294967295
 abbrev pub in_span : Span → ℕ → Option Run
 in_span p s =
     if nat_le p.first s
-    then (if nat_le s p.last then Some (record { last = p.last; finish = finish_from p.finish }) else None)
+    then (if nat_le s p.last then Some
+    (record { last = p.last; finish = finish_from p.finish }) else None)
     else None
 
 -- the one that is there, or else the other
@@ -112,7 +113,8 @@ pub record SameRuns (m m' : Memo) : Type 0 where
 
 -- a run of a node from a start on is kept with its winner, where there is a place for it
 abbrev pub IsRemembered : Memo → Memo → ℕ → ℕ → Settled → Type 0
-IsRemembered m m' v s r = m'.won.items ≡ slice_set m.won.items v (Some (record { start = s; settled = r }))
+IsRemembered m m' v s r =
+    m'.won.items ≡ slice_set m.won.items v (Some (record { start = s; settled = r }))
 
 -- there are no other winners than before
 pub record OnlyTaken (m m' : Memo) : Type 0 where

@@ -16,8 +16,8 @@ pub record FitsWithOne (q : Facts) (v s f : ℕ) : Type 0 where
   pub is_candidate : q.is_candidate v candidate
   pub fits : FitsWith q s candidate f
 
--- These are candidates of the node, and where it fits with any candidate from a start on, it does with
--- one of these
+-- These are candidates of the node, and where it fits with any candidate from a start on, it does
+-- with one of these
 pub record AreAllOf (q : Facts) (v start : ℕ) (all : List Arrangement) : Type 0 where
   pub each : (c : Arrangement) → Contains all c → q.is_candidate v c
   pub with_one : (s f : ℕ) → start ≤ s → FitsWithOne q v s f → Gives all (FitsWith q s) f
@@ -48,8 +48,13 @@ pub record IsSettled (q : Facts) (v s : ℕ) (r : Settled) : Type 0 where
   pub run : IsNodeRun q v s r.run
   pub winner : IsWinnerOf q v r.run r.winner
 
--- what the best of a node's candidates comes to: where there is none, there is none for any later start
+-- what the best of a node's candidates comes to: where there is none, there is none for any later
+-- start
 abbrev pub settled_by : Option Winner → ℕ → Settled
 settled_by None n = record { run = record { last = n; finish = None }; winner = None }
 settled_by (Some w) n =
-    record { run = record { last = w.best.last; finish = Some w.best.finish }; winner = Some w.candidate }
+    record {
+      run = record { last = w.best.last; finish = Some w.best.finish };
+      winner =
+          Some w.candidate;
+    }

@@ -14,8 +14,8 @@ use Rattle.hv_order.specs.inside.Arrangements.{Arrangement, listed_before}
 use Rattle.hv_order.specs.inside.Facts.{Facts}
 use Rattle.hv_order.specs.inside.Layouts.{IsOrderOf, AreDirect}
 
--- The tree is one of the world, which is sound, and the plan has its actions. The initial network has
--- no precondition, and 32 bits are enough for one state more than there are
+-- The tree is one of the world, which is sound, and the plan has its actions. The initial network
+-- has no precondition, and 32 bits are enough for one state more than there are
 pub record IsSetting (q : Setting) : Type 0 where
   pub tree : IsTreeIn q.plan.world q.tree
   pub actions : q.plan.actions ≡ q.tree.actions
@@ -43,8 +43,8 @@ HoldsFor q c k = OfMethod q c.node (λ m. HoldsAt q m c.objects k)
 abbrev pub child_in : List Item → ℕ → Item
 child_in xs x = slice_index_or xs x (Act 0)
 
--- It is a candidate of the node of number v: some matching says which child stands for each subtask,
--- and its order is one that the method allows, with those directly before each subtask
+-- It is a candidate of the node of number v: some matching says which child stands for each
+-- subtask, and its order is one that the method allows, with those directly before each subtask
 pub record Arranges (q : Setting) (v : ℕ) (c : Arrangement) : Type 0 where
   pub of_node : c.node ≡ v
   pub node : Node

@@ -19,8 +19,8 @@ use Rattle.hv_order.specs.declared.solve.Outcome.TheVariants as outcome
 use Rattle.hv_order.specs.declared.trial.Arranged.{Arranged}
 use Rattle.hv_order.specs.declared.trial.Progress.{Progress}
 
--- A node is worked out from a frame's start on: the frame's candidate and those that are left are all
--- of the node's that were not tried
+-- A node is worked out from a frame's start on: the frame's candidate and those that are left are
+-- all of the node's that were not tried
 pub record IsWorking (q : Facts) (size v : ℕ) (f : Frame) (left : List Arrangement) : Type 0 where
   pub within : v < size
   pub start : f.start ≤ q.last

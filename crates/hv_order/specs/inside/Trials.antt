@@ -20,8 +20,8 @@ AreWithin n is = All (λ i. i < n) is
 abbrev pub HasFinish : Facts → ℕ → List Child → ℕ → ℕ → Option ℕ → Type 0
 HasFinish q cap children j s r = IsLeast (ChildFits q.fits (child_at children j) s) cap r
 
--- a start up to which a layout stays alike with a subtask more that finishes alike up to `end`: only
--- one with nothing directly before it begins where the layout does
+-- a start up to which a layout stays alike with a subtask more that finishes alike up to `end`:
+-- only one with nothing directly before it begins where the layout does
 abbrev pub alike_until : List ℕ → ℕ → ℕ → ℕ
 alike_until [] last end = min last end
 alike_until (i ∷ is) last end = last
@@ -56,7 +56,8 @@ IsTrialOf q cap children order direct zeros t =
     IsTrial (HasFinish q cap children) (listed_before direct) order zeros t
 
 -- the whole layout behind `at` comes to o
-abbrev pub LaysOut : Facts → ℕ → List Child → List ℕ → List (List ℕ) → ℕ → List ℕ → Option ℕ → Type 0
+abbrev pub LaysOut : Facts → ℕ → List Child → List ℕ → List (List ℕ) → ℕ → List ℕ → Option ℕ
+    → Type 0
 LaysOut q cap children order direct at zeros o =
     Lays (HasFinish q cap children) (listed_before direct) at zeros at order o
 

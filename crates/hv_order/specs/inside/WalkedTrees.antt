@@ -32,6 +32,7 @@ abbrev pub IsChosenAt : Facts → List (Option Stand) → ℕ → Meaning → Ty
 IsChosenAt q stands v m = (s : Stand) → said_of stands v ≡ Some s → IsMeaningOf q (winner_of s) m
 
 -- the choice is of the candidates by which so many nodes stand
-pub record IsChosen (q : Facts) (count : ℕ) (stands : List (Option Stand)) (o : Choice) : Type 0 where
+pub record IsChosen (q : Facts) (count : ℕ) (stands : List (Option Stand))
+    (o : Choice) : Type 0 where
   pub root : IsChosenAt q stands (root_of count) o.root
   pub line : (v : ℕ) → IsChosenAt q stands v (o.line v)

@@ -97,4 +97,5 @@ pub record AreWalked (q : Facts) (count : ℕ) (stands : List (Option Stand)) : 
 
 -- the root has no finish from the first state on, or all nodes are walked from it
 abbrev pub IsWalk : Facts → ℕ → Option (List (Option Stand)) → Type 0
-IsWalk q count o = MatchOption o (IsLeast (q.fits (root_of count) 0) q.last None) (AreWalked q count)
+IsWalk q count o =
+    MatchOption o (IsLeast (q.fits (root_of count) 0) q.last None) (AreWalked q count)

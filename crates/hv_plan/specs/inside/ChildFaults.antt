@@ -32,9 +32,11 @@ IsChildFault w p q kinds.ArgumentType = ⊥
 IsChildFault w p q kinds.NotPrimitive = ⊥
 IsChildFault w p q kinds.NotAbstract = ⊥
 IsChildFault w p q kinds.OtherTask = ⊥
-IsChildFault w p q kinds.ChildCount = (m : Method) × (method_of w q.method ≡ Some m) × (length q.children ≡ length m.network.subtasks → ⊥)
+IsChildFault w p q kinds.ChildCount = (m : Method) × (method_of w q.method ≡ Some m)
+    × (length q.children ≡ length m.network.subtasks → ⊥)
 IsChildFault w p q kinds.ChildNames =
-    (m : Method) × (names : List TaskName) × (n : TaskName) × (method_of w q.method ≡ Some m) × AllZip (IsNamed w p) q.children names
+    (m : Method) × (names : List TaskName) × (n : TaskName) × (method_of w q.method ≡ Some m)
+    × AllZip (IsNamed w p) q.children names
     × (multiplicity n names ≡ multiplicity n (names_of m.network.subtasks) → ⊥)
 
 -- the children of one of these lines, with this number, are at fault for this cause
@@ -43,17 +45,20 @@ ChildFaultIn w p qs k l = (q : Parent) × Contains qs q × IsChildFault w p q k 
 
 -- what names an item, by what the lines were found to say
 abbrev pub said_name : Said → Item → Option TaskName
-said_name s x = item_name (ground_actions_view s.actions.now) (decomposed_lines s.lines.now) s.places.now x
+said_name s x =
+    item_name (ground_actions_view s.actions.now) (decomposed_lines s.lines.now) s.places.now x
 
 -- items have names, each of a task or an action that has a number
-pub record AreNumbered (tasks actions : ℕ) (name : Item → Option TaskName) (xs : List Item) : Type 0 where
+pub record AreNumbered (tasks actions : ℕ) (name : Item → Option TaskName)
+    (xs : List Item) : Type 0 where
   pub names : List TaskName
   pub named : every name xs ≡ Some names
   pub numbered : IsSome (every (number_in tasks actions) names)
 
 -- why the names of the children of a line are not those of subtasks, each as often
 abbrev pub IsMethodCause : List TaskName → List TaskName → ℕ → Option Cause → Type 0
-IsMethodCause ns ms l o = MatchOption o (HaveSameNames ns ms) (λ c. (c.line ≡ l) × IsNamesFault ns ms c.kind)
+IsMethodCause ns ms l o =
+    MatchOption o (HaveSameNames ns ms) (λ c. (c.line ≡ l) × IsNamesFault ns ms c.kind)
 
 -- what names the items of a plan of this shape is what its lines say
 pub record IsSaid (w : World) (p : Plan) (s : Shape) (x : Said) : Type 0 where

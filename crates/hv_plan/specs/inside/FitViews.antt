@@ -37,10 +37,12 @@ abbrev pub grounded_view : code_action.Grounded → GroundAction
 grounded_view g = ground_action g.action.0 (map object_number g.objects.items)
 
 abbrev pub decomposed_view : code.Decomposed → Decomposed
-decomposed_view x = record { task = x.task.0; objects = map object_number x.objects.items; method = x.method.0 }
+decomposed_view x =
+    record { task = x.task.0; objects = map object_number x.objects.items; method = x.method.0 }
 
 abbrev pub decomposed_line : code_line.DecomposedLine → Decomposed
-decomposed_line x = record { task = x.task.0; objects = map object_number x.objects.now; method = x.method.0 }
+decomposed_line x =
+    record { task = x.task.0; objects = map object_number x.objects.now; method = x.method.0 }
 
 abbrev pub headed : code_head.DecomposedHead → List ObjectId → Decomposed
 headed h os = record { task = h.task.0; objects = map object_number os; method = h.method.0 }
@@ -70,13 +72,15 @@ IsTold (Err faults.Memory) = ⊥
 
 -- The cause that is reported of those for which one of these lines is at fault by itself; and where
 -- there is none, what each line says
-pub record AreFitted {D N : Type 0} (w : World) (entry : D → Entry) (Is : D → N → Type 0) (ds : List D) (ns : List N) (c : Option Cause) : Type 0 where
+pub record AreFitted {D N : Type 0} (w : World) (entry : D → Entry) (Is : D → N → Type 0)
+    (ds : List D) (ns : List N) (c : Option Cause) : Type 0 where
   pub cause : IsEarliest (FaultIn w (map entry ds)) c
   pub said : c ≡ None → AllZip Is ds ns
 
--- the action or the task of an item, by the actions, by what the decomposition lines say, and by the
--- place of the line of each node
+-- the action or the task of an item, by the actions, by what the decomposition lines say, and by
+-- the place of the line of each node
 abbrev pub item_name : List GroundAction → List Decomposed → List ℕ → Item → Option TaskName
 item_name as' ds places (Act k) = option_map (λ a. primitive a.action) (slice_get as' k)
-item_name as' ds places (Task v) = option_and_then (λ k. option_map (λ d. compound d.task) (slice_get ds k)) (slice_get places v)
+item_name as' ds places (Task v) =
+    option_and_then (λ k. option_map (λ d. compound d.task) (slice_get ds k)) (slice_get places v)
 item_name as' ds places (Pre v) = None

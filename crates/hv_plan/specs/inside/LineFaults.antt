@@ -14,7 +14,8 @@ use Rattle.hv_plan.specs.declared.cause.Cause.{Cause}
 use Rattle.hv_plan.specs.declared.fit.LineFault.{LineFault}
 use Rattle.hv_plan.specs.declared.fit.LineFault.TheVariants as faults
 
--- a line that begins with an id: what it says of the id, and the method where it is a decomposition line
+-- a line that begins with an id: what it says of the id, and the method where it is a decomposition
+-- line
 pub record Entry : Type 0 where
   pub said : Action
   pub method : Option (List ℕ)
@@ -37,15 +38,21 @@ IsAtFault w e kinds.TwoParents = ⊥
 IsAtFault w e kinds.Unreached = ⊥
 IsAtFault w e kinds.UnknownTask = task_named w e.said.name ≡ None
 IsAtFault w e kinds.UnknownMethod = (n : List ℕ) × (e.method ≡ Some n) × (method_named w n ≡ None)
-IsAtFault w e kinds.UnknownObject = (n : List ℕ) × Contains e.said.arguments n × (place_in w.objects n ≡ None)
+IsAtFault w e kinds.UnknownObject = (n : List ℕ) × Contains e.said.arguments n
+    × (place_in w.objects n ≡ None)
 IsAtFault w e kinds.ArgumentCount =
-    (t : TaskName) × (task_named w e.said.name ≡ Some t) × (length e.said.arguments ≡ length (parameters_of w t) → ⊥)
+    (t : TaskName) × (task_named w e.said.name ≡ Some t)
+    × (length e.said.arguments ≡ length (parameters_of w t) → ⊥)
 IsAtFault w e kinds.ArgumentType =
-    (t : TaskName) × (os : List ℕ) × (task_named w e.said.name ≡ Some t) × AreObjects w e.said.arguments os × (AreOf w.typing os (parameters_of w t) → ⊥)
-IsAtFault w e kinds.NotPrimitive = (t : ℕ) × (e.method ≡ None) × (task_named w e.said.name ≡ Some (compound t))
-IsAtFault w e kinds.NotAbstract = (n : List ℕ) × (a : ℕ) × (e.method ≡ Some n) × (task_named w e.said.name ≡ Some (primitive a))
+    (t : TaskName) × (os : List ℕ) × (task_named w e.said.name ≡ Some t)
+    × AreObjects w e.said.arguments os × (AreOf w.typing os (parameters_of w t) → ⊥)
+IsAtFault w e kinds.NotPrimitive = (t : ℕ) × (e.method ≡ None)
+    × (task_named w e.said.name ≡ Some (compound t))
+IsAtFault w e kinds.NotAbstract = (n : List ℕ) × (a : ℕ) × (e.method ≡ Some n)
+    × (task_named w e.said.name ≡ Some (primitive a))
 IsAtFault w e kinds.OtherTask =
-    (n : List ℕ) × (t : ℕ) × (m : Method) × (e.method ≡ Some n) × (task_named w e.said.name ≡ Some (compound t))
+    (n : List ℕ) × (t : ℕ) × (m : Method) × (e.method ≡ Some n)
+    × (task_named w e.said.name ≡ Some (compound t))
     × (method_of w (Some n) ≡ Some m) × (IsForTask m.task t → ⊥)
 IsAtFault w e kinds.ChildCount = ⊥
 IsAtFault w e kinds.ChildNames = ⊥
@@ -58,12 +65,15 @@ pub record IsSmallest (w : World) (e : Entry) (k : CauseKind) : Type 0 where
 -- what keeps objects from being as the parameters of a task or an action
 pub data IsObjectFault (w : World) (t : TaskName) (os : List ℕ) : CauseKind → Type 0 where
   count : (length os ≡ length (parameters_of w t) → ⊥) → IsObjectFault w t os kinds.ArgumentCount
-  type : length os ≡ length (parameters_of w t) → (AreOf w.typing os (parameters_of w t) → ⊥) → IsObjectFault w t os kinds.ArgumentType
+  type : length os ≡ length (parameters_of w t) → (AreOf w.typing os (parameters_of w t) → ⊥)
+      → IsObjectFault w t os kinds.ArgumentType
 
 -- what keeps arguments from being objects that are as the parameters of a task or an action
 pub data IsArgumentFault (w : World) (t : TaskName) (ns : List (List ℕ)) : CauseKind → Type 0 where
-  unknown : (n : List ℕ) → Contains ns n → place_in w.objects n ≡ None → IsArgumentFault w t ns kinds.UnknownObject
-  objects : (os : List ℕ) (k : CauseKind) → AreObjects w ns os → IsObjectFault w t os k → IsArgumentFault w t ns k
+  unknown : (n : List ℕ) → Contains ns n → place_in w.objects n ≡ None
+      → IsArgumentFault w t ns kinds.UnknownObject
+  objects : (os : List ℕ) (k : CauseKind) → AreObjects w ns os → IsObjectFault w t os k
+      → IsArgumentFault w t ns k
 
 -- arguments are objects that are as the parameters of a task or an action
 pub record AreArguments (w : World) (t : TaskName) (ns : List (List ℕ)) (os : List ℕ) : Type 0 where
@@ -75,12 +85,15 @@ abbrev pub IsLineFault : (CauseKind → Type 0) → LineFault → Type 0
 IsLineFault P (faults.Cause k) = P k
 IsLineFault P faults.Memory = Unit {0}
 
--- a cause comes before another that is not of a smaller number, nor of the same number on an earlier line
+-- a cause comes before another that is not of a smaller number, nor of the same number on an
+-- earlier line
 abbrev pub ComesBefore : Cause → CauseKind → ℕ → Type 0
 ComesBefore c k l = (number c.kind < number k) ⊎ ((number c.kind ≡ number k) × (c.line ≤ l))
 
 abbrev pub comes_before : Cause → Cause → Bool
-comes_before c d = nat_lt (number c.kind) (number d.kind) || (nat_eq (number c.kind) (number d.kind) && nat_le c.line d.line)
+comes_before c d =
+    nat_lt (number c.kind) (number d.kind)
+    || (nat_eq (number c.kind) (number d.kind) && nat_le c.line d.line)
 
 -- the one of two causes that is reported
 abbrev pub earlier : Option Cause → Option Cause → Option Cause

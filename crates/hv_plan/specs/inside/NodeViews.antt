@@ -19,7 +19,8 @@ node_of_line d x xs = record {
 
 -- the node of the root line of this number, with these children
 abbrev pub node_of_root : ℕ → List Item → Node
-node_of_root line xs = record { id = None; line = line; task = None; objects = []; method = None; children = xs }
+node_of_root line xs =
+    record { id = None; line = line; task = None; objects = []; method = None; children = xs }
 
 -- the node of a line that says something, and that of the root line where there is no such line
 abbrev pub node_of : Plan → Option Decomposition → Option Decomposed → List Item → Node
@@ -31,7 +32,8 @@ node_of p None x xs = node_of_root p.root.line xs
 abbrev pub nodes_from : Plan → Shape → List Decomposed → ℕ → List ℕ → List Node
 nodes_from p s xs v [] = node_of p None None (children_of_node s v) ∷ []
 nodes_from p s xs v (k ∷ ks) =
-    node_of p (slice_get p.decompositions k) (slice_get xs k) (children_of_node s v) ∷ nodes_from p s xs (v + 1) ks
+    node_of p (slice_get p.decompositions k) (slice_get xs k) (children_of_node s v)
+    ∷ nodes_from p s xs (v + 1) ks
 
 -- the nodes of a plan of this shape, whose lines say this
 abbrev pub nodes_of : Plan → Shape → List Decomposed → List Node

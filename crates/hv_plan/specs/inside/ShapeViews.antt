@@ -37,7 +37,8 @@ root_node p = length p.decompositions
 
 -- which node stands below which
 abbrev pub shape_tree : Plan → Shape → Tree
-shape_tree p s = record { initial_tasks = children_of_node s (root_node p); children = children_of_node s }
+shape_tree p s =
+    record { initial_tasks = children_of_node s (root_node p); children = children_of_node s }
 
 -- the id of the decomposition line at a place
 abbrev pub line_id : Plan → ℕ → Option ℕ
@@ -49,13 +50,14 @@ Stands p s i (Act k) = slice_get (map (λ a. a.id) p.actions) k ≡ Some i
 Stands p s i (Task v) = option_and_then (line_id p) (slice_get s.lines v) ≡ Some i
 Stands p s i (Pre v) = ⊥
 
--- Nodes and decomposition lines are numbered one by one; the children of each node are what the line
--- names by ids; and the nodes are a numbered tree
+-- Nodes and decomposition lines are numbered one by one; the children of each node are what the
+-- line names by ids; and the nodes are a numbered tree
 pub record IsShape (p : Plan) (s : Shape) : Type 0 where
   pub as_many_lines : length s.lines ≡ length p.decompositions
   pub as_many_numbers : length s.numbers ≡ length p.decompositions
   pub as_many_nodes : length s.children ≡ length p.decompositions + 1
   pub numbered : (v k : ℕ) → (slice_get s.lines v ≡ Some k) ↔ (slice_get s.numbers k ≡ Some v)
   pub of_root : AllZip (Stands p s) p.root.ids (children_of_node s (root_node p))
-  pub of_lines : AllZip (λ d v. AllZip (Stands p s) d.children (children_of_node s v)) p.decompositions s.numbers
+  pub of_lines : AllZip
+      (λ d v. AllZip (Stands p s) d.children (children_of_node s v)) p.decompositions s.numbers
   pub shape : IsNumberedTree (shape_tree p s) (length p.decompositions) (length p.actions)

@@ -1,4 +1,5 @@
--- How the shape of a plan is found: lines of ids, the places of ids, a walk along places, and numbers.
+-- How the shape of a plan is found: lines of ids, the places of ids, a walk along places, and
+-- numbers.
 use Rattle.std.specs.Prelude.{◌≡◌, zero, suc, take, drop, ◌+◌, ◌-◌, ◌<◌, ◌≤◌, ℕ, Bool, true, false, List, [], ◌∷◌, ◌++◌, map, flat_map, length, min, max, nat_eq, nat_lt, slice_index, slice_index_or, Contains, Option, Some, None, if◌then◌else◌}
 use Rattle.std.specs.List.{list_any}
 use Rattle.hv_lists.specs.Lists.{Once}
@@ -71,9 +72,11 @@ is_marked marks k = slice_index_or marks k false
 abbrev pub places_of_lines : List ℕ → Plan → List (List ℕ)
 places_of_lines is p = map (λ d. map (place_of is) d.children) p.decompositions
 
--- the places of the children of a place, where the first places are those of actions, which have none
+-- the places of the children of a place, where the first places are those of actions, which have
+-- none
 abbrev pub kids : List (List ℕ) → ℕ → ℕ → List ℕ
-kids lists actions place = if nat_lt place actions then [] else slice_index_or lists (place - actions) []
+kids lists actions place =
+    if nat_lt place actions then [] else slice_index_or lists (place - actions) []
 
 -- what was met is marked, and was met once
 pub record IsMeeting (met : List ℕ) (marks : List Bool) : Type 0 where
@@ -92,7 +95,8 @@ pub record Grows (old these new : List ℕ) : Type 0 where
 -- what was met is a child of the root, or of one that was met before it
 pub data Comes (root : List ℕ) (kids : ℕ → List ℕ) (met : List ℕ) (b : ℕ) : Type 0 where
   of_root : Contains root (slice_index met b) → Comes root kids met b
-  of_one : (a : ℕ) → a < b → Contains (kids (slice_index met a)) (slice_index met b) → Comes root kids met b
+  of_one : (a : ℕ) → a < b → Contains (kids (slice_index met a)) (slice_index met b)
+      → Comes root kids met b
 
 -- what stands below the root and below each place stands there once, and below nothing else
 pub record AreApart (root : List ℕ) (kids : ℕ → List ℕ) : Type 0 where
@@ -102,7 +106,8 @@ pub record AreApart (root : List ℕ) (kids : ℕ → List ℕ) : Type 0 where
   pub below_one : (a b c : ℕ) → Contains (kids a) c → Contains (kids b) c → a ≡ b
 
 -- where a walk is that has looked below the first it met
-pub record IsWalking (root : List ℕ) (kids : ℕ → List ℕ) (looked : ℕ) (met : List ℕ) (marks : List Bool) : Type 0 where
+pub record IsWalking (root : List ℕ) (kids : ℕ → List ℕ) (looked : ℕ) (met : List ℕ)
+    (marks : List Bool) : Type 0 where
   pub meeting : IsMeeting met marks
   pub has_root : (c : ℕ) → Contains root c → Contains met c
   pub closed : (a c : ℕ) → a < looked → Contains (kids (slice_index met a)) c → Contains met c
@@ -129,18 +134,25 @@ abbrev pub backward : List ℕ → ℕ → List ℕ
 backward xs zero = []
 backward xs (suc n) = slice_index xs n ∷ backward xs n
 
--- The lines among what was met from a place of the walk on are numbered, those met later by lower numbers
+-- The lines among what was met from a place of the walk on are numbered, those met later by lower
+-- numbers
 pub record IsNumbering (actions from : ℕ) (met lines numbers : List ℕ) : Type 0 where
-  pub back : (v : ℕ) → v < length lines → (slice_index lines v < length numbers) × (slice_index numbers (slice_index lines v) ≡ v)
-  pub was_met : (v : ℕ) → v < length lines → (b : ℕ) × (from ≤ b) × (b < length met) × (slice_index met b ≡ actions + slice_index lines v)
-  pub given : (b k : ℕ) → from ≤ b → b < length met → slice_index met b ≡ actions + k → (slice_index numbers k < length lines) × (slice_index lines (slice_index numbers k) ≡ k)
-  pub falling : (a b j k : ℕ) → from ≤ a → a < b → b < length met → slice_index met a ≡ actions + j → slice_index met b ≡ actions + k
+  pub back : (v : ℕ) → v < length lines
+      → (slice_index lines v < length numbers) × (slice_index numbers (slice_index lines v) ≡ v)
+  pub was_met : (v : ℕ) → v < length lines
+      → (b : ℕ) × (from ≤ b) × (b < length met)
+      × (slice_index met b ≡ actions + slice_index lines v)
+  pub given : (b k : ℕ) → from ≤ b → b < length met → slice_index met b ≡ actions + k
+      → (slice_index numbers k < length lines) × (slice_index lines (slice_index numbers k) ≡ k)
+  pub falling : (a b j k : ℕ) → from ≤ a → a < b → b < length met → slice_index met a ≡ actions + j
+      → slice_index met b ≡ actions + k
       → slice_index numbers k < slice_index numbers j
   pub in_order : flat_map (line_in actions) (drop from met) ≡ backward lines (length lines)
 
 -- what stands at a place: an action, or the node of a line
 abbrev pub item : ℕ → List ℕ → ℕ → Item
-item actions numbers place = if nat_lt place actions then Act place else Task (slice_index numbers (place - actions))
+item actions numbers place =
+    if nat_lt place actions then Act place else Task (slice_index numbers (place - actions))
 
 -- what stands at the places of a list
 abbrev pub items_at : ℕ → List ℕ → List ℕ → List Item
@@ -149,4 +161,5 @@ items_at actions numbers places = map (item actions numbers) places
 -- the children of nodes by number, and those of the root line
 abbrev pub children_by_number : ℕ → List ℕ → List ℕ → List ℕ → List (List ℕ) → List (List Item)
 children_by_number actions lines numbers root lists =
-    map (λ k. items_at actions numbers (slice_index_or lists k [])) lines ++ items_at actions numbers root ∷ []
+    map (λ k. items_at actions numbers (slice_index_or lists k [])) lines
+    ++ items_at actions numbers root ∷ []

@@ -39,15 +39,20 @@ is_within count places k = nat_lt (slice_index places k) count
 abbrev pub TakesIn : Table → Table → List ℕ → List ℕ → ℕ → Type 0
 TakesIn old new ids lines place =
     let id = slice_index ids place in
-    (q : ℕ) → line_by new lines q ≡ update nat_eq (line_by old lines) id (Some (first_of (slice_index lines place) (line_by old lines id))) q
+    (q : ℕ) → line_by new lines q
+    ≡ update nat_eq (line_by old lines) id
+    (Some (first_of (slice_index lines place) (line_by old lines id))) q
 
 -- where the id at a place has a line in a table, the later of that and the one at the place
 abbrev pub line_again : Table → List ℕ → List ℕ → ℕ → Option ℕ
-line_again t ids lines place = again_of (slice_index lines place) (line_by t lines (slice_index ids place))
+line_again t ids lines place =
+    again_of (slice_index lines place) (line_by t lines (slice_index ids place))
 
 -- a list takes in a line for a place: it has the first of the lines of each place
 abbrev pub HasFirst : List (Option ℕ) → List (Option ℕ) → ℕ → ℕ → Type 0
-HasFirst old new place line = (q : ℕ) → get_or new q None ≡ update nat_eq (λ k. get_or old k None) place (Some (first_of line (get_or old place None))) q
+HasFirst old new place line = (q : ℕ)
+    → get_or new q None
+    ≡ update nat_eq (λ k. get_or old k None) place (Some (first_of line (get_or old place None))) q
 
 -- the first line that has an id for a second time, and the first that has what has not passed
 abbrev pub IsSecond : List ℕ → List ℕ → Option ℕ → Type 0
@@ -57,7 +62,8 @@ abbrev pub IsLineRepeat : Plan → Option ℕ → Type 0
 IsLineRepeat p o = IsSecond (ids p) (lines_of_heads p) o
 
 abbrev pub IsUnplaced : ℕ → List ℕ → List ℕ → Option ℕ → Type 0
-IsUnplaced count places lines o = IsFirst (IsMissed (is_within count places) lines (length places)) o
+IsUnplaced count places lines o =
+    IsFirst (IsMissed (is_within count places) lines (length places)) o
 
 -- the children of decomposition lines
 abbrev pub line_children : List Decomposition → List ℕ

@@ -22,4 +22,5 @@ pub record HaveSameNames (ns ms : List TaskName) : Type 0 where
 -- why names are not those of subtasks, each as often
 pub data IsNamesFault (ns ms : List TaskName) : CauseKind → Type 0 where
   count : (length ns ≡ length ms → ⊥) → IsNamesFault ns ms kinds.ChildCount
-  names : length ns ≡ length ms → (n : TaskName) → (multiplicity n ns ≡ multiplicity n ms → ⊥) → IsNamesFault ns ms kinds.ChildNames
+  names : length ns ≡ length ms → (n : TaskName) → (multiplicity n ns ≡ multiplicity n ms → ⊥)
+      → IsNamesFault ns ms kinds.ChildNames

@@ -33,7 +33,8 @@ abbrev pub as_id : Option ℕ → Id
 as_id None = ids.NoId
 as_id (Some i) = if is_id i then ids.Fits i else ids.TooLarge
 
--- what words are as ids: ids that all have at most 64 bits, ids of which some is larger, or not all ids
+-- what words are as ids: ids that all have at most 64 bits, ids of which some is larger, or not all
+-- ids
 pub data Found : Type 0 where
   fitting : List ℕ → Found
   too_large : Found
@@ -83,4 +84,12 @@ decomposition_said n ids.TooLarge t v (fitting is) = Err (faults.IdTooLarge n)
 decomposition_said n (ids.Fits i) t v no_ids = Err (faults.BadLine n)
 decomposition_said n (ids.Fits i) t v too_large = Err (faults.IdTooLarge n)
 decomposition_said n (ids.Fits i) t v (fitting is) =
-    Ok (decomposition (record { id = i; name = t.name; arguments = t.arguments; method = v; children = is; line = n }))
+    Ok (decomposition
+    (record {
+      id = i;
+      name = t.name;
+      arguments = t.arguments;
+      method = v;
+      children = is;
+      line = n;
+    }))

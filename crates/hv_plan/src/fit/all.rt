@@ -1,4 +1,5 @@
-//! What all lines of a plan say, or the cause that is reported of those for which a line is at fault by itself.
+//! What all lines of a plan say, or the cause that is reported of those for which a line is at
+//! fault by itself.
 
 ghost use Rattle.std.specs.Prelude.{◌≡◌, ◌++◌, map, IfOk, IfErr, OnOk};
 ghost use Rattle.std.specs.List.{AllZip};
@@ -19,7 +20,8 @@ use hv_text::Memory;
 use hv_world::{GroundActions, ObjectId, World};
 use std::alloc::Global;
 
-/// What the lines of a plan say: the action of each action line, and what each decomposition line says.
+/// What the lines of a plan say: the action of each action line, and what each decomposition line
+/// says.
 #[derive(Drop)]
 pub(crate) struct Fits {
     pub(crate) actions: GroundActions,
@@ -40,8 +42,8 @@ struct FittedLines {
     cause: Option<Cause>,
 }
 
-// Notes what an action line says, or the cause where it comes before the one that was found. The list of
-// its objects is given back, to be used again.
+// Notes what an action line says, or the cause where it comes before the one that was found. The
+// list of its objects is given back, to be used again.
 fn note_action(
     alloc: Global,
     actions: &mut GroundActions,
@@ -67,8 +69,8 @@ fn note_action(
     }
 }
 
-// Notes what a decomposition line says, or the cause where it comes before the one that was found. The
-// list of its objects is given back, to be used again.
+// Notes what a decomposition line says, or the cause where it comes before the one that was found.
+// The list of its objects is given back, to be used again.
 fn note_line(
     alloc: Global,
     lines: &mut DecomposedLines,

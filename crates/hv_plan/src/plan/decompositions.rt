@@ -8,8 +8,8 @@ ghost use Rattle.hv_plan.specs.LinesLeft.{decompositions_left};
 use hv_text::{Lists, Memory, Name};
 use std::alloc::Global;
 
-/// A line that says: the node of this id is this task with these arguments, and this method decomposes it
-/// into the nodes of these ids.
+/// A line that says: the node of this id is this task with these arguments, and this method
+/// decomposes it into the nodes of these ids.
 #[derive(Clone, Copy)]
 pub struct DecompositionLine<'p, 's> {
     pub(crate) id: u64,
@@ -29,7 +29,8 @@ struct DecompositionHead<'s> {
     line: u32,
 }
 
-/// Decomposition lines. The arguments of all of them stand one after another, and so do their children.
+/// Decomposition lines. The arguments of all of them stand one after another, and so do their
+/// children.
 #[derive(Drop)]
 pub struct DecompositionLines<'s> {
     heads: Vec<DecompositionHead<'s>>,
@@ -189,7 +190,8 @@ impl<'s> DecompositionLines<'s> {
     ///
     /// # Errors
     ///
-    /// `Memory` where a growth was refused, or where all lines together would have 2^32 arguments or children.
+    /// `Memory` where a growth was refused, or where all lines together would have 2^32 arguments
+    /// or children.
     pub(crate) fn push(&mut self, line: DecompositionLine<'_, 's>) -> Result<(), Memory>
         requires { AreTidy self.old }
         ensures lines { OnOk result

@@ -5,13 +5,14 @@ ghost use Rattle.std.specs.Prelude.{◌≡◌, ◌+◌, ◌<◌, ◌^◌, All, l
 use crate::tree::Child;
 use hv_text::Lists;
 
-/// What stands below what in a plan. Each decomposition line has a node, with a number less than that
-/// of the line that names it as a child; the last node is that of the root line.
+/// What stands below what in a plan. Each decomposition line has a node, with a number less than
+/// that of the line that names it as a child; the last node is that of the root line.
 #[derive(Drop)]
 pub(crate) struct Shape {
     /// The number of the node of the root line.
     pub(crate) root: u32,
-    /// The place in the list of decomposition lines of each node below that of the root line, children before parents.
+    /// The place in the list of decomposition lines of each node below that of the root line,
+    /// children before parents.
     pub(crate) lines: Vec<u32>,
     /// The number of the node of each decomposition line.
     pub(crate) numbers: Vec<u32>,

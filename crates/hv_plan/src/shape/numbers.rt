@@ -68,7 +68,8 @@ fn give_number(
     Ok(())
 }
 
-/// The numbers of the decomposition lines that a walk has met, the last of them first. What was met is dropped.
+/// The numbers of the decomposition lines that a walk has met, the last of them first. What was met
+/// is dropped.
 pub(super) fn number_met(
     alloc: Global,
     actions: usize,

@@ -14,8 +14,8 @@ use crate::plan::PlanText;
 use hv_text::Memory;
 use std::alloc::Global;
 
-/// The places of ids, and where an id stands on two places, the later of their lines; of all these lines
-/// the first.
+/// The places of ids, and where an id stands on two places, the later of their lines; of all these
+/// lines the first.
 #[derive(Drop)]
 pub(super) struct Tabled {
     pub(super) table: Table,
@@ -35,7 +35,8 @@ pub(super) fn earlier(one: Option<u32>, other: Option<u32>) -> Option<u32>
     }
 }
 
-// Takes in the id at a place: the later of its line and the first one with the id so far, where there is one.
+// Takes in the id at a place: the later of its line and the first one with the id so far, where
+// there is one.
 fn note(
     table: &mut Table,
     plan: &PlanText<'_>,
@@ -79,8 +80,8 @@ fn table_of(alloc: Global, plan: &PlanText<'_>, begins: &[u64]) -> Result<Tabled
     Ok(Tabled { table, repeat })
 }
 
-/// The table of the ids that begin lines; and where an id begins two lines, the later of them, of all
-/// these lines the first.
+/// The table of the ids that begin lines; and where an id begins two lines, the later of them, of
+/// all these lines the first.
 pub(super) fn line_table(alloc: Global, plan: &PlanText<'_>) -> Result<Tabled, Memory>
     ensures repeat { IfOk result (λ t. IsLineRepeat (plan_view plan.now) t.repeat) }
     ensures places { IfOk result (λ t. t.repeat ≡ None
@@ -91,8 +92,8 @@ pub(super) fn line_table(alloc: Global, plan: &PlanText<'_>) -> Result<Tabled, M
     Ok(tabled)
 }
 
-// Takes in a place with the line that names it: the later of this line and the first one with the place
-// so far, where there is one.
+// Takes in a place with the line that names it: the later of this line and the first one with the
+// place so far, where there is one.
 fn note_parent(first_lines: &mut [Option<u32>], place: usize, line: u32) -> Option<u32>
     requires { place < length first_lines.old }
     ensures size { length first_lines.new ≡ length first_lines.old }

@@ -94,7 +94,8 @@ pub(crate) fn put_numbers(
     Ok(true)
 }
 
-/// Puts the numbers of the names of subtasks in place of what a list has; false where one of them has none.
+/// Puts the numbers of the names of subtasks in place of what a list has; false where one of them
+/// has none.
 ///
 /// # Errors
 ///

@@ -35,11 +35,13 @@ abbrev pub AreLit : List (List ℕ) → List ℕ → List (List ℕ) → List �
 AreLit rows old more new = (r : List ℕ) → Lit (rows, new) r ↔ (Lit (rows, old) r ⊎ Contains more r)
 
 abbrev pub AreDark : List (List ℕ) → List ℕ → List (List ℕ) → List ℕ → Type 0
-AreDark rows old gone new = (r : List ℕ) → Lit (rows, new) r ↔ (Lit (rows, old) r × (Contains gone r → ⊥))
+AreDark rows old gone new = (r : List ℕ)
+    → Lit (rows, new) r ↔ (Lit (rows, old) r × (Contains gone r → ⊥))
 
 -- the bits of deletes cleared, and then those of adds set
 abbrev pub IsChanged : List (List ℕ) → List ℕ → List (List ℕ) → List (List ℕ) → List ℕ → Type 0
-IsChanged rows old deletes adds new = (r : List ℕ) → Lit (rows, new) r ↔ ((Lit (rows, old) r × (Contains deletes r → ⊥)) ⊎ Contains adds r)
+IsChanged rows old deletes adds new = (r : List ℕ)
+    → Lit (rows, new) r ↔ ((Lit (rows, old) r × (Contains deletes r → ⊥)) ⊎ Contains adds r)
 
 -- new are the rows of more that others lack
 pub record AreLacking (rows more new : List (List ℕ)) : Type 0 where

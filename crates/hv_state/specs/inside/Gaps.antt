@@ -18,7 +18,8 @@ denied_alone (forall ts f) = []
 denied_alone (exists ts f) = []
 denied_alone (equal s t) = []
 
--- the atoms without which a formula is true, as far as its form shows: those that its premise needs, or what it says is not so
+-- the atoms without which a formula is true, as far as its form shows: those that its premise
+-- needs, or what it says is not so
 abbrev pub denied : Formula → List Atom
 denied (holds a) = []
 denied (and fs) = []
@@ -39,7 +40,8 @@ IsNext env t = (n : ℕ) (more : List ℕ) → object_of ((env ++ n ∷ []) ++ m
 
 -- the next variable is the atom's last term, and all others stand for objects
 abbrev pub EndsIn : List ℕ → Atom → Type 0
-EndsIn env a = (os : List ℕ) × ((n : ℕ) (more : List ℕ) → map (object_of ((env ++ n ∷ []) ++ more)) a.terms ≡ os ++ n ∷ [])
+EndsIn env a = (os : List ℕ)
+    × ((n : ℕ) (more : List ℕ) → map (object_of ((env ++ n ∷ []) ++ more)) a.terms ≡ os ++ n ∷ [])
 
 -- one of these atoms that ends so
 abbrev pub IsGuide : List ℕ → List Atom → Atom → Type 0
@@ -47,4 +49,5 @@ IsGuide env atoms a = EndsIn env a × Contains atoms a
 
 -- with the numbers of a gap for the next variable, the atom is false
 abbrev pub IsGap : Atoms → List ℕ → Option Atom → Gap → Type 0
-IsGap S env guide gap = (n : ℕ) → gap.from ≤ n → n < gap.until → IsSomeAnd guide (λ a. (more : List ℕ) → S (atom_under ((env ++ n ∷ []) ++ more) a) → ⊥)
+IsGap S env guide gap = (n : ℕ) → gap.from ≤ n → n < gap.until
+    → IsSomeAnd guide (λ a. (more : List ℕ) → S (atom_under ((env ++ n ∷ []) ++ more) a) → ⊥)

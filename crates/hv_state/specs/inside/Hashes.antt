@@ -14,7 +14,8 @@ abbrev pub turn_of : List (List ℕ) → ℕ → ℕ
 turn_of buckets h = h % max (length buckets) 1
 
 abbrev pub bucket : List (List ℕ) → ℕ → List ℕ
-bucket buckets h = elim (slice_get buckets (turn_of buckets h)) [ None ↦ [] | Some numbers ↦ numbers ]
+bucket buckets h =
+    elim (slice_get buckets (turn_of buckets h)) [ None ↦ [] | Some numbers ↦ numbers ]
 
 -- there is room for one more number
 abbrev pub HasRoom : List ℕ → Type 0
@@ -34,7 +35,9 @@ pub record IsNoted (old : List (List ℕ)) (h n : ℕ) (new : List (List ℕ)) :
 
 -- where there is room, the number of each of the first rows stands, counted from 1
 abbrev pub AreNoted : List (List ℕ) → List (List ℕ) → ℕ → Type 0
-AreNoted buckets rows count = (i : ℕ) → i < count → i < length rows → HasRoom (bucket buckets (hash (slice_index_or rows i []))) → Contains (bucket buckets (hash (slice_index_or rows i []))) (suc i)
+AreNoted buckets rows count = (i : ℕ) → i < count → i < length rows
+    → HasRoom (bucket buckets (hash (slice_index_or rows i [])))
+    → Contains (bucket buckets (hash (slice_index_or rows i []))) (suc i)
 
 abbrev pub TellRows : List (List ℕ) → List (List ℕ) → Type 0
 TellRows buckets rows = AreNoted buckets rows (length rows)

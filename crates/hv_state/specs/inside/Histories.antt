@@ -59,7 +59,9 @@ AreFlagged flags rows = (r : List ℕ) → Contains rows r → Has flags (atom_o
 
 -- so many changes are up to an index, and those behind them are after it
 abbrev pub ArePast : List code_change.Change → ℕ → ℕ → Type 0
-ArePast cs k past = (past ≤ length cs) × IsPartitionPoint (λ c. nat_le (index_of c) k ≡ true) (λ c. nat_le (index_of c) k ≡ false) cs past
+ArePast cs k past = (past ≤ length cs)
+    × IsPartitionPoint (λ c. nat_le (index_of c) k ≡ true)
+    (λ c. nat_le (index_of c) k ≡ false) cs past
 
 -- j is the first index after k at which one of these changes is, or else the end
 pub record IsNextIn (cs : List Change) (k end j : ℕ) : Type 0 where

@@ -5,7 +5,8 @@ use Rattle.hv_world.specs.Types.{Typing}
 use Rattle.hv_world.specs.Values.{Effect, Effects, becomes, for_each, no_effects, more_effects}
 use Rattle.hv_state.specs.Truth.{ForSome}
 
--- the effect makes the atom true, or false, where the variables have these objects; or some of several effects do
+-- the effect makes the atom true, or false, where the variables have these objects; or some of
+-- several effects do
 module _ (w : Typing) (b : Bool) (g : GroundAtom) where
   abbrev mutual
     pub IsMadeBy : Effect → List ℕ → Type 0

@@ -42,7 +42,8 @@ IsRowOf S r = (g : GroundAtom) × S g × (row_of g ≡ r)
 
 -- the rows of the atoms of a set have come to the old ones, in whatever order and however often
 abbrev pub HaveJoined : List Row → Atoms → List Row → Type 0
-HaveJoined old S new = (r : List ℕ) → Contains (rows_in new) r ↔ (Contains (rows_in old) r ⊎ IsRowOf S r)
+HaveJoined old S new = (r : List ℕ)
+    → Contains (rows_in new) r ↔ (Contains (rows_in old) r ⊎ IsRowOf S r)
 
 -- these are the rows of the atoms of a set
 abbrev pub AreRowsOfAtoms : Atoms → List (List ℕ) → Type 0
@@ -51,7 +52,8 @@ AreRowsOfAtoms S rows = (r : List ℕ) → Contains rows r ↔ IsRowOf S r
 abbrev pub AreRowsOf : Atoms → List Row → Type 0
 AreRowsOf S rows = AreRowsOfAtoms S (rows_in rows)
 
--- the rows of the atoms of the code, and the objects of its terms, where variables have those of a binding
+-- the rows of the atoms of the code, and the objects of its terms, where variables have those of a
+-- binding
 abbrev pub rows_with : Binding → List code_atom.Atom → List (List ℕ)
 rows_with b atoms = rows_under (objects_in b) (map atom_view atoms)
 
@@ -71,7 +73,8 @@ Ascend rows = AllPairs IsBelow rows
 
 -- all rows before the place are below the row, and it is below all others
 abbrev pub IsGap : List (List ℕ) → List ℕ → ℕ → Type 0
-IsGap rows row i = (i ≤ length rows) × ((k : ℕ) → k < i → IsBelow (slice_index_or rows k []) row) × ((k : ℕ) → i ≤ k → k < length rows → IsBelow row (slice_index_or rows k []))
+IsGap rows row i = (i ≤ length rows) × ((k : ℕ) → k < i → IsBelow (slice_index_or rows k []) row)
+    × ((k : ℕ) → i ≤ k → k < length rows → IsBelow row (slice_index_or rows k []))
 
 -- where a row stands, or else would stand
 abbrev pub IsPlace : List (List ℕ) → List ℕ → Result ℕ ℕ → Type 0

@@ -41,10 +41,12 @@ abbrev pub task_at : Option Tree → Option Atom
 task_at None = None
 task_at (Some t) = atom_of t
 
--- the fields of a task of this name: `:parameters`; also `:precondition` and `:effect` that say nothing
+-- the fields of a task of this name: `:parameters`; also `:precondition` and `:effect` that say
+-- nothing
 abbrev pub task_named : Span → Trees → WordAt → Option Task
 task_named s ts w =
-    if is_field_list (slots.Parameters ∷ slots.Precondition ∷ slots.Effect ∷ []) ts && is_nothing (field slots.Precondition ts) && is_nothing (field slots.Effect ts)
+    if is_field_list (slots.Parameters ∷ slots.Precondition ∷ slots.Effect ∷ []) ts
+    && is_nothing (field slots.Precondition ts) && is_nothing (field slots.Effect ts)
     then option_map (task s w) (parameters_at (field slots.Parameters ts))
     else None
 
@@ -53,11 +55,15 @@ abbrev pub task_of : Span → Trees → Option Task
 task_of s none = None
 task_of s (more t ts) = option_and_then (task_named s ts) (symbol_of t)
 
--- the fields of a method of this name: `:parameters`, `:task`, `:precondition`, and those of a network
+-- the fields of a method of this name: `:parameters`, `:task`, `:precondition`, and those of a
+-- network
 abbrev pub method_named : Span → Trees → WordAt → Option Method
 method_named s ts w =
     if is_field_list method_slots ts
-    then both (method s w) (both tuple (both tuple (parameters_at (field slots.Parameters ts)) (task_at (field slots.Task ts))) (network_of ts)) (precondition_at (field slots.Precondition ts))
+    then both (method s w)
+    (both tuple
+    (both tuple (parameters_at (field slots.Parameters ts)) (task_at (field slots.Task ts)))
+    (network_of ts)) (precondition_at (field slots.Precondition ts))
     else None
 
 -- a method, of the section at this place: `symbol field*`
@@ -69,7 +75,9 @@ method_of s (more t ts) = option_and_then (method_named s ts) (symbol_of t)
 abbrev pub action_named : Span → Trees → WordAt → Option Action
 action_named s ts w =
     if is_field_list (slots.Parameters ∷ slots.Precondition ∷ slots.Effect ∷ []) ts
-    then both (action s w) (both tuple (parameters_at (field slots.Parameters ts)) (effect_at (field slots.Effect ts))) (precondition_at (field slots.Precondition ts))
+    then both (action s w)
+    (both tuple (parameters_at (field slots.Parameters ts)) (effect_at (field slots.Effect ts)))
+    (precondition_at (field slots.Precondition ts))
     else None
 
 -- an action, of the section at this place: `symbol field*`

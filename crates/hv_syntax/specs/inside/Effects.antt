@@ -22,8 +22,10 @@ abbrev pub item_by : Head → Tree → Trees → List (Option Effect) → Option
 item_by heads.Forall e ts ps = option_map item_for_all (quantified ts ps)
 item_by _ e ts ps = option_map becomes (literal_of e)
 
--- an effect e that a word heads: ts are the members behind it, qs what these spell as items, and ps as effects
-abbrev pub effect_by : Head → Tree → Trees → List (Option Item) → List (Option Effect) → Option Effect
+-- an effect e that a word heads: ts are the members behind it, qs what these spell as items, and ps
+-- as effects
+abbrev pub effect_by : Head → Tree → Trees → List (Option Item) → List (Option Effect)
+    → Option Effect
 effect_by heads.And e ts qs ps = option_map effect (all_some qs)
 effect_by h e ts qs ps = option_map one (item_by h e ts ps)
 
@@ -32,13 +34,15 @@ abbrev mutual
   pub effect_of : Tree → Option Effect
   effect_of (word w s) = None
   effect_of (list none s) = Some no_items
-  effect_of (list (more (word w p) ts) s) = effect_by (head_of w) (list (more (word w p) ts) s) ts (each_item ts) (each_effect ts)
+  effect_of (list (more (word w p) ts) s) =
+      effect_by (head_of w) (list (more (word w p) ts) s) ts (each_item ts) (each_effect ts)
   effect_of (list (more (list us p) ts) s) = None
 
   pub item_of : Tree → Option Item
   item_of (word w s) = None
   item_of (list none s) = None
-  item_of (list (more (word w p) ts) s) = item_by (head_of w) (list (more (word w p) ts) s) ts (each_effect ts)
+  item_of (list (more (word w p) ts) s) =
+      item_by (head_of w) (list (more (word w p) ts) s) ts (each_effect ts)
   item_of (list (more (list us p) ts) s) = None
 
   -- what each expression spells as an item

@@ -18,14 +18,17 @@ memory = kinds.Text texts.Memory
 abbrev pub IsMemory : SyntaxFault → Type 0
 IsMemory f = (f.kind ≡ memory) × (f.span ≡ at_start)
 
--- P for a fault of expressions; no claim but its place where memory ran out, and no fault of a text without expressions
+-- P for a fault of expressions; no claim but its place where memory ran out, and no fault of a text
+-- without expressions
 abbrev pub OfExpressions : SyntaxKind → Span → Type 0 → Type 0
 OfExpressions (kinds.Text texts.Memory) s P = s ≡ at_start
 OfExpressions (kinds.Text _) s P = ⊥
 OfExpressions _ s P = P
 
--- what a reader answers, seen by view, is this value or this fault at its place, unless memory ran out
-abbrev pub Answers : {X Y : Type 0} → (X → Y) → Result X SyntaxFault → Result Y (SyntaxKind × Span) → Type 0
+-- what a reader answers, seen by view, is this value or this fault at its place, unless memory ran
+-- out
+abbrev pub Answers : {X Y : Type 0} → (X → Y) → Result X SyntaxFault → Result Y (SyntaxKind × Span)
+    → Type 0
 Answers view (Ok x) r = r ≡ Ok (view x)
 Answers view (Err f) r = OfExpressions f.kind f.span (r ≡ Err (f.kind, f.span))
 

@@ -1,4 +1,5 @@
--- How the code reads: lists that stand as `()`, as one member, or behind `and`; and what stands behind `not`.
+-- How the code reads: lists that stand as `()`, as one member, or behind `and`; and what stands
+-- behind `not`.
 use Rattle.std.specs.Prelude.{List, [], ◌∷◌, Option, Some, None, option_map}
 use Rattle.hv_text.specs.Trees.{Tree, word, list, Trees, none, more}
 use Rattle.hv_syntax.specs.declared.word.Head.{Head}

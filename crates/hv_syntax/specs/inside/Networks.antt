@@ -60,7 +60,8 @@ pair_of t = pair_by (sides t)
 -- two terms behind `=`
 abbrev pub equation_by : Tree → Option (Tree × Tree) → Option (Term × Term)
 equation_by x None = None
-equation_by x (Some (y, z)) = if is_the_word (codes "=") x then both tuple (term_of y) (term_of z) else None
+equation_by x (Some (y, z)) =
+    if is_the_word (codes "=") x then both tuple (term_of y) (term_of z) else None
 
 -- `(= term term)`
 abbrev pub equation_of : Tree → Option (Term × Term)
@@ -82,7 +83,8 @@ abbrev pub listed_at : {A : Type 0} → (Tree → Option A) → Option Tree → 
 listed_at f None = Some []
 listed_at f (Some e) = listed f e
 
--- the subtasks of one of the two forms, and whether it is the ordered one; at most one of them stands
+-- the subtasks of one of the two forms, and whether it is the ordered one; at most one of them
+-- stands
 abbrev pub subtasks_by : Option Tree → Option Tree → Option (Bool × List Subtask)
 subtasks_by None None = Some (false, [])
 subtasks_by (Some e) None = option_map (tuple false) (listed subtask_of e)
@@ -97,5 +99,6 @@ network_with (ps, cs) (b, xs) = network xs b ps cs
 abbrev pub network_of : Trees → Option Network
 network_of ts =
     both network_with
-    (both tuple (listed_at pair_of (field slots.Ordering ts)) (listed_at constraint_of (field slots.Constraints ts)))
+    (both tuple (listed_at pair_of (field slots.Ordering ts))
+    (listed_at constraint_of (field slots.Constraints ts)))
     (subtasks_by (field slots.Subtasks ts) (field slots.OrderedSubtasks ts))

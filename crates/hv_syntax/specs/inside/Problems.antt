@@ -20,7 +20,9 @@ use Rattle.hv_syntax.specs.Problems.{Parts, ProblemSection, add_part, has_goal, 
 
 -- an initial network, of the section at this place: `:parameters`, and the fields of a network
 abbrev pub htn_of : Span → Trees → Option Htn
-htn_of s ts = if is_field_list htn_slots ts then both (htn s) (parameters_at (field slots.Parameters ts)) (network_of ts) else None
+htn_of s ts =
+    if is_field_list htn_slots ts then both (htn s) (parameters_at (field slots.Parameters ts))
+    (network_of ts) else None
 
 -- a goal: one formula
 abbrev pub goal_of : Trees → Option Formula
@@ -46,12 +48,21 @@ abbrev pub parts_from : Parts → List Tree → Trees → Result Parts (SyntaxKi
 parts_from = sections_from problem_section add_part
 
 -- the problem of this name and these parts: `:domain`, `:htn` and `:init` must be among them
-abbrev pub assembled_by : WordAt → Parts → Option WordAt → Option Htn → Option (List Literal) → Option Problem
+abbrev pub assembled_by : WordAt → Parts → Option WordAt → Option Htn → Option (List Literal)
+    → Option Problem
 assembled_by n p None h ls = None
 assembled_by n p (Some d) None ls = None
 assembled_by n p (Some d) (Some h) None = None
 assembled_by n p (Some d) (Some h) (Some ls) =
-    Some (record { name = n; domain = d; requirements = p.requirements; objects = p.objects; htn = h; init = ls; goal = p.goal })
+    Some (record {
+      name = n;
+      domain = d;
+      requirements = p.requirements;
+      objects = p.objects;
+      htn = h;
+      init = ls;
+      goal = p.goal;
+    })
 
 -- the same, by what the parts have
 abbrev pub assembled : WordAt → Parts → Option Problem
@@ -63,7 +74,8 @@ or_missing s None = Err (kinds.MissingSection, s)
 or_missing s (Some p) = Ok p
 
 -- the problem of this name and these parts, in the text at this place
-abbrev pub whole_by : Span → WordAt → Parts → Option WordAt → Option Htn → Option (List Literal) → Result Problem (SyntaxKind × Span)
+abbrev pub whole_by : Span → WordAt → Parts → Option WordAt → Option Htn → Option (List Literal)
+    → Result Problem (SyntaxKind × Span)
 whole_by s n p d h ls = or_missing s (assembled_by n p d h ls)
 
 -- the same, by what the parts have

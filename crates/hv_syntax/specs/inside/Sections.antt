@@ -14,7 +14,8 @@ use Rattle.hv_syntax.specs.Values.{WordAt}
 use Rattle.hv_syntax.specs.Unsupported.{has_unsupported}
 use Rattle.hv_syntax.specs.Sections.{headed, occurs}
 
--- what is wrong with a section for its head, where `repeated` says that one of its head stands before it
+-- what is wrong with a section for its head, where `repeated` says that one of its head stands
+-- before it
 abbrev pub refused : Standing → Bool → Option SyntaxKind
 refused standings.Unknown repeated = Some kinds.UnknownSection
 refused standings.Unsupported repeated = Some kinds.Unsupported
@@ -44,26 +45,32 @@ abbrev pub define_form : List ℕ → Tree → Option (WordAt × Trees × Span)
 define_form v (word w s) = None
 define_form v (list none s) = None
 define_form v (list (more d none) s) = None
-define_form v (list (more d (more t ts)) s) = if is_the_word (codes "define") d then option_map (defined_with ts s) (title_of v t) else None
+define_form v (list (more d (more t ts)) s) =
+    if is_the_word (codes "define") d then option_map (defined_with ts s) (title_of v t) else None
 
 -- those of a text, which is exactly one such list
 abbrev pub sections_of : List ℕ → Trees → Option (WordAt × Trees × Span)
 sections_of v ts = option_and_then (define_form v) (only ts)
 
--- a section that is no spelling, where `odd` says that it holds an unsupported form: 15, and else 14
+-- a section that is no spelling, where `odd` says that it holds an unsupported form: 15, and else
+-- 14
 abbrev pub unspelled : Bool → SyntaxKind
 unspelled odd = if odd then kinds.Unsupported else kinds.BadShape
 
--- what a section is, or its fault: 11, and 15 for a head, come first, then 12, then 14, and 15 for what it holds
+-- what a section is, or its fault: 11, and 15 for a head, come first, then 12, then 14, and 15 for
+-- what it holds
 abbrev pub judged : {S : Type 0} → Option SyntaxKind → Bool → Option S → Result S SyntaxKind
 judged (Some kind) odd spelled = Err kind
 judged None odd None = Err (unspelled odd)
 judged None odd (Some s) = Ok s
 
--- a section of a kind of text, by the standing of heads in it and what the members behind a head, at the section's place, spell
-abbrev pub section_by : {S : Type 0} → (List ℕ → Standing) → (List ℕ → Span → Trees → Option S) → List Tree → Span → Option (List ℕ × Trees) → Result S SyntaxKind
+-- a section of a kind of text, by the standing of heads in it and what the members behind a head,
+-- at the section's place, spell
+abbrev pub section_by : {S : Type 0} → (List ℕ → Standing) → (List ℕ → Span → Trees → Option S)
+    → List Tree → Span → Option (List ℕ × Trees) → Result S SyntaxKind
 section_by standing spelled before place None = Err kinds.UnknownSection
-section_by standing spelled before place (Some (w, ts)) = judged (refused (standing w) (occurs w before)) (has_unsupported w ts) (spelled w place ts)
+section_by standing spelled before place (Some (w, ts)) =
+    judged (refused (standing w) (occurs w before)) (has_unsupported w ts) (spelled w place ts)
 
 -- an answer with the place of its fault
 abbrev pub at_place : {A : Type 0} → Span → Result A SyntaxKind → Result A (SyntaxKind × Span)
@@ -71,16 +78,21 @@ at_place s (Ok a) = Ok a
 at_place s (Err kind) = Err (kind, s)
 
 -- the section that an expression is, where these stand before it, or what is wrong with it
-abbrev pub section_of : {S : Type 0} → (List ℕ → Standing) → (List ℕ → Span → Trees → Option S) → List Tree → Tree → Result S (SyntaxKind × Span)
-section_of standing spelled before t = at_place (place_of t) (section_by standing spelled before (place_of t) (headed t))
+abbrev pub section_of : {S : Type 0} → (List ℕ → Standing) → (List ℕ → Span → Trees → Option S)
+    → List Tree → Tree → Result S (SyntaxKind × Span)
+section_of standing spelled before t =
+    at_place (place_of t) (section_by standing spelled before (place_of t) (headed t))
 
 -- go on with the value, or stop at the fault
 infixl 10 ◌>>=◌
-abbrev pub ◌>>=◌ : {A B : Type 0} → Result A (SyntaxKind × Span) → (A → Result B (SyntaxKind × Span)) → Result B (SyntaxKind × Span)
+abbrev pub ◌>>=◌ : {A B : Type 0} → Result A (SyntaxKind × Span)
+    → (A → Result B (SyntaxKind × Span)) → Result B (SyntaxKind × Span)
 (Ok x) >>= f = f x
 (Err e) >>= f = Err e
 
 -- the sections one after another, each added to what is known, up to the first fault
-abbrev pub sections_from : {V S : Type 0} → (List Tree → Tree → Result S (SyntaxKind × Span)) → (V → S → V) → V → List Tree → Trees → Result V (SyntaxKind × Span)
+abbrev pub sections_from : {V S : Type 0} → (List Tree → Tree → Result S (SyntaxKind × Span))
+    → (V → S → V) → V → List Tree → Trees → Result V (SyntaxKind × Span)
 sections_from section add v before none = Ok v
-sections_from section add v before (more t ts) = section before t >>= (λ s. sections_from section add (add v s) (before ++ t ∷ []) ts)
+sections_from section add v before (more t ts) =
+    section before t >>= (λ s. sections_from section add (add v s) (before ++ t ∷ []) ts)

@@ -1,4 +1,5 @@
--- How the code reads: sections that are read one at a time: what stands behind each, and the heads of those before it.
+-- How the code reads: sections that are read one at a time: what stands behind each, and the heads
+-- of those before it.
 use Rattle.std.specs.Prelude.{◌≡◌, ◌||◌, ℕ, Bool, false, List, [], ◌∷◌, ◌++◌, Option, Some, None, Ok}
 use Rattle.hv_text.specs.Trees.{Tree, Trees}
 use Rattle.hv_text.specs.Rests.{Rest, add}
@@ -22,8 +23,10 @@ abbrev pub has_head : List ℕ → List (List ℕ) → Bool
 has_head v [] = false
 has_head v (w ∷ ws) = is w v || has_head v ws
 
--- the expression that comes first is this section, headed by this word, behind sections of these heads; and what stands behind it
-pub record IsSectionRead (before : List (List ℕ)) (from : Rest) (x : ProblemSection) (w : List ℕ) (after : Rest) : Type 0 where
+-- the expression that comes first is this section, headed by this word, behind sections of these
+-- heads; and what stands behind it
+pub record IsSectionRead (before : List (List ℕ)) (from : Rest) (x : ProblemSection) (w : List ℕ)
+    (after : Rest) : Type 0 where
   pub tree : Tree
   pub first : from ≡ add tree after
   pub head : head_word (headed tree) ≡ w ∷ []

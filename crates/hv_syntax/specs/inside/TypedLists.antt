@@ -1,4 +1,5 @@
--- How the code reads: the grammar of typed lists: names or variables wait for their type, which stands behind the next `-`; at the end none is written.
+-- How the code reads: the grammar of typed lists: names or variables wait for their type, which
+-- stands behind the next `-`; at the end none is written.
 use Rattle.std.specs.Prelude.{Bool, true, false, List, [], ◌∷◌, ◌++◌, Option, Some, None, codes, option_map, if◌then◌else◌}
 use Rattle.hv_text.specs.Trees.{Tree, word, list, Trees, none, more}
 use Rattle.hv_syntax.specs.declared.word.Sort.{Sort}
@@ -19,15 +20,20 @@ is_empty (x ∷ xs) = false
 abbrev pub with_rest : {T : Type 0} → List WordAt → T → List (TypedBy T) → List (TypedBy T)
 with_rest ws t xs = with_type t ws ++ xs
 
--- the rest of a typed list of words of this sort, where these wait for their type, and `wanted` says that it stands next
-abbrev pub typed_by : {T : Type 0} → (Tree → Option T) → T → Sort → Bool → List WordAt → Trees → Option (List (TypedBy T))
+-- the rest of a typed list of words of this sort, where these wait for their type, and `wanted`
+-- says that it stands next
+abbrev pub typed_by : {T : Type 0} → (Tree → Option T) → T → Sort → Bool → List WordAt → Trees
+    → Option (List (TypedBy T))
 typed_by read not_written sort false waiting none = Some (with_type not_written waiting)
 typed_by read not_written sort true waiting none = None
-typed_by read not_written sort true waiting (more t ts) = both (with_rest waiting) (read t) (typed_by read not_written sort false [] ts)
+typed_by read not_written sort true waiting (more t ts) =
+    both (with_rest waiting) (read t) (typed_by read not_written sort false [] ts)
 typed_by read not_written sort false waiting (more (list us s) ts) = None
 typed_by read not_written sort false waiting (more (word w s) ts) =
-    if is w (codes "-") then (if is_empty waiting then None else typed_by read not_written sort true waiting ts) else
-    if is_sort sort w then typed_by read not_written sort false (waiting ++ word_at w s ∷ []) ts else None
+    if is w (codes "-") then
+    (if is_empty waiting then None else typed_by read not_written sort true waiting ts) else
+    if is_sort sort w then typed_by read not_written sort false
+    (waiting ++ word_at w s ∷ []) ts else None
 
 -- the type of names: a name
 abbrev pub type_name_of : Tree → Option TypeOf

@@ -32,8 +32,8 @@ const LINKS: &[u8] = b"(define (domain links) (:types place)\n\
 const PLACES: &[u8] = b"(define (problem places) (:domain links) (:objects p q r s - place)\n\
     (:htn :subtasks (go p)) (:init (link p q) (link q r) (link p s) (link s p)))";
 
-// Plans, before which state the needed atoms have to be true, how many candidates line 2 has, and how
-// many of them are possible then.
+// Plans, before which state the needed atoms have to be true, how many candidates line 2 has, and
+// how many of them are possible then.
 const WAYS: [(&[u8], usize, usize, usize); 7] = [
     (b"==>\n1 see p\nroot 2\n2 go p -> m 1\n<==", 2, 16, 1),
     // nothing is seen before the action

@@ -109,7 +109,8 @@ fn are_free(alloc: Global) -> Option<bool> {
     Some(method.free_parameters() == [2usize, 4].as_slice())
 }
 
-// Parameter 0 is an argument of the task alone, 1 of a subtask alone, 3 of both; 2 and 4 stand in no term.
+// Parameter 0 is an argument of the task alone, 1 of a subtask alone, 3 of both; 2 and 4 stand in
+// no term.
 #[test]
 fn parameters_in_no_argument_are_free(rt: HostRuntime) {
     assert!(rt; are_free(rt.alloc()) == Some(true));
@@ -118,7 +119,8 @@ fn parameters_in_no_argument_are_free(rt: HostRuntime) {
 // Which of two subtasks come before which, by number.
 type Pairs = &'static [(usize, usize, bool)];
 
-// Puts what stands directly before a subtask behind others, up to the one that is looked for; says whether it is there.
+// Puts what stands directly before a subtask behind others, up to the one that is looked for; says
+// whether it is there.
 fn reaches(order: &Order, subtask: usize, wanted: usize, reached: &mut Vec<usize>) -> Option<bool> {
     for direct in order.directly_before(subtask) {
         if *direct == wanted {
@@ -129,7 +131,8 @@ fn reaches(order: &Order, subtask: usize, wanted: usize, reached: &mut Vec<usize
     Some(false)
 }
 
-// Whether one subtask comes before another, in a network of a few: it is directly before it, or before one that is.
+// Whether one subtask comes before another, in a network of a few: it is directly before it, or
+// before one that is.
 fn comes_before(alloc: Global, order: &Order, earlier: usize, later: usize) -> Option<bool> {
     let mut reached = Vec::new(alloc);
     reached.push(later).ok()?;

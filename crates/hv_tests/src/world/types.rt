@@ -114,8 +114,8 @@ fn object_makes_no_chain_by_rule(rt: HostRuntime) {
     assert!(rt; have_objects(rt.alloc(), domain, problem, &types) == Some(true));
 }
 
-// Of types one below the other only the lowest has objects; above others there is more than one type,
-// or an object; and two stand below each other.
+// Of types one below the other only the lowest has objects; above others there is more than one
+// type, or an object; and two stand below each other.
 #[test]
 fn types_have_the_objects_of_the_one_below_them(rt: HostRuntime) {
     let domain =

@@ -23,12 +23,14 @@ spelling_of_open os = flat_map (λ o. spellings o.before.items ++ left (opening 
 abbrev pub places_of_open : List Open → List Span
 places_of_open os = map (λ o. o.left) os
 
--- the first fault from here on, where so many parentheses are open, and those that are open at the end aside
+-- the first fault from here on, where so many parentheses are open, and those that are open at the
+-- end aside
 abbrev pub fault_from : ℕ → List Piece → Option (TextKind × Span)
 fault_from n [] = None
 fault_from n (word t s ∷ ps) = fault_from n ps
 fault_from n (bad s ∷ ps) = Some (kinds.BadByte, s)
-fault_from n (left s ∷ ps) = if n == MOST_OPEN then Some (kinds.TooDeep, s) else fault_from (n + 1) ps
+fault_from n (left s ∷ ps) =
+    if n == MOST_OPEN then Some (kinds.TooDeep, s) else fault_from (n + 1) ps
 fault_from n (right s ∷ ps) = if n == 0 then Some (kinds.Unopened, s) else fault_from (n - 1) ps
 
 -- the parentheses that are open at the end, the last one last
@@ -56,9 +58,12 @@ pub record IsBalanced (text : List ℕ) : Type 0 where
 abbrev pub IsScanFault : List ℕ → TextKind → Span → Type 0
 IsScanFault text kinds.TooLong s = (MOST_BYTES < length text) × (s ≡ nowhere)
 IsScanFault text kinds.Memory s = (length text ≤ MOST_BYTES) × (s ≡ nowhere)
-IsScanFault text kinds.BadByte s = (length text ≤ MOST_BYTES) × (fault_from 0 (pieces text) ≡ Some (kinds.BadByte, s))
-IsScanFault text kinds.Unopened s = (length text ≤ MOST_BYTES) × (fault_from 0 (pieces text) ≡ Some (kinds.Unopened, s))
-IsScanFault text kinds.TooDeep s = (length text ≤ MOST_BYTES) × (fault_from 0 (pieces text) ≡ Some (kinds.TooDeep, s))
+IsScanFault text kinds.BadByte s = (length text ≤ MOST_BYTES)
+    × (fault_from 0 (pieces text) ≡ Some (kinds.BadByte, s))
+IsScanFault text kinds.Unopened s = (length text ≤ MOST_BYTES)
+    × (fault_from 0 (pieces text) ≡ Some (kinds.Unopened, s))
+IsScanFault text kinds.TooDeep s = (length text ≤ MOST_BYTES)
+    × (fault_from 0 (pieces text) ≡ Some (kinds.TooDeep, s))
 IsScanFault text kinds.Unclosed s =
     (length text ≤ MOST_BYTES) × (fault_from 0 (pieces text) ≡ None)
     × ((more : List Span) × (open_from [] (pieces text) ≡ more ++ s ∷ []))

@@ -17,8 +17,10 @@ EndsWith lists ns = (front : List (List (List ℕ))) × (lists ≡ front ++ ns �
 
 -- what was put behind lists is, by sight, what these variables have
 abbrev pub AreGathered : List (List (List ℕ)) → List Variable → List (List (List ℕ)) → Type 0
-AreGathered old vs new = (seen : List (List (List ℕ))) → with_lists seen new ≡ with_lists (with_lists seen old) (either_lists vs)
+AreGathered old vs new = (seen : List (List (List ℕ)))
+    → with_lists seen new ≡ with_lists (with_lists seen old) (either_lists vs)
 
 -- the start has taken in the names of lists that are, by sight, these
 abbrev pub IsSeededBy : List (List (List ℕ)) → DefaultHasher → Type 0
-IsSeededBy lists start = (gathered : List (List (List ℕ))) × (with_lists [] gathered ≡ lists) × (start ≡ start_from (flat_map (λ ns. ns) gathered))
+IsSeededBy lists start = (gathered : List (List (List ℕ))) × (with_lists [] gathered ≡ lists)
+    × (start ≡ start_from (flat_map (λ ns. ns) gathered))

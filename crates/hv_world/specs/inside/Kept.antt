@@ -45,7 +45,8 @@ is_name m n = same_name (name_view m) (name_view n)
 
 -- the rows say which positions are fixed for each name
 abbrev pub RowsSay : {A S : Type 0} → List Subtask → IndexMap code.TaskName (Vec Bool A) S → Type 0
-RowsSay ss m = (n : code.TaskName) → RowSays ss (name_view n) (option_map (λ v. v.items) (get is_name m n))
+RowsSay ss m = (n : code.TaskName)
+    → RowSays ss (name_view n) (option_map (λ v. v.items) (get is_name m n))
 
 -- each class so far by its key, with its size
 abbrev pub counts_in : {S : Type 0} → IndexMap code_key.Key ℕ S → List (Key × ℕ)

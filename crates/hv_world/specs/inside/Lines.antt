@@ -39,15 +39,18 @@ Comes w [] o = ⊥
 Comes w (steps.Enter t ∷ xs) o = Below w o t.0 ⊎ Comes w xs o
 Comes w (steps.Leave t start ∷ xs) o = Comes w xs o
 
--- of a type that is not over, the objects stand in the line from a place on, or come with steps that are taken before
+-- of a type that is not over, the objects stand in the line from a place on, or come with steps
+-- that are taken before
 abbrev pub IsOpen : Typing → List ℕ → ℕ → ℕ → List Step → Type 0
-IsOpen w os t start xs = (start ≤ length os) × ((o : ℕ) → (Contains (drop start os) o ⊎ Comes w xs o) ↔ Below w o t)
+IsOpen w os t start xs = (start ≤ length os)
+    × ((o : ℕ) → (Contains (drop start os) o ⊎ Comes w xs o) ↔ Below w o t)
 
 -- so of each; the last of the steps is taken first
 pub data AreOpen (w : Typing) (os : List ℕ) : List Step → Type 0 where
   none : AreOpen w os []
   enter : {t : TypeId} {xs : List Step} → AreOpen w os xs → AreOpen w os (steps.Enter t ∷ xs)
-  leave : {t : TypeId} {start : ℕ} {xs : List Step} → IsOpen w os t.0 start xs → AreOpen w os xs → AreOpen w os (steps.Leave t start ∷ xs)
+  leave : {t : TypeId} {start : ℕ} {xs : List Step} → IsOpen w os t.0 start xs → AreOpen w os xs
+      → AreOpen w os (steps.Leave t start ∷ xs)
 
 -- a part of the line has the objects of a type
 pub record IsPart (w : Typing) (os : List ℕ) (t : ℕ) (s : Span) : Type 0 where
@@ -62,7 +65,8 @@ AreParts w os spans = (t : ℕ) (s : Span) → slice_get spans t ≡ Some (Some 
 -- the type of a number has this part now, if there is one; the others have theirs
 abbrev pub IsLeft : List (Option Span) → ℕ → ℕ → ℕ → List (Option Span) → Type 0
 IsLeft old t start end new =
-    (u : ℕ) (s : Span) → slice_get new u ≡ Some (Some s) → ((u ≡ t) × (s.start ≡ start) × (s.end ≡ end)) ⊎ (slice_get old u ≡ Some (Some s))
+    (u : ℕ) (s : Span) → slice_get new u ≡ Some (Some s)
+    → ((u ≡ t) × (s.start ≡ start) × (s.end ≡ end)) ⊎ (slice_get old u ≡ Some (Some s))
 
 -- each of these steps enters a type
 abbrev pub AreEntered : List Step → Type 0
@@ -71,15 +75,19 @@ AreEntered xs = (ts : List TypeId) × (xs ≡ entering ts)
 -- the graph is that of a typing, and the lists have the objects that are declared of each type
 pub record AreListed (w : Typing) (g : Graph) (lists : List (Vec ObjectId)) : Type 0 where
   pub graph : IsGraph w g
-  pub own : (t o : ℕ) → Contains (slice_index_or (object_lists lists) t []) o ↔ Contains w.declared (o, t)
+  pub own : (t o : ℕ)
+      → Contains (slice_index_or (object_lists lists) t []) o ↔ Contains w.declared (o, t)
 
 -- where types that are not over and parts are right before, parts are right after
-abbrev pub Walks : Graph → List (Vec ObjectId) → List ℕ → List Step → List (Option Span) → List ℕ → List (Option Span) → Type 0
-Walks g lists os xs spans os' spans' = (w : Typing) → AreListed w g lists → AreOpen w os xs → AreParts w os spans → AreParts w os' spans'
+abbrev pub Walks : Graph → List (Vec ObjectId) → List ℕ → List Step → List (Option Span) → List ℕ
+    → List (Option Span) → Type 0
+Walks g lists os xs spans os' spans' = (w : Typing) → AreListed w g lists → AreOpen w os xs
+    → AreParts w os spans → AreParts w os' spans'
 
 -- each type but `object` has a part
 abbrev pub HaveParts : List (Option Span) → Type 0
-HaveParts spans = (t : ℕ) → 0 < t → t < length spans → (s : Span) × (slice_get spans t ≡ Some (Some s))
+HaveParts spans = (t : ℕ) → 0 < t → t < length spans
+    → (s : Span) × (slice_get spans t ≡ Some (Some s))
 
 -- so many objects
 abbrev pub AreAll : ℕ → List ℕ → Type 0

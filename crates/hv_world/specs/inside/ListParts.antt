@@ -13,8 +13,10 @@ IsNew os places o = (o < length places) × ((i : ℕ) → i < length os → slic
 
 -- for each object it is told where it stands in the longer list
 abbrev pub HasPlaces : List ℕ → Part → Type 0
-HasPlaces os p = (i : ℕ) → i < length os → slice_get p.places.now (slice_index os i) ≡ Some (p.start + i)
+HasPlaces os p = (i : ℕ) → i < length os
+    → slice_get p.places.now (slice_index os i) ≡ Some (p.start + i)
 
 -- the objects ascend, unless it is told which part they are
 abbrev pub IsTold : List ℕ → Option Part → Type 0
-IsTold os part = (part ≡ None → IsStrictlyIncreasing os) × ((p : Part) → part ≡ Some p → HasPlaces os p)
+IsTold os part = (part ≡ None → IsStrictlyIncreasing os)
+    × ((p : Part) → part ≡ Some p → HasPlaces os p)

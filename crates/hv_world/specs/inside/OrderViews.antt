@@ -13,7 +13,8 @@ is_as_written (links.Pairs direct) = false
 abbrev pub written_of : Inside → Written
 written_of a = written a.len (is_as_written a.links) a.pairs.items
 
--- one subtask comes before another where its number is lower, and the row has the numbers as they are
+-- one subtask comes before another where its number is lower, and the row has the numbers as they
+-- are
 pub record IsAsWritten (n : Written) (row : List ℕ) : Type 0 where
   pub ordered : n.is_ordered ≡ true
   pub before : (i j : ℕ) → Before n i j ↔ ((i < j) × (j < n.len))
@@ -22,7 +23,8 @@ pub record IsAsWritten (n : Written) (row : List ℕ) : Type 0 where
 
 abbrev pub AreLinks : Written → List ℕ → Links → Type 0
 AreLinks n row links.AsWritten = IsAsWritten n row
-AreLinks n row (links.Pairs direct) = (n.is_ordered ≡ false) × ((i j : ℕ) → IsListed (lists_of direct.items) i j ↔ IsPaired n i j)
+AreLinks n row (links.Pairs direct) = (n.is_ordered ≡ false)
+    × ((i j : ℕ) → IsListed (lists_of direct.items) i j ↔ IsPaired n i j)
 
 pub record IsOrder (a : Inside) : Type 0 where
   pub pairs : All (λ p. (p.0 < a.len) × (p.1 < a.len)) a.pairs.items

@@ -43,18 +43,21 @@ pub record IsWalk (xss : List (List ℕ)) (ms : List Mark) (left trail row : Lis
   pub left_count : length left ≡ length xss
   -- of the earlier ones, those from `left` on are placed
   pub left_within : (j : ℕ) → slice_index left j ≤ length (list_at xss j)
-  pub looked : (j m : ℕ) → slice_index left j ≤ m → m < length (list_at xss j) → Contains row (slice_index (list_at xss j) m)
+  pub looked : (j m : ℕ) → slice_index left j ≤ m → m < length (list_at xss j)
+      → Contains row (slice_index (list_at xss j) m)
   -- what is placed stands in the row
   pub placed : (j : ℕ) → mark_at ms j ≡ marks.Placed → Contains row j
   pub row_placed : (q : ℕ) → q < length row → mark_at ms (slice_index row q) ≡ marks.Placed
   pub row_once : Once row
-  pub closed : (q i : ℕ) → q < length row → IsListed xss i (slice_index row q) → (p : ℕ) × (p < q) × (slice_index row p ≡ i)
+  pub closed : (q i : ℕ) → q < length row → IsListed xss i (slice_index row q)
+      → (p : ℕ) × (p < q) × (slice_index row p ≡ i)
   -- what is open stands on the trail
   pub opened : (j : ℕ) → mark_at ms j ≡ marks.Open → Contains trail j
   pub trail_open : (a : ℕ) → a < length trail → mark_at ms (slice_index trail a) ≡ marks.Open
   pub trail_once : Once trail
   -- each on the trail comes before those in front of it
-  pub path : (a b : ℕ) → a < b → b < length trail → Leads (IsListed xss) (slice_index trail b) (slice_index trail a)
+  pub path : (a b : ℕ) → a < b → b < length trail
+      → Leads (IsListed xss) (slice_index trail b) (slice_index trail a)
 
 abbrev pub IsWalkOf : List (List ℕ) → Walk → Type 0
 IsWalkOf xss w = IsWalk xss w.marks.items w.left.items w.trail.items w.row.items
@@ -65,4 +68,5 @@ EndsWith xs x = (0 < length xs) × (slice_index xs (length xs - 1) ≡ x)
 
 -- what was met stays so
 abbrev pub StaySeen : Walk → Walk → Type 0
-StaySeen v w = (j : ℕ) → mark_at w.marks.items j ≡ marks.Unseen → mark_at v.marks.items j ≡ marks.Unseen
+StaySeen v w = (j : ℕ) → mark_at w.marks.items j ≡ marks.Unseen
+    → mark_at v.marks.items j ≡ marks.Unseen

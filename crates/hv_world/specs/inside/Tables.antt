@@ -31,7 +31,8 @@ seed_of t = start_of (hasher_of t.places)
 
 -- these places, and one for a name that has none
 abbrev pub with_place : (List ℕ → Option ℕ) → List ℕ → ℕ → List ℕ → Option ℕ
-with_place places m k n = elim (places n) [ None ↦ if bytes_eq n m then Some k else None | Some i ↦ Some i ]
+with_place places m k n =
+    elim (places n) [ None ↦ if bytes_eq n m then Some k else None | Some i ↦ Some i ]
 
 abbrev pub scope_view : code.Scope → Scope
 scope_view (scopes.Parameters t n) = outer n (places_by t.now)
@@ -45,7 +46,8 @@ declaration_view d = declaration (name_view d.what) d.arity (word_view d.name) d
 
 abbrev pub signature_beside : List ℕ → Option ℕ → Option Signature
 signature_beside arities None = None
-signature_beside arities (Some i) = elim (slice_get arities i) [ None ↦ None | Some k ↦ Some (signature i k) ]
+signature_beside arities (Some i) =
+    elim (slice_get arities i) [ None ↦ None | Some k ↦ Some (signature i k) ]
 
 -- the names that a list of the code has
 abbrev pub names_in : {A : Type 0} → Vec Name A → List (List ℕ)
@@ -57,6 +59,7 @@ known_by t =
       types = map text_of t.types.names.keys;
       eithers = map names_in t.types.eithers.keys;
       objects = map text_of t.objects.keys;
-      predicate = λ n. signature_beside t.predicates.arities.items (places_by t.predicates.places n);
+      predicate =
+          λ n. signature_beside t.predicates.arities.items (places_by t.predicates.places n);
       task = λ n. at_place (map declaration_view t.tasks.list.items) (places_by t.tasks.places n);
     }

@@ -47,10 +47,13 @@ IsPut n old true new = (Contains old n → ⊥) × (new ≡ old ++ n ∷ [])
 IsPut n old false new = Contains old n × (new ≡ old)
 
 -- the number was put into the lists of all types that steps from the starts lead to
-pub record IsPutAbove (parents : List (List ℕ)) (starts : List ℕ) (n : ℕ) (old new : List (List ℕ)) : Type 0 where
+pub record IsPutAbove (parents : List (List ℕ)) (starts : List ℕ) (n : ℕ)
+    (old new : List (List ℕ)) : Type 0 where
   pub size : length new ≡ length old
   pub ascend : (t : ℕ) → AscendsBelow (n + 1) (list_of new t)
-  pub members : (t x : ℕ) → Contains (list_of new t) x ↔ (Contains (list_of old t) x ⊎ ((x ≡ n) × ClimbsFrom parents starts t))
+  pub members : (t x : ℕ)
+      → Contains (list_of new t) x
+      ↔ (Contains (list_of old t) x ⊎ ((x ≡ n) × ClimbsFrom parents starts t))
 
 -- the list of each type has, ascending, those of the first n objects that are of the type
 pub record AreMembersBelow (n : ℕ) (w : Typing) (lists : List (List ℕ)) : Type 0 where

@@ -75,8 +75,8 @@ pub(crate) fn domain_fault<'s>(
     Ok(earlier(methods, action))
 }
 
-/// The first fault of a problem, by the names that these tables have, where this is the first of its
-/// initial state.
+/// The first fault of a problem, by the names that these tables have, where this is the first of
+/// its initial state.
 ///
 /// # Errors
 ///

@@ -78,7 +78,8 @@ pub(crate) fn type_names<'s>(
     list: &[TypedText<'s>],
 ) -> Result<IndexSet<Name<'s>, Seeded>, Memory>
     ensures seed { IfOk result
-        (λ t. start_of (hasher_of t) ≡ start_from (flat_map written_names (map typed_view list.now))) }
+        (λ t. start_of (hasher_of t)
+        ≡ start_from (flat_map written_names (map typed_view list.now))) }
     ensures keys { IfOk result
         (λ t. map text_of t.keys
         ≡ by_sight (codes "object" ∷ flat_map both_types (map typed_view list.now))) }

@@ -7,7 +7,7 @@ use Rattle.hv_state.proofs.HistoryLemmas.{numbers_are, found_in, not_found_in, c
 use Rattle.hv_state.proofs.changes.Changes.of.Goals as goal
 
 pub returns-then-not-has_some_of : goal.returns-then-not-has_some_of
-returns-then-not-has_some_of c = c.has_some_of.ensures c.if-not-has_some_of.true (atom_read c.args.atom.now) refl
+returns-then-not-has_some_of c = c.has_some_of.ensures.none c.if-not-has_some_of.true (atom_read c.args.atom.now) refl
 
 pub returns-in-Some : goal.returns-in-Some
 returns-in-Some c =
