@@ -17,8 +17,8 @@ pub enum End<'a> {
     Rechecked(RecheckKind),
     /// A canonical text was written, or the line of a rejection.
     Printed(Printed),
-    /// The words of the command line do not parse, or ask for help or the version; their text was
-    /// written.
+    /// The words of the command line do not parse, or ask for help or the version; their
+    /// text was written.
     Words,
     /// A word of the command line is not UTF-8.
     NotUtf8,
@@ -33,9 +33,9 @@ pub enum End<'a> {
 }
 
 /// The exit status: 0 for a plan that solves its problem, a certificate that is right or a text
-/// that was printed, 1 for a plan that fails or a certificate that is not right, 2 for undecided,
-/// 3 for a rejected text, 4 for words that name no job, and 5 where a file, the output or memory
-/// failed.
+/// that was printed, 1 for a plan that fails or a certificate that is not right, 2 for
+/// undecided, 3 for a rejected text, 4 for words that name no job, and 5 where a file, the
+/// output or memory failed.
 pub fn status(end: &End<'_>) -> u8
     ensures { result ≡ status_of end.now }
 {

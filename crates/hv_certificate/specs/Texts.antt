@@ -23,8 +23,8 @@ name_text n = codes " " ++ text_of n
 abbrev pub names_text : List Name → List ℕ
 names_text ns = flat_map name_text ns
 
--- the children of a node in the order of its subtasks, and the objects in the order of its
--- parameters
+-- the children of a node in the order of its subtasks, and the objects in the order of
+-- its parameters
 abbrev pub children_text : Choice → List ℕ
 children_text c = codes " children" ++ ids_text c.children.items
 

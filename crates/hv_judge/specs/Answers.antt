@@ -60,8 +60,8 @@ CertifiedLaw =
     (domain problem plan cert : List ℕ) (r : Recheck) → Rechecked domain problem plan cert r
     → r.certified ≡ true → IsSpelledAs domain problem plan IsSolution
 
--- what is written of a plan that solves its problem, with its certificate, is the certificate's
--- text
+-- what is written of a plan that solves its problem, with its certificate, is the
+-- certificate's text
 abbrev pub ExplainedLaw : Type 0
 ExplainedLaw = (c : Certificate) → answer_text (answers.Solves c) true ≡ cert_text c
 

@@ -39,9 +39,9 @@ judged_in w t = setting t (run_of w t) true
 abbrev pub judged_without : World → PlanTree → Setting
 judged_without w t = setting t (run_of w t) false
 
--- A solution: the plan reaches the goal, and under some candidates of its nodes the initial network
--- derives one whose steps can be put in a sequence that is executable, with the actions in plan
--- order
+-- A solution: the plan reaches the goal, and under some candidates of its nodes the initial
+-- network derives one whose steps can be put in a sequence that is executable, with the
+-- actions in plan order
 pub record IsSolution (w : World) (p : Plan) : Type 0 where
   pub tree : PlanTree
   pub reaches : ReachesGoal w p tree

@@ -144,8 +144,8 @@ pub fn judge<'s>(
     }
 }
 
-/// Judges the same, and gives the verdict alone: no certificate is made, which takes less time and
-/// memory.
+/// Judges the same, and gives the verdict alone: no certificate is made, which takes less
+/// time and memory.
 ///
 /// # Errors
 ///

@@ -34,9 +34,9 @@ pub fn one_answer()
     certified_plans_are_solved();
 }
 
-/// A plan that is said to solve its problem is a solution of it, and one that is said to fail is
-/// none, whatever the cause: the three texts spell a domain, a problem and a plan of which that
-/// holds.
+/// A plan that is said to solve its problem is a solution of it, and one that is said to
+/// fail is none, whatever the cause: the three texts spell a domain, a problem and a plan of
+/// which that holds.
 pub fn a_solution_or_none()
     ensures solves { SolvesLaw }
     ensures fails { FailsLaw }

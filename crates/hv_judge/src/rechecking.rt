@@ -74,9 +74,9 @@ pub fn examine<'s>(
 ///
 /// # Errors
 ///
-/// `Rejected` where one of the four texts is: the first of them that is too long, else the domain,
-/// the problem or the plan as `judge` says it, else the certificate. `Memory` where a growth was
-/// refused.
+/// `Rejected` where one of the four texts is: the first of them that is too long, else the
+/// domain, the problem or the plan as `judge` says it, else the certificate. `Memory` where a
+/// growth was refused.
 pub fn recheck<'s>(
     alloc: Global,
     domain: &'s [u8],

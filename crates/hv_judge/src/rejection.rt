@@ -23,8 +23,8 @@ pub(crate) fn fault_in(kind: FaultKind, text: &[u8], span: Span) -> Fault
     }
 }
 
-// The kind under which a fault of the text of a domain or a problem is reported; None for want of
-// memory.
+// The kind under which a fault of the text of a domain or a problem is reported; None for
+// want of memory.
 pub(crate) fn reported(kind: SyntaxKind) -> Option<FaultKind>
     ensures { result ≡ reported kind }
 {

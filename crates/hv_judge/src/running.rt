@@ -21,8 +21,8 @@ pub enum RunFault {
     /// A growth of memory was refused. Nothing was written.
     #[error("out of memory")]
     Memory,
-    /// The writer failed, or took no byte of a text that is not empty. A beginning of the text was
-    /// written.
+    /// The writer failed, or took no byte of a text that is not empty. A beginning of the
+    /// text was written.
     #[error("the verdict cannot be written")]
     Write,
 }

@@ -10,8 +10,8 @@ use hv_judge::{Kind, RecheckKind, RunFault, Which, run, run_recheck};
 use std::alloc::Global;
 use std::test::Fail;
 
-// What `run` answers where the reader of each text gives one byte a call and may fail at one of
-// them.
+// What `run` answers where the reader of each text gives one byte a call and may fail
+// at one of them.
 fn run_slowly(
     alloc: Global,
     reads: [Option<usize>; 3],

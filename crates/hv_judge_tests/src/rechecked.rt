@@ -88,8 +88,8 @@ const TOO_EARLY: &[u8] = b"solves\nroot children 10 objects\n\
     10 children 11 1 12 3 objects p1 t1 a b pre 0\n11 children objects t1 a pre 0\n\
     12 children 2 objects t1 a b pre 0\n";
 
-// Ids first, then what a line says by itself, then the order, for which the line of the method is
-// told.
+// Ids first, then what a line says by itself, then the order, for which the line of the
+// method is told.
 #[test]
 fn the_line_that_does_not_fit(rt: HostRuntime) -> Result<(), Fail> {
     let alloc = rt.alloc();

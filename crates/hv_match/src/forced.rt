@@ -56,8 +56,8 @@ impl Puzzle<'_> {
         }
     }
 
-    /// Writes down the choices of the only match that there may be. Says no where that does not
-    /// show.
+    /// Writes down the choices of the only match that there may be. Says no where that
+    /// does not show.
     pub(crate) fn force(&self, chosen: &mut [usize]) -> bool
         requires { length chosen.old ≡ puzzles.levels (puzzle_view self.now) }
         ensures size { length chosen.new ≡ length chosen.old }

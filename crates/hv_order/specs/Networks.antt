@@ -7,8 +7,8 @@ use Rattle.hv_lists.specs.Lists.{Once}
 use Rattle.hv_plan.specs.Trees.{Item, Act, Task, Pre, Tree, Reached, IsPrimitive}
 use Rattle.hv_order.specs.Meanings.{Choice}
 
--- Items, and pairs (x, y) of them where x must come before y. A list stands for the set of its
--- members
+-- Items, and pairs (x, y) of them where x must come before y. A list stands for the set
+-- of its members
 pub record Network : Type 0 where
   pub items : List Item
   pub pairs : List (Item × Item)
@@ -57,9 +57,9 @@ initial_network t o =
       pairs = ordered_pairs o.root.before t.initial_tasks t.initial_tasks;
     }
 
--- the network after the task of line v was decomposed: in its place stand its precondition step and
--- its children, the precondition step before each child, the children ordered by the line's
--- candidate
+-- the network after the task of line v was decomposed: in its place stand its precondition
+-- step and its children, the precondition step before each child, the children ordered by the
+-- line's candidate
 abbrev pub decomposition : Tree → Choice → ℕ → Network → Network
 decomposition t o v n =
     record {

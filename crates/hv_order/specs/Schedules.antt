@@ -16,9 +16,9 @@ ends at (Act k) = k + 1
 ends at (Task v) = 0
 ends at (Pre v) = at v
 
--- The indices are a schedule of the tree's steps between s and f: each precondition is true at its
--- index, no step begins before s or ends after f, and a step ends before those begin that it
--- precedes
+-- The indices are a schedule of the tree's steps between s and f: each precondition is true
+-- at its index, no step begins before s or ends after f, and a step ends before those begin
+-- that it precedes
 pub record IsSchedule (t : Tree) (o : Choice) (at : ℕ → ℕ) (s f : ℕ) : Type 0 where
   pub holds : (v : ℕ) → Reached t (Task v) → (o.line v).true_at (at v) ≡ true
   pub from : (x : Item) → IsPrimitive x → Reached t x → s ≤ begins at x

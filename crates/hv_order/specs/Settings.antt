@@ -1,5 +1,5 @@
--- The plan that is judged: which candidates its nodes have, what they amount to, and when it is
--- solved.
+-- The plan that is judged: which candidates its nodes have, what they amount to, and
+-- when it is solved.
 use Rattle.std.specs.Prelude.{◌≡◌, ℕ, ◌<◌, Bool, true, false, List, length, slice_get, slice_index, Some}
 use Rattle.std.specs.List.{slice_index_or}
 use Rattle.hv_world.specs.Values.{and, no_formulas}
@@ -33,8 +33,8 @@ without_preconditions q = setting q.tree q.plan false
 abbrev pub last : Setting → ℕ
 last q = length q.plan.actions
 
--- the child that stands for subtask j of a node, where M has for each subtask the place of its
--- child
+-- the child that stands for subtask j of a node, where M has for each subtask the
+-- place of its child
 abbrev pub child_for : Node → List ℕ → ℕ → Item
 child_for n M j = slice_index_or n.children (slice_index M j) (Act 0)
 
@@ -42,9 +42,9 @@ child_for n M j = slice_index_or n.children (slice_index M j) (Act 0)
 abbrev pub HoldsAt : Setting → Method → List ℕ → ℕ → Type 0
 HoldsAt q m B k = q.is_with ≡ true → True q.plan.world.typing (StateAt q.plan k) m.precondition B
 
--- M and B are a candidate of the node of number v, and c is what it amounts to: its children are
--- ordered as the subtasks are for which they stand, and its precondition is true where the method's
--- is
+-- M and B are a candidate of the node of number v, and c is what it amounts to: its children
+-- are ordered as the subtasks are for which they stand, and its precondition is true where
+-- the method's is
 pub record AmountsTo (q : Setting) (v : ℕ) (M B : List ℕ) (c : Meaning) : Type 0 where
   pub node : Node
   pub has_node : slice_get q.tree.nodes v ≡ Some node

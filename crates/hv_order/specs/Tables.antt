@@ -1,5 +1,5 @@
--- The table of least finishes, as it is computed: children first, and for each start the least
--- finish.
+-- The table of least finishes, as it is computed: children first, and for each start
+-- the least finish.
 use Rattle.std.specs.Prelude.{◌≡◌, ℕ, zero, suc, ◌+◌, ◌-◌, ◌≤◌, Bool, true, if◌then◌else◌, nat_le, nat_lt, max, min, List, [], ◌∷◌, Option, Some, None, Contains}
 use Rattle.hv_lists.specs.Lists.{Once}
 use Rattle.hv_plan.specs.Trees.{Item, Act, Task, Pre, Tree}

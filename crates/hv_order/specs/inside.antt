@@ -1,5 +1,5 @@
--- What models the code that works finishes out, for its proofs: a reader of the laws needs none of
--- it.
+-- What models the code that works finishes out, for its proofs: a reader of the laws
+-- needs none of it.
 pub mod Children
 pub mod Layouts
 pub mod Choosing

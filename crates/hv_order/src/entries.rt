@@ -96,9 +96,9 @@ fn has_line(
     }
 }
 
-/// The first place in the order of nodes at which a certificate has not the line of a decomposition
-/// line, or a line and the plan has none; None where it has a line for each, in the order of the
-/// text.
+/// The first place in the order of nodes at which a certificate has not the line of a
+/// decomposition line, or a line and the plan has none; None where it has a line for each, in the
+/// order of the text.
 pub(crate) fn other_line(
     world: &World<'_>,
     tree: &Tree<'_, '_>,

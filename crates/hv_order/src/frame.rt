@@ -1,5 +1,5 @@
-//! One node from one start: its candidates one after another, each laid out as far as finishes are
-//! known.
+//! One node from one start: its candidates one after another, each laid out as far as
+//! finishes are known.
 //!
 //! Tasks, frames and turns are large values that go from call to call: most calls are inlined, so
 //! that none is copied on its way.

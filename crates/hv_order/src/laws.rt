@@ -23,8 +23,8 @@ pub fn split_law()
     ensures window { WindowLaw }
 {}
 
-/// Exchange: the choices below a line may be replaced by others that keep to the line's start and
-/// finish.
+/// Exchange: the choices below a line may be replaced by others that keep to the line's
+/// start and finish.
 pub fn exchange_law()
     ensures schedule { ExchangeLaw }
     ensures least { LeastExchangeLaw }

@@ -9,9 +9,9 @@ use hv_plan::Child;
 use std::alloc::Global;
 use std::rc::Rc;
 
-/// The candidates of a node that are still to come and have their children in the order of their
-/// subtasks. They share what hangs on the method alone, and where in the plan the nodes' actions
-/// stand.
+/// The candidates of a node that are still to come and have their children in the order of
+/// their subtasks. They share what hangs on the method alone, and where in the plan the nodes'
+/// actions stand.
 #[derive(Drop)]
 pub struct Lister<'a> {
     pub(crate) alloc: Global,

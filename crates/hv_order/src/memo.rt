@@ -173,8 +173,8 @@ impl Memo {
         }
     }
 
-    /// Keeps what is known of the nodes that are to be kept, one interval of each, and forgets all
-    /// else.
+    /// Keeps what is known of the nodes that are to be kept, one interval of each, and
+    /// forgets all else.
     pub fn keep_only(&mut self, kept: &[bool])
         ensures { KeepsOnly self.old kept.now self.new }
     {

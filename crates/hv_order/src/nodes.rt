@@ -24,8 +24,8 @@ pub trait Nodes {
         ensures last { result ≡ (facts self.now).last }
         ensures small { result < 4294967295 };
 
-    /// Candidates of a node: where it fits with any candidate from a start on, it does with one of
-    /// these.
+    /// Candidates of a node: where it fits with any candidate from a start on, it does
+    /// with one of these.
     fn candidates(&self, alloc: Global, node: usize, start: u32) -> Result<Self::Left, Memory>
         requires node { node < size self.now }
         requires start { start ≤ (facts self.now).last }

@@ -41,8 +41,8 @@ fn is_plain(world: &World<'_>, tree: &Tree<'_, '_>, plain: &[bool], number: u32)
     }
 }
 
-/// For each node whether it is plain: its method has no precondition, nor has that of a node below
-/// it.
+/// For each node whether it is plain: its method has no precondition, nor has that of a
+/// node below it.
 pub(crate) fn plain_nodes(
     alloc: Global,
     world: &World<'_>,

@@ -153,9 +153,9 @@ impl<'a, 's, 'm, 'p, 't, 'c, 'd> PlanNodes<'a, 's, 'm, 'p, 't, 'c, 'd> {
         }
     }
 
-    // The state from a start on that the children of a node with this method begin behind: where
-    // its precondition counts, the first in which it is true, which is not told where it has
-    // parameters.
+    // The state from a start on that the children of a node with this method begin behind:
+    // where its precondition counts, the first in which it is true, which is not told where it
+    // has parameters.
     fn told_begin(&self, method: &Method<'_>, children: &[Child], start: u32) -> Option<u32> {
         if !self.is_with || is_empty(method.precondition()) {
             return Some(start);

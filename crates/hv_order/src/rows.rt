@@ -1,5 +1,5 @@
-//! The rows of a plan: for each node and each start, the least finish, and what they say of the
-//! plan.
+//! The rows of a plan: for each node and each start, the least finish, and what they
+//! say of the plan.
 
 ghost use Rattle.std.specs.Prelude.{◌≡◌, ◌<◌, ◌≤◌, length, IfOk, IfErr, MatchOption};
 ghost use Rattle.hv_world.specs.WorldViews.{world_view};
@@ -141,8 +141,8 @@ impl<'a, 's, 'm, 'p, 't, 'c, 'd> Rows<'a, 's, 'm, 'p, 't, 'c, 'd> {
         least_finish(&self.nodes, &self.rows, node as usize, start)
     }
 
-    /// How many different answers `least_finish` gives for the starts of a node, none counted as
-    /// one.
+    /// How many different answers `least_finish` gives for the starts of a node, none
+    /// counted as one.
     pub fn runs(&self, node: u32) -> u64
         requires node { node < length self.now.tree.nodes }
         ensures { IsNumberOfAnswers (NodeCanBePlaced self.now node) (last self.now) result }

@@ -17,8 +17,8 @@ use std::alloc::Global;
 /// The row of one node.
 #[derive(Drop)]
 pub enum Row {
-    /// The node finishes where it starts, whatever the start: a run for each start, none of them
-    /// kept.
+    /// The node finishes where it starts, whatever the start: a run for each start,
+    /// none of them kept.
     Idle,
     /// Runs, of which each goes from behind the run before it.
     Runs(Vec<Run>),

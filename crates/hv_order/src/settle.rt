@@ -42,8 +42,8 @@ pub struct Settled {
     pub winner: Option<Arranged>,
 }
 
-/// The run that the best of a node's candidates gives. Where there is none, no later start has a
-/// finish.
+/// The run that the best of a node's candidates gives. Where there is none, no later
+/// start has a finish.
 pub fn run_of(winner: Option<Winner>, last: u32) -> Settled
     ensures { result ≡ settled_by winner last }
 {

@@ -88,8 +88,8 @@ pub enum Pending<L> {
     Begun(Box<Task<L>>),
 }
 
-/// A finish that a node will want, and whether it is the last that is told before the node is
-/// begun.
+/// A finish that a node will want, and whether it is the last that is told before the
+/// node is begun.
 #[derive(Clone, Copy)]
 pub struct WantedAhead {
     pub child: Pair,
@@ -268,9 +268,9 @@ pub fn work_on<N: Nodes>(
     }
 }
 
-/// A child of a node, and a start, of which the finish will be wanted and is not known yet, as far
-/// as that is told before the node is begun: when it is begun behind them, it need not wait for
-/// them.
+/// A child of a node, and a start, of which the finish will be wanted and is not known yet, as
+/// far as that is told before the node is begun: when it is begun behind them, it need not
+/// wait for them.
 pub fn ahead<N: Nodes>(nodes: &N, memo: &Memo, pair: Pair) -> Option<WantedAhead>
     requires memo { AreKnown (N.facts nodes.now) (N.size nodes.now) memo.now }
     requires pair { IsPair (N.facts nodes.now) (N.size nodes.now) pair }

@@ -139,8 +139,8 @@ impl Spans {
         true
     }
 
-    // The first subtask, as they are written, whose child is not over when that of a later one
-    // begins.
+    // The first subtask, as they are written, whose child is not over when that of a
+    // later one begins.
     fn first_met(&self, children: &[Child]) -> Option<usize>
         ensures { IfSome result (IsMet self.now children.now) }
     {

@@ -1,5 +1,5 @@
-//! The best of a node's candidates from one start, where the finishes of all its children are
-//! known.
+//! The best of a node's candidates from one start, where the finishes of all its
+//! children are known.
 ghost use Rattle.std.specs.Prelude.{◌≡◌, ℕ, [], IfOk};
 ghost use Rattle.hv_order.specs.inside.Facts.{AreFits};
 ghost use Rattle.hv_order.specs.inside.Frames.{AreArranged};
@@ -17,8 +17,8 @@ pub struct Winner {
     pub candidate: Arranged,
 }
 
-/// A candidate of the same node without subtasks, which stands where none has won yet. It takes no
-/// memory.
+/// A candidate of the same node without subtasks, which stands where none has won yet. It
+/// takes no memory.
 pub fn no_candidate(alloc: Global, candidate: &Arranged) -> Result<Arranged, Memory>
     ensures { IfOk result (λ none. none.children.items ≡ []) }
 {
@@ -40,8 +40,8 @@ pub fn with_candidate(best: Option<Best>, candidate: Arranged) -> Option<Winner>
     }
 }
 
-/// The best of the candidates that are left, by a table that knows each finish that it may be asked
-/// for.
+/// The best of the candidates that are left, by a table that knows each finish that it
+/// may be asked for.
 pub fn best_of<T: Table, C: Candidates>(
     alloc: Global,
     table: &T,

@@ -71,8 +71,8 @@ multiplicity n ns = count_by (same_name n) ns
 abbrev pub names_of : List Subtask → List TaskName
 names_of xs = map (λ x. x.name) xs
 
--- the method of a line that names children: that of its name, and for the root line the initial
--- network
+-- the method of a line that names children: that of its name, and for the root line the
+-- initial network
 abbrev pub method_of : World → Option (List ℕ) → Option Method
 method_of w None = Some w.top
 method_of w (Some n) = option_and_then (slice_get w.methods) (method_named w n)
@@ -87,9 +87,9 @@ pub record FitsSubtasks (w : World) (p : Plan) (q : Parent) : Type 0 where
   pub as_often : (n : TaskName)
       → multiplicity n names ≡ multiplicity n (names_of method.network.subtasks)
 
--- Each line names what the world has, with objects of the right types: an action line an action, a
--- decomposition line a task and a method for it; and the children of each are as its method's
--- subtasks
+-- Each line names what the world has, with objects of the right types: an action line an
+-- action, a decomposition line a task and a method for it; and the children of each are as its
+-- method's subtasks
 pub record FitWorld (w : World) (p : Plan) : Type 0 where
   pub actions : All (FitsAction w) p.actions
   pub decompositions : All (FitsDecomposition w) p.decompositions

@@ -107,8 +107,8 @@ named (w ∷ ws) = Some (record { name = w; arguments = ws })
 abbrev pub task_of : List Piece → Option Task
 task_of ps = option_and_then named (names_of ps)
 
--- the parts of a line that has an arrow: what stands before its first one, and what stands behind
--- it
+-- the parts of a line that has an arrow: what stands before its first one, and what
+-- stands behind it
 pub record Parts : Type 0 where
   pub before : List Piece
   pub after : List Piece

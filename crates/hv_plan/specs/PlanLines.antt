@@ -53,8 +53,8 @@ headed h names is = record {
   line = h.line;
 }
 
--- the lines of heads: each takes the first of the lists that are left, and an empty one where none
--- is
+-- the lines of heads: each takes the first of the lists that are left, and an empty
+-- one where none is
 abbrev pub lines_of : List DecompositionHead → List (List Name) → List (List ℕ) → List Decomposition
 lines_of [] names is = []
 lines_of (h ∷ hs) names is =

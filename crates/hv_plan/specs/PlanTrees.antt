@@ -10,9 +10,9 @@ use Rattle.hv_plan.specs.Shapes.{head, FormTree}
 use Rattle.hv_plan.specs.Fits.{Says, FitWorld}
 use Rattle.hv_plan.specs.Trees.{Item, Act, Task, Pre, Tree, Reached, IsTree, HasActions}
 
--- What a decomposition line says, with numbers for names: its id, the number of the line, its task
--- with the objects, the method, and its children. The node of the root line has no id, task or
--- method
+-- What a decomposition line says, with numbers for names: its id, the number of the line, its
+-- task with the objects, the method, and its children. The node of the root line has no id,
+-- task or method
 pub record Node : Type 0 where
   pub id : Option ℕ
   pub line : ℕ
@@ -109,9 +109,9 @@ pub record IsNumberedTree (t : Tree) (nodes actions : ℕ) : Type 0 where
   pub reached_lines : (v : ℕ) → v < nodes → Reached t (Task v)
   pub reached_actions : HasActions t actions
 
--- The tree of a plan: it has the plan's actions, a node for each decomposition line and one for the
--- root line, which name as their children what the lines name by ids; and its nodes are a numbered
--- tree
+-- The tree of a plan: it has the plan's actions, a node for each decomposition line and one
+-- for the root line, which name as their children what the lines name by ids; and its nodes
+-- are a numbered tree
 pub record IsTreeOf (w : World) (p : Plan) (t : PlanTree) : Type 0 where
   pub actions : AllZip (IsActionOf w) p.actions t.actions
   pub action_ids : t.action_ids ≡ map (λ a. a.id) p.actions

@@ -100,8 +100,8 @@ pub record SayNoRoot (ls : List NumberedLine) : Type 0 where
   pub each : Each Says ls forms
   pub rootless : roots_among forms ≡ []
 
--- a text holds a plan: it is within the limit, has both markers, and the lines between them say the
--- plan
+-- a text holds a plan: it is within the limit, has both markers, and the lines between
+-- them say the plan
 pub record IsPlan (text : List ℕ) (p : Plan) : Type 0 where
   pub size : length text ≤ MOST_BYTES
   pub starts : has_start text ≡ true
@@ -128,8 +128,8 @@ pub data IsFirstFault (ls : List NumberedLine) : PlanFault → Type 0 where
       → Each Says before forms → roots_among forms ≡ first ∷ [] → Says l (root second)
       → IsFirstFault ls (faults.RepeatedRoot l.number)
 
--- the fault of the lines between the markers: that of the first faulty line, else that there is no
--- root
+-- the fault of the lines between the markers: that of the first faulty line, else that
+-- there is no root
 abbrev pub IsFaultOfLines : List NumberedLine → PlanFault → Type 0
 IsFaultOfLines ls (faults.BadByte n) = IsFirstFault ls (faults.BadByte n)
 IsFaultOfLines ls (faults.BadLine n) = IsFirstFault ls (faults.BadLine n)

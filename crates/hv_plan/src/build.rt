@@ -70,8 +70,8 @@ impl Methods<'_, '_> {
         }
     }
 
-    // The cause for which the children of a decomposition line are not as the subtasks of its
-    // method.
+    // The cause for which the children of a decomposition line are not as the subtasks
+    // of its method.
     fn line_cause(
         &self,
         tally: &mut Tally,

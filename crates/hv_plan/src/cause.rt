@@ -87,8 +87,8 @@ impl CauseKind {
     }
 }
 
-/// Why the lines of a plan form no tree that fits a world, and the number of the line that is at
-/// fault.
+/// Why the lines of a plan form no tree that fits a world, and the number of the line
+/// that is at fault.
 #[derive(Clone, Copy, Debug, PartialEq, Eq)]
 pub struct Cause {
     pub kind: CauseKind,

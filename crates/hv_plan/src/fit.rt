@@ -110,8 +110,8 @@ fn objects_fault(world: &World<'_>, name: TaskName, objects: &[ObjectId]) -> Opt
     None
 }
 
-// The objects of the arguments of a task or an action, or what keeps them from being as its
-// parameters.
+// The objects of the arguments of a task or an action, or what keeps them from being as
+// its parameters.
 fn fit_arguments<'s>(
     room: Vec<ObjectId>,
     world: &World<'s>,

@@ -17,8 +17,8 @@ use crate::task::{TaskText, name_at, read_task};
 use hv_text::{Name, TextKind, Word, fill_words};
 use std::alloc::Global;
 
-/// Room for the parts of one line. It is filled anew for each, so that none takes memory of its
-/// own.
+/// Room for the parts of one line. It is filled anew for each, so that none takes
+/// memory of its own.
 #[derive(Drop)]
 pub(crate) struct Room<'s> {
     words: Vec<Word<'s>>,
@@ -37,8 +37,8 @@ impl<'s> Room<'s> {
     }
 }
 
-/// What a line says: nothing, an action, a decomposition, or the ids of the root with the line's
-/// number.
+/// What a line says: nothing, an action, a decomposition, or the ids of the root with the
+/// line's number.
 #[derive(Clone, Copy)]
 pub(crate) enum LineText<'b, 's> {
     Blank,

@@ -30,8 +30,8 @@ pub(crate) fn read_id(word: Name<'_>) -> Id
     }
 }
 
-// What bytes are as an id, where they have no value of 64 bits: digits of a larger one, or no
-// digits.
+// What bytes are as an id, where they have no value of 64 bits: digits of a larger
+// one, or no digits.
 fn without_value(digits: &[u8]) -> Id
     ensures { MatchBool (is_digits digits.now) (result ≡ ids.TooLarge) (result ≡ ids.NoId) }
 {

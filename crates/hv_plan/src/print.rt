@@ -10,9 +10,9 @@ use crate::plan::{ActionLine, ActionLines, DecompositionLine, DecompositionLines
 use hv_text::{Memory, Name};
 use itoa::Buffer;
 
-/// Appends the canonical text of a plan: the action lines, the root line and the decomposition
-/// lines, between the markers, with ids without leading zeros, names in lower case, and no
-/// parentheses.
+/// Appends the canonical text of a plan: the action lines, the root line and the
+/// decomposition lines, between the markers, with ids without leading zeros, names in lower
+/// case, and no parentheses.
 ///
 /// # Errors
 ///

@@ -17,9 +17,9 @@ use hv_text::Memory;
 use hv_world::{Subtask, TaskName};
 use std::alloc::Global;
 
-/// Where the names of children and of subtasks are counted: a count for each task and each action,
-/// all 0 between one line and the next, and room for names and numbers that is used again for each
-/// line.
+/// Where the names of children and of subtasks are counted: a count for each task and each
+/// action, all 0 between one line and the next, and room for names and numbers that is used again
+/// for each line.
 #[derive(Drop)]
 pub(crate) struct Tally {
     pub(crate) counts: Vec<usize>,

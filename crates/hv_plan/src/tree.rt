@@ -22,8 +22,8 @@ pub enum Child {
     Node(u32),
 }
 
-/// The line of a node and its number in the text; a decomposition line says an id, a task and a
-/// method.
+/// The line of a node and its number in the text; a decomposition line says an id, a
+/// task and a method.
 #[derive(Clone, Copy)]
 pub(crate) enum Head {
     Root {

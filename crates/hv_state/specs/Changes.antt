@@ -55,8 +55,8 @@ module _ (w : Typing) (g : GroundAtom) where
     SomeMention no_formulas env = ⊥
     SomeMention (more_formulas f fs) env = Mentions f env ⊎ SomeMention fs env
 
--- j is the first index after k at which an atom changes that the formula speaks of, or one past the
--- last
+-- j is the first index after k at which an atom changes that the formula speaks of, or
+-- one past the last
 pub record IsNextChange (p : Plan) (k : ℕ) (f : Formula) (env : List ℕ) (j : ℕ) : Type 0 where
   pub after : k < j
   pub within : j ≤ length p.actions + 1

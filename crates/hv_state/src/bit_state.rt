@@ -8,7 +8,7 @@ ghost use Rattle.hv_state.specs.inside.Bits.{Lit, Shown, Knows, AreBits, IsChang
 
 use crate::atom::AtomView;
 use crate::bits::has_bit;
-use crate::find::{guesses_of, look_up_at, next_possible};
+use crate::find::{guesses_of, look_up_at, next_guessed};
 use crate::ground::GroundAtoms;
 use crate::guesses::{Guesses, Stride};
 use crate::lit::{bright, clear_all, knows_all, lacking, lit_rows, set_all};
@@ -97,7 +97,7 @@ impl BitState {
     pub(crate) fn next_known(&self, atom: &AtomView<'_>) -> usize
         ensures { IsPassedOver (Listed self.now.0) (atom_read atom.now) result }
     {
-        next_possible(&self.table, atom)
+        next_guessed(&self.table, &self.guesses, atom)
     }
 
     // Sees to it that the table has these rows. The same atoms are true as before.

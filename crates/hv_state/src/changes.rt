@@ -17,7 +17,7 @@ ghost use Rattle.hv_state.specs.inside.Stretches.{is_true_in};
 use crate::atom::AtomView;
 use crate::bits::{has_bit, raise};
 use crate::facts::Facts;
-use crate::find::{guesses_of, look_up_at, next_possible};
+use crate::find::{guesses_of, look_up_at, next_guessed};
 use crate::guesses::{Guesses, Stride};
 use crate::history::{Change, History, least};
 use crate::rows::Row;
@@ -111,7 +111,7 @@ impl Changes {
         ensures { IsPassedOver (Listed (rows_of self.now)) (atom_read atom.now) result }
     {
         if self.has_some_of(atom.predicate) {
-            next_possible(&self.list, atom)
+            next_guessed(&self.list, &self.guesses, atom)
         } else {
             usize::MAX
         }

@@ -135,6 +135,18 @@ pub(crate) fn next_possible<T: HasRow>(list: &[T], atom: &AtomView<'_>) -> usize
     }
 }
 
+/// The same, where guesses tell at once that the row itself is listed.
+pub(crate) fn next_guessed<T: HasRow>(list: &[T], guesses: &Guesses, atom: &AtomView<'_>) -> usize
+    requires ascend { Ascend (map T.numbers list.now) }
+    requires told { TellRows guesses.now.buckets.items (map T.numbers list.now) }
+    ensures { IsPassedOver (Listed (map T.numbers list.now)) (atom_read atom.now) result }
+{
+    match look_up(list, guesses, atom) {
+        Some(_) => 0,
+        None => next_possible(list, atom),
+    }
+}
+
 /// Guesses of where the rows of a list stand.
 ///
 /// # Errors

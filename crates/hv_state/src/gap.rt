@@ -67,8 +67,8 @@ fn guide_alone<'a>(formula: &'a Formula, binding: &Binding<'_>) -> Option<&'a At
     }
 }
 
-/// An atom without which a formula is not true, and whose last term is the variable that is bound
-/// next.
+/// An atom without which a formula is not true, and whose last term is the variable that
+/// is bound next.
 pub(crate) fn guide_to_truth<'a>(formula: &'a Formula, binding: &Binding<'_>) -> Option<&'a Atom>
     ensures { IfSome result (λ a. IsGuide (objects_in binding.now)
         (needed (formula_view formula.now)) (atom_view a.now)) }
@@ -117,9 +117,9 @@ pub(crate) fn guide_to_failure<'a>(formula: &'a Formula, binding: &Binding<'_>) 
 // Where so many objects are passed over, or more, a look for the next of them is worth its time.
 const FEW: usize = 4;
 
-/// Objects that need not be tried, those from one number on up to before another, and how often in
-/// vain they were looked for: where nothing is passed over, the next look waits for twice as many
-/// objects.
+/// Objects that need not be tried, those from one number on up to before another, and how
+/// often in vain they were looked for: where nothing is passed over, the next look waits for
+/// twice as many objects.
 #[derive(Clone, Copy)]
 pub(crate) struct Gap {
     pub(crate) from: usize,

@@ -63,9 +63,9 @@ impl Guesses {
 // What stands so many places further is mostly at hand, and costs little where it is not wanted.
 const NEAR: usize = 4;
 
-/// Where atoms were found one after another. Those that an effect changes for all objects, or a
-/// quantifier asks for, stand at equal distances, mostly, and so the next is looked for there
-/// first.
+/// Where atoms were found one after another. Those that an effect changes for all objects,
+/// or a quantifier asks for, stand at equal distances, mostly, and so the next is looked
+/// for there first.
 #[derive(Clone, Copy)]
 pub(crate) struct Stride {
     last: usize,

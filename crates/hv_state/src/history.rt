@@ -230,8 +230,8 @@ impl History {
         }
     }
 
-    /// Puts a change behind the others. Where the last of them is at the same index, that one is
-    /// undone.
+    /// Puts a change behind the others. Where the last of them is at the same index, that
+    /// one is undone.
     ///
     /// # Errors
     ///

@@ -101,9 +101,9 @@ fn next_of_parts(
     until
 }
 
-// The same of a formula for all objects of these types that the next variables may have. They are
-// gone through only where an atom of the formula may change: truth may be told by the first of
-// many.
+// The same of a formula for all objects of these types that the next variables may have. They
+// are gone through only where an atom of the formula may change: truth may be told by the
+// first of many.
 #[cycle(next_change)]
 fn next_of_choices(
     world: &World<'_>,

@@ -17,8 +17,8 @@ use smallvec::SmallVec;
 use std::alloc::Global;
 use std::cmp::Ordering;
 
-/// The row of an atom. Up to four numbers, as those of an atom of three objects, take no
-/// allocation.
+/// The row of an atom. Up to four numbers, as those of an atom of three objects, take
+/// no allocation.
 #[derive(PartialEq, Eq, PartialOrd, Ord, Drop)]
 pub(crate) struct Row {
     pub(crate) numbers: SmallVec<usize, 4>,

@@ -1,5 +1,5 @@
--- Whole texts said a second time: by their sections alone, with no word of those that stand before
--- one.
+-- Whole texts said a second time: by their sections alone, with no word of those that
+-- stand before one.
 use Rattle.std.specs.Prelude.{◌≡◌, ◌≢◌, ℕ, true, List, [], ◌∷◌, Option, Some, None, codes}
 use Rattle.std.specs.List.{filter_map}
 use Rattle.hv_text.specs.Trees.{Tree, word, list, Trees, more}
@@ -82,8 +82,8 @@ pub record SaysDomain (n : WordAt) (xs : List DomainSection) (d : Domain) : Type
   pub methods : d.methods ≡ filter_map of_method xs
   pub actions : d.actions ≡ filter_map of_action xs
 
--- a domain: its list, whose members are sections, each once where it may stand once, and what they
--- say
+-- a domain: its list, whose members are sections, each once where it may stand once,
+-- and what they say
 pub data IsDomainBySections : Trees → Domain → Type 0 where
   domain_by_sections : (es : Trees) (n : WordAt) (ts : Trees) (s : Span) (xs : List DomainSection)
       (d : Domain) → SpellsDefine (codes "domain") es n ts s
@@ -126,8 +126,8 @@ pub record SaysProblem (n : WordAt) (xs : List ProblemSection) (p : Problem) : T
   pub init : said of_init xs ≡ Some p.init
   pub goal : p.goal ≡ said of_goal xs
 
--- a problem: its list, whose members are sections, each once where it may stand once, and what they
--- say
+-- a problem: its list, whose members are sections, each once where it may stand once,
+-- and what they say
 pub data IsProblemBySections : Trees → Problem → Type 0 where
   problem_by_sections : (es : Trees) (n : WordAt) (ts : Trees) (s : Span) (xs : List ProblemSection)
       (p : Problem) → SpellsDefine (codes "problem") es n ts s

@@ -60,8 +60,8 @@ atom_expression a = form a.symbol.text (each term_expression a.terms)
 abbrev pub type_name_expression : TypeOf → Tree
 type_name_expression t = the_word (type_name t)
 
--- the type of a variable: `object` where no name is written, one name as it is, and else `(either
--- ..)`
+-- the type of a variable: `object` where no name is written, one name as it is, and
+-- else `(either ..)`
 abbrev pub type_expression : List WordAt → Tree
 type_expression [] = the_word (codes "object")
 type_expression (n ∷ []) = word_expression n

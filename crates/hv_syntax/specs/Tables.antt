@@ -1,5 +1,5 @@
--- The table of the grammar from fields up: networks, declarations, sections, whole domains and
--- problems.
+-- The table of the grammar from fields up: networks, declarations, sections, whole
+-- domains and problems.
 use Rattle.std.specs.Prelude.{◌≡◌, ℕ, Bool, true, false, List, [], ◌∷◌, ◌++◌, Option, Some, None, codes}
 use Rattle.hv_text.specs.Trees.{Tree, word, list, Trees, none, more}
 use Rattle.hv_text.specs.declared.span.Span.{Span}
@@ -159,8 +159,8 @@ pub data IsDomain : Trees → Domain → Type 0 where
       → SpellSections domain_standing SpellsDomainSection add_section (no_domain n) [] ts d
       → IsDomain es d
 
--- a problem: `(define (problem name) section*)`, with `:domain`, `:htn` and `:init` among the
--- sections
+-- a problem: `(define (problem name) section*)`, with `:domain`, `:htn` and `:init`
+-- among the sections
 pub data IsProblem : Trees → Problem → Type 0 where
   a_problem : (es : Trees) (n : WordAt) (ts : Trees) (s : Span) (p : Parts) (m : WordAt) (h : Htn)
       (ls : List Literal) → SpellsDefine (codes "problem") es n ts s

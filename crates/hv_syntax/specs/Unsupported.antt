@@ -46,9 +46,9 @@ abbrev pub holds_at : Form → Option Tree → Bool
 holds_at f None = false
 holds_at f (Some t) = holds_form f t
 
--- whether a section with this head and these members behind it holds an unsupported form: one of
--- those that are so anywhere, or in an action a `forall` in the member after its first word
--- `:effect`
+-- whether a section with this head and these members behind it holds an unsupported form: one
+-- of those that are so anywhere, or in an action a `forall` in the member after its first
+-- word `:effect`
 abbrev pub has_unsupported : List ℕ → Trees → Bool
 has_unsupported w ts =
     is_form_list forms.Anywhere ts

@@ -146,8 +146,8 @@ pub record Task : Type 0 where
 abbrev pub task : Span → WordAt → List Variable → Task
 task s w ps = record { name = w; parameters = ps; place = s }
 
--- a method: the task that it is for, when it may be used, and its network; with the place of its
--- section
+-- a method: the task that it is for, when it may be used, and its network; with the place
+-- of its section
 pub record Method : Type 0 where
   pub name : WordAt
   pub parameters : List Variable
@@ -171,8 +171,8 @@ pub record Action : Type 0 where
 abbrev pub action : Span → WordAt → List Variable × Effect → Formula → Action
 action s w (ps, e) f = record { name = w; parameters = ps; precondition = f; effect = e; place = s }
 
--- a domain: what each kind of section says, tasks, methods and actions each in the order of the
--- text
+-- a domain: what each kind of section says, tasks, methods and actions each in the
+-- order of the text
 pub record Domain : Type 0 where
   pub name : WordAt
   pub requirements : List WordAt

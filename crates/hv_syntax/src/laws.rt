@@ -33,8 +33,8 @@ ghost use Rattle.hv_syntax.specs.Spellings.{SpellsConstraint};
 
 use hv_text::{a_text_has_one_reading, expressions_or_one_fault};
 
-/// Terms, and atoms and tasks over them, are read exactly where the table of the grammar spells
-/// them.
+/// Terms, and atoms and tasks over them, are read exactly where the table of the
+/// grammar spells them.
 pub fn atoms_are_spelled()
     ensures terms { (t : Tree) (x : Term) → SpellsTerm t x ↔ (term_of t ≡ Some x) }
     ensures atoms { (t : Tree) (a : Atom) → SpellsAtom t a ↔ (atom_of t ≡ Some a) }
@@ -104,9 +104,9 @@ pub fn a_text_says_one_thing()
     a_text_has_one_reading();
 }
 
-/// The fault that is reported is the one of the table: what stands around the sections, then the
-/// first faulty section by its head, by its standing a second time and by its shape, then a missing
-/// one.
+/// The fault that is reported is the one of the table: what stands around the sections, then
+/// the first faulty section by its head, by its standing a second time and by its shape, then
+/// a missing one.
 pub fn faults_are_first()
     ensures domains { (es : Trees) (kind : SyntaxKind) (s : Span) → IsFaultyDomain es kind s
         ↔ (domain_of es ≡ Err (kind, s)) }

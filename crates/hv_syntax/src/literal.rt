@@ -108,8 +108,8 @@ pub(crate) fn read_ground_literals<'s>(
     Ok(literals)
 }
 
-/// Reads literals whose terms are names, one at a time up to the end of the list, and the place
-/// there.
+/// Reads literals whose terms are names, one at a time up to the end of the list, and
+/// the place there.
 ///
 /// # Errors
 ///

@@ -366,8 +366,8 @@ fn read_form<'s>(
 ///
 /// # Errors
 ///
-/// `NoSpelling` where a field of a network has another form, or both forms of subtasks stand, and
-/// `Memory`.
+/// `NoSpelling` where a field of a network has another form, or both forms of subtasks
+/// stand, and `Memory`.
 pub(crate) fn read_network<'s>(
     alloc: Global,
     fields: &[Sexp<'s>],

@@ -1,5 +1,5 @@
-//! Forms of the language that are not supported: conditional effects, numbers, preferences and
-//! more.
+//! Forms of the language that are not supported: conditional effects, numbers,
+//! preferences and more.
 
 ghost use Rattle.std.specs.Prelude.{◌≡◌, option_map};
 ghost use Rattle.hv_text.specs.Names.{text_of};

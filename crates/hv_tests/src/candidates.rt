@@ -509,8 +509,8 @@ const TELLING: [(&[u8], usize); 9] = [
     ),
 ];
 
-// Fifteen alike subtasks, in more ways than a test could wait for, of which the last one leaves
-// one.
+// Fifteen alike subtasks, in more ways than a test could wait for, of which the last
+// one leaves one.
 const MANY: &[u8] = b"(define (domain many)\n\
     (:constants o1 o2 o3 o4 o5 o6 o7 o8 o9 o10 o11 o12 o13 o14 o15)\n\
     (:task t) (:action a :parameters (?x)) (:action b :parameters\n\

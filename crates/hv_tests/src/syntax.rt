@@ -105,8 +105,8 @@ fn reads_each_form_of_a_domain(rt: HostRuntime) {
     assert!(rt; reads_domain(rt.alloc()) == Some(true));
 }
 
-// How many members each section of a problem has; the parameters and the subtasks are those of its
-// network.
+// How many members each section of a problem has; the parameters and the subtasks are those
+// of its network.
 fn sections_of_problem(problem: &ProblemText<'_>) -> [usize; 5] {
     [
         problem.requirements().len(),

@@ -32,8 +32,8 @@ pub(crate) fn nested(
     Ok(text)
 }
 
-/// The line and the column of a span in a text, none where the text is longer than any that is
-/// read.
+/// The line and the column of a span in a text, none where the text is longer than
+/// any that is read.
 pub(crate) fn place_in(text: &[u8], span: Span) -> (u32, u32) {
     if text.len() > MOST_BYTES {
         return (0, 0);

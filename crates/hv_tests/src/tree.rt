@@ -204,8 +204,8 @@ fn delivery_with(alloc: Global, others: &[(usize, &'static str)]) -> Result<Stri
     Ok(text)
 }
 
-// The first of some plans for the package that has another cause than the one beside it, by its
-// place.
+// The first of some plans for the package that has another cause than the one beside
+// it, by its place.
 fn misjudged(alloc: Global) -> Result<Option<usize>, Fail> {
     let Some(world) = world_of(alloc, TRANSPORT, ONE) else {
         return Ok(Some(0));

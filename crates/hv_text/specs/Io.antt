@@ -5,8 +5,8 @@ use Rattle.hv_text.specs.declared.io.DeviceFault.{DeviceFault}
 use Rattle.hv_text.specs.declared.io.ReadFault.{ReadFault}
 use Rattle.hv_text.specs.declared.io.ReadFault.TheVariants.{Device, TooLong, Memory}
 
--- how many failures a write counts: one where it failed, or took no byte of a text that is not
--- empty
+-- how many failures a write counts: one where it failed, or took no byte of a text
+-- that is not empty
 abbrev pub failure_of : Result ℕ DeviceFault → ℕ → ℕ
 failure_of (Err e) n = 1
 failure_of (Ok k) zero = 0

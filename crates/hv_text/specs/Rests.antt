@@ -22,8 +22,8 @@ abbrev pub add_all : Trees → Rest → Rest
 add_all none r = r
 add_all (more t ts) r = add t (add_all ts r)
 
--- a `(` at this place: it begins the list that the next open `)` ends; nothing is said where none
--- does
+-- a `(` at this place: it begins the list that the next open `)` ends; nothing is said
+-- where none does
 abbrev pub enclose : Span → Rest → Rest
 enclose s (last ts) = last none
 enclose s (upto ts e r) = add (list ts (record { start = s.start; past = e })) r

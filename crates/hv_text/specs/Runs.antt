@@ -29,8 +29,8 @@ pub record IsRun (bytes : List ℕ) (s : Span) : Type 0 where
 abbrev pub IsByte : List ℕ → Span → ℕ → Type 0
 IsByte bytes s b = (s.past ≡ s.start + 1) × (slice_get bytes s.start ≡ Some b)
 
--- what stands among bytes without comments: a maximal run by its lower case, a parenthesis, a bad
--- byte
+-- what stands among bytes without comments: a maximal run by its lower case, a
+-- parenthesis, a bad byte
 abbrev pub IsAmong : List ℕ → Piece → Type 0
 IsAmong bytes (word w s) = IsRun bytes s × (w ≡ lower (slice_range bytes s.start s.past))
 IsAmong bytes (left s) = IsByte bytes s 40

@@ -17,8 +17,8 @@ abbrev pub closing : Span → Span
 closing s = record { start = s.past - 1; past = s.past }
 
 abbrev mutual
-  -- what an expression spells: a word itself, a list a parenthesis, its members in order, and a
-  -- parenthesis
+  -- what an expression spells: a word itself, a list a parenthesis, its members in order,
+  -- and a parenthesis
   pub spelled : Tree → List Piece
   spelled (word w s) = found.word w s ∷ []
   spelled (list ts s) = left (opening s) ∷ spelled_all ts ++ right (closing s) ∷ []

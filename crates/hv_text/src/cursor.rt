@@ -17,8 +17,8 @@ use crate::span::Span;
 use crate::words::{Word, next_word};
 use std::alloc::Global;
 
-/// Checks that a text has expressions, with a stack of the parentheses that are open and nothing
-/// else.
+/// Checks that a text has expressions, with a stack of the parentheses that are open
+/// and nothing else.
 ///
 /// # Errors
 ///
@@ -93,8 +93,8 @@ impl<'s> Cursor<'s> {
         Ok(Cursor { text, at: 0 })
     }
 
-    /// The word or parenthesis that comes next, and the place behind it; None at the end of the
-    /// text.
+    /// The word or parenthesis that comes next, and the place behind it; None at the
+    /// end of the text.
     pub fn next(self) -> Option<(Word<'s>, Cursor<'s>)>
         ensures none { IfNone result (rest_at self.entry ≡ last none) }
         ensures some { IfSome result (λ p. rest_at self.entry ≡ step (piece_of p.0) (rest_at p.1)) }

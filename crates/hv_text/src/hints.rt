@@ -4,10 +4,10 @@ use crate::name::Name;
 use crate::refusal::Memory;
 use std::alloc::Global;
 
-/// For each of some names two places where it may stand in a list, by a hash that is cheap. A place
-/// is looked at before it is taken, and a name that stands at neither is looked up in a table: so
-/// nothing hangs on the hash but time, and where a text makes names collide, two looks are lost for
-/// each.
+/// For each of some names two places where it may stand in a list, by a hash that is cheap. A
+/// place is looked at before it is taken, and a name that stands at neither is looked up in a
+/// table: so nothing hangs on the hash but time, and where a text makes names collide, two looks
+/// are lost for each.
 #[derive(Drop)]
 pub struct Hints {
     buckets: Vec<[u32; 2]>,

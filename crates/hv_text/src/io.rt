@@ -55,8 +55,8 @@ pub trait Sink {
     // The bytes that were taken, where a contract can name them.
     ghost taken: { Self → Option (List ℕ) };
 
-    // How many writes have failed so far, those that took no byte of a text that is not empty among
-    // them.
+    // How many writes have failed so far, those that took no byte of a text that is not
+    // empty among them.
     ghost failures: { Self → ℕ };
 
     /// Takes some of the first bytes, and says how many.
@@ -103,8 +103,8 @@ pub fn read_all<R: Source>(
     }
 }
 
-/// Writes all of the bytes, or a beginning of them and `Device` where a write failed or took
-/// nothing.
+/// Writes all of the bytes, or a beginning of them and `Device` where a write failed
+/// or took nothing.
 pub fn write_all<W: Sink>(out: &mut W, bytes: &[u8]) -> Result<(), WriteFault>
     requires { W.failures out.old < 2 ^ 64 - 1 }
     ensures ok { OnOk result (Appends (W.taken out.old) (W.taken out.new) bytes.now) }

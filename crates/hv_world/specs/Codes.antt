@@ -1,5 +1,5 @@
--- Formulas and effects as trees of numbers, which give them back: so a proof tells two worlds
--- apart.
+-- Formulas and effects as trees of numbers, which give them back: so a proof tells
+-- two worlds apart.
 use Rattle.std.specs.Prelude.{◌≡◌, ℕ, Bool, true, false, nat_eq, List, [], ◌∷◌, if◌then◌else◌}
 use Rattle.std.specs.Coded.{Coded, code_by}
 use Rattle.std.proofs.Math.Path.{refl, ap, ◌∙◌}

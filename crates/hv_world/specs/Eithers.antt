@@ -50,8 +50,8 @@ domain_variables d =
 abbrev pub problem_variables : Problem → List Variable
 problem_variables p = p.htn.parameters ++ goal_variables p.goal
 
--- the variables of a domain and a problem, but the parameters of predicates, whose types mean
--- nothing
+-- the variables of a domain and a problem, but the parameters of predicates, whose
+-- types mean nothing
 abbrev pub all_variables : Domain → Problem → List Variable
 all_variables d p = domain_variables d ++ problem_variables p
 

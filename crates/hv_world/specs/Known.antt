@@ -90,9 +90,9 @@ type_names d = by_sight (codes "object" ∷ flat_map both_types d.types)
 abbrev pub object_names : Domain → Problem → List (List ℕ)
 object_names d p = by_sight (variables (d.constants ++ p.objects))
 
--- what the static rules ask of names: which are types and objects, and how predicates, tasks and
--- actions are declared, a name declared twice as it is first; and which lists of names are types of
--- variables
+-- what the static rules ask of names: which are types and objects, and how predicates, tasks
+-- and actions are declared, a name declared twice as it is first; and which lists of names are
+-- types of variables
 pub record Known : Type 0 where
   pub types : List (List ℕ)
   pub eithers : List (List (List ℕ))

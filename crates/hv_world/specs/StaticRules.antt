@@ -22,8 +22,8 @@ use Rattle.hv_world.specs.Cycles.{is_cyclic}
 abbrev pub at_word_if : Bool → StaticKind → Side → WordAt → List StaticFault
 at_word_if b k s w = if b then fault_at k s w ∷ [] else []
 
--- a known name has this number of terms, or it is at fault; an unknown one is at fault in its own
--- way
+-- a known name has this number of terms, or it is at fault; an unknown one is at fault
+-- in its own way
 abbrev pub head_faults : StaticKind → Side → WordAt → Option ℕ → ℕ → List StaticFault
 head_faults k s w None n = fault_at k s w ∷ []
 head_faults k s w (Some arity) n = at_word_if (not (nat_eq arity n)) kinds.Arity s w

@@ -47,8 +47,8 @@ typing types objects parents declared =
 abbrev pub object_numbers : List ObjectId → List ℕ
 object_numbers = map (λ o. o.0)
 
--- the objects of these numbers, from one on, are not below that of the first of them, and below
--- another
+-- the objects of these numbers, from one on, are not below that of the first of them,
+-- and below another
 abbrev pub AreBelow : List ℕ → ℕ → ℕ → ℕ → Type 0
 AreBelow os from until upto =
     (from ≤ upto)

@@ -358,8 +358,8 @@ fn marked_numbers(alloc: Global, marks: &[bool]) -> Result<Vec<usize>, Memory>
     Ok(numbers)
 }
 
-/// The numbers of the parameters that are arguments neither of the task nor of a subtask,
-/// ascending.
+/// The numbers of the parameters that are arguments neither of the task nor of a
+/// subtask, ascending.
 pub(crate) fn free_parameters(
     alloc: Global,
     parameters: usize,

@@ -16,8 +16,8 @@ pub enum StaticKind {
     UnknownObject,
     /// A predicate that the domain does not declare.
     UnknownPredicate,
-    /// A method is for a task that is not declared, or a subtask names neither a task nor an
-    /// action.
+    /// A method is for a task that is not declared, or a subtask names neither a task
+    /// nor an action.
     UnknownTask,
     /// A variable that neither the parameters of its section nor a quantifier around it bind.
     UnboundVariable,

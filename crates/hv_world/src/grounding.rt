@@ -88,8 +88,8 @@ impl GroundActions {
         }
     }
 
-    /// Puts an action with its objects behind the others. They stay as they were where that is
-    /// refused.
+    /// Puts an action with its objects behind the others. They stay as they were where
+    /// that is refused.
     ///
     /// # Errors
     ///

@@ -220,8 +220,8 @@ impl<'s> Tables<'s> {
         place_of(&self.objects, &self.hints, name)
     }
 
-    /// The number of a constant or an object; of one that is not declared, the number behind the
-    /// last.
+    /// The number of a constant or an object; of one that is not declared, the number
+    /// behind the last.
     pub(crate) fn object_number(&self, name: Name<'s>) -> usize
         ensures { result ≡ number_in (known_by self.now).objects (text_of name.entry) }
     {

@@ -97,8 +97,8 @@ pub record IsWorldOf (domain problem : List ℕ) (w : World) : Type 0 where
   pub are_read : AreRead domain problem d p
   pub is : w ≡ world_of d p
 
--- the verdict of each plan that has this tree and reaches the goal, where no count is above the
--- limit
+-- the verdict of each plan that has this tree and reaches the goal, where no count is
+-- above the limit
 abbrev pub IsEndInOrder : World → PlanTree → NotSolved → Type 0
 IsEndInOrder w t e =
     (p : Plan) (limit : ℕ) → ReachesGoal w p t → IsWithinLimit w t limit

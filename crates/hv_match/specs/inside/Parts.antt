@@ -51,8 +51,8 @@ IsStateOf p at =
 abbrev pub to_find : Seeker → List (List ℕ × List ℕ)
 to_find s = coming (puzzle_view s.puzzle) s.at
 
--- the search stands where it may, and what is lent has room for the children and the objects of a
--- match
+-- the search stands where it may, and what is lent has room for the children and the
+-- objects of a match
 abbrev pub HasRoom : Seeker → List ℕ → List ObjectId → Type 0
 HasRoom s M os =
     IsStateOf s.puzzle s.at × (length M ≡ length s.puzzle.table.now.subtasks.now)
@@ -74,8 +74,8 @@ abbrev pub IsListing : Coming → List ℕ → List ObjectId → Type 0
 IsListing (comings.Written b) M os = Unit {0}
 IsListing (comings.Sought s) M os = HasRoom s.value M os
 
--- the first of those that were to come are left out, which have their first children at these
--- places
+-- the first of those that were to come are left out, which have their first children
+-- at these places
 pub record LosesSome (places : List ℕ) (old new : List (List ℕ × List ℕ)) : Type 0 where
   pub gone : List (List ℕ × List ℕ)
   pub coming : old ≡ gone ++ new

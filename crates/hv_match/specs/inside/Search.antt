@@ -7,8 +7,8 @@ abbrev pub IsPath : (List ℕ → List ℕ) → List ℕ → List ℕ → Type 0
 IsPath options p [] = Unit {0}
 IsPath options p (x ∷ xs) = Contains (options p) x × IsPath options (p ++ x ∷ []) xs
 
--- all that is wanted with k choices after p, the first of them not among the first c that may
--- follow
+-- all that is wanted with k choices after p, the first of them not among the first c
+-- that may follow
 abbrev pub below : (List ℕ → List ℕ) → (List ℕ → Bool) → ℕ → List ℕ → ℕ → List (List ℕ)
 below options good zero p c = if good p then p ∷ [] else []
 below options good (suc k) p c =
@@ -51,8 +51,8 @@ Differs s p x = length p < s.distinct → Contains p x → ⊥
 abbrev pub IsChoice : List ℕ → ℕ → Option ℕ → Type 0
 IsChoice xs n choice = MatchOption choice (length xs ≤ n) (λ x. drop n xs ≡ x ∷ drop (n + 1) xs)
 
--- nothing that is wanted begins with p and any of the choices from one number on up to before
--- another
+-- nothing that is wanted begins with p and any of the choices from one number on up to
+-- before another
 abbrev pub ArePassed : Search → List ℕ → ℕ → ℕ → Type 0
 ArePassed s p from upto = (from ≤ upto)
     × ((i : ℕ) → from ≤ i → i < upto

@@ -107,8 +107,8 @@ IsWritten old t s new =
     (i : ℕ) → i < length old
     → source_at new i ≡ (if is_variable i t then Some s else source_at old i)
 
--- each parameter among the terms of a subtask or of the task has its first position there for its
--- source
+-- each parameter among the terms of a subtask or of the task has its first position there
+-- for its source
 abbrev pub AreWritten : List (Option Source) → Option ℕ → List Term → List (Option Source) → Type 0
 AreWritten old j ts new = (i : ℕ) → i < length old
     → source_at new i ≡ first_in j i 0 ts (source_at old i)

@@ -45,8 +45,8 @@ HasFinish q v s = (f : ℕ) × IsLeastAt (q.fits v s) q.last f
 abbrev pub HaveFinishes : Facts → List (Option ℕ) → Type 0
 HaveFinishes q starts = (v s : ℕ) → said_of starts v ≡ Some s → HasFinish q v s
 
--- a node stands that begins at s, and behind its index its candidate's subtasks can be over when it
--- is
+-- a node stands that begins at s, and behind its index its candidate's subtasks can be
+-- over when it is
 pub record IsStandFrom (q : Facts) (v s : ℕ) (t : Stand) : Type 0 where
   pub start : t.start ≡ s
   pub is : IsStand q v t

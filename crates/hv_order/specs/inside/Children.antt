@@ -9,8 +9,8 @@ use Rattle.hv_order.specs.Finishes.{ActionFits}
 abbrev pub child_at : List Child → ℕ → Child
 child_at cs j = slice_index_or cs j (children.Action 0)
 
--- between which states a child fits: an action where it stands in the plan, a node as it is said of
--- it
+-- between which states a child fits: an action where it stands in the plan, a node as
+-- it is said of it
 abbrev pub ChildFits : (ℕ → ℕ → ℕ → Type 0) → Child → ℕ → ℕ → Type 0
 ChildFits Fits (children.Action k) s f = ActionFits k s f
 ChildFits Fits (children.Node v) s f = Fits v s f

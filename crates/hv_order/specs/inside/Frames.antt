@@ -62,8 +62,8 @@ pub record IsWonBy (q : Facts) (s : ℕ) (c : Arrangement) (b : Best) : Type 0 w
 abbrev pub Won : Facts → ℕ → Arrangement → Option Best → Type 0
 Won q s winner best = (b : Best) → best ≡ Some b → IsWonBy q s winner b
 
--- all of these candidates but those that are left were tried, and this is the best of what they
--- gave
+-- all of these candidates but those that are left were tried, and this is the best of
+-- what they gave
 pub record IsBest (q : Facts) (s : ℕ) (all left : List Arrangement) (best : Option Best)
     : Type 0 where
   pub tried : IsSoFar all left (FitsWith q s) q.last (finish_of best)

@@ -48,8 +48,8 @@ pub record IsSettled (q : Facts) (v s : ℕ) (r : Settled) : Type 0 where
   pub run : IsNodeRun q v s r.run
   pub winner : IsWinnerOf q v r.run r.winner
 
--- what the best of a node's candidates comes to: where there is none, there is none for any later
--- start
+-- what the best of a node's candidates comes to: where there is none, there is none for
+-- any later start
 abbrev pub settled_by : Option Winner → ℕ → Settled
 settled_by None n = record { run = record { last = n; finish = None }; winner = None }
 settled_by (Some w) n =

@@ -76,8 +76,8 @@ pub record LosesLast (runs : List Run) (finish : Option ℕ) (runs' : List Run) 
 abbrev pub IsTrimmed : List Run → Option ℕ → List Run → Type 0
 IsTrimmed runs finish runs' = StaysWhole runs finish runs' ⊎ LosesLast runs finish runs'
 
--- so many of these runs were looked at: one or more, and at most as many as their number has binary
--- digits
+-- so many of these runs were looked at: one or more, and at most as many as their number
+-- has binary digits
 pub record AreFew (runs : List Run) (looked : ℕ) : Type 0 where
   pub one : 1 ≤ looked
   pub few : HasDigits (length runs) looked

@@ -28,8 +28,8 @@ is_behind_all s cs y [] = true
 is_behind_all s cs y (i ∷ is) =
     is_behind s (child_view (child_at cs i)) (child_view y) && is_behind_all s cs y is
 
--- so is the child of each subtask from j on, for which these lists say what stands directly before
--- it
+-- so is the child of each subtask from j on, for which these lists say what stands
+-- directly before it
 abbrev pub are_behind : Spans → List Child → ℕ → List (List ℕ) → Bool
 are_behind s cs j [] = true
 are_behind s cs j (is ∷ rest) =
@@ -90,8 +90,8 @@ pub record IsBlocked (s : Spans) (cs : List Child) (lists : List (List ℕ)) (at
   pub actions : HaveActions s cs
   pub met : IsMet s cs at
 
--- all are in order where none is told, and else the children cannot stay as they are up to this
--- subtask
+-- all are in order where none is told, and else the children cannot stay as they are up
+-- to this subtask
 abbrev pub TellsStuck : Spans → List Child → List (List ℕ) → Option ℕ → Type 0
 TellsStuck s cs lists o =
     MatchOption o (are_behind s cs 0 lists ≡ true)

@@ -14,8 +14,8 @@ use Rattle.hv_plan.specs.declared.cause.Cause.{Cause}
 use Rattle.hv_plan.specs.declared.fit.LineFault.{LineFault}
 use Rattle.hv_plan.specs.declared.fit.LineFault.TheVariants as faults
 
--- a line that begins with an id: what it says of the id, and the method where it is a decomposition
--- line
+-- a line that begins with an id: what it says of the id, and the method where it is a
+-- decomposition line
 pub record Entry : Type 0 where
   pub said : Action
   pub method : Option (List ℕ)

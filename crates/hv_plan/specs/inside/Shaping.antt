@@ -1,5 +1,5 @@
--- How the shape of a plan is found: lines of ids, the places of ids, a walk along places, and
--- numbers.
+-- How the shape of a plan is found: lines of ids, the places of ids, a walk along
+-- places, and numbers.
 use Rattle.std.specs.Prelude.{◌≡◌, zero, suc, take, drop, ◌+◌, ◌-◌, ◌<◌, ◌≤◌, ℕ, Bool, true, false, List, [], ◌∷◌, ◌++◌, map, flat_map, length, min, max, nat_eq, nat_lt, slice_index, slice_index_or, Contains, Option, Some, None, if◌then◌else◌}
 use Rattle.std.specs.List.{list_any}
 use Rattle.hv_lists.specs.Lists.{Once}
@@ -72,8 +72,8 @@ is_marked marks k = slice_index_or marks k false
 abbrev pub places_of_lines : List ℕ → Plan → List (List ℕ)
 places_of_lines is p = map (λ d. map (place_of is) d.children) p.decompositions
 
--- the places of the children of a place, where the first places are those of actions, which have
--- none
+-- the places of the children of a place, where the first places are those of actions,
+-- which have none
 abbrev pub kids : List (List ℕ) → ℕ → ℕ → List ℕ
 kids lists actions place =
     if nat_lt place actions then [] else slice_index_or lists (place - actions) []
@@ -134,8 +134,8 @@ abbrev pub backward : List ℕ → ℕ → List ℕ
 backward xs zero = []
 backward xs (suc n) = slice_index xs n ∷ backward xs n
 
--- The lines among what was met from a place of the walk on are numbered, those met later by lower
--- numbers
+-- The lines among what was met from a place of the walk on are numbered, those met later
+-- by lower numbers
 pub record IsNumbering (actions from : ℕ) (met lines numbers : List ℕ) : Type 0 where
   pub back : (v : ℕ) → v < length lines
       → (slice_index lines v < length numbers) × (slice_index numbers (slice_index lines v) ≡ v)

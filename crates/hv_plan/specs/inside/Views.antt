@@ -33,8 +33,8 @@ abbrev pub as_id : Option ℕ → Id
 as_id None = ids.NoId
 as_id (Some i) = if is_id i then ids.Fits i else ids.TooLarge
 
--- what words are as ids: ids that all have at most 64 bits, ids of which some is larger, or not all
--- ids
+-- what words are as ids: ids that all have at most 64 bits, ids of which some is larger,
+-- or not all ids
 pub data Found : Type 0 where
   fitting : List ℕ → Found
   too_large : Found

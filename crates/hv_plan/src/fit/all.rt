@@ -20,8 +20,8 @@ use hv_text::Memory;
 use hv_world::{GroundActions, ObjectId, World};
 use std::alloc::Global;
 
-/// What the lines of a plan say: the action of each action line, and what each decomposition line
-/// says.
+/// What the lines of a plan say: the action of each action line, and what each
+/// decomposition line says.
 #[derive(Drop)]
 pub(crate) struct Fits {
     pub(crate) actions: GroundActions,

@@ -29,8 +29,8 @@ struct DecompositionHead<'s> {
     line: u32,
 }
 
-/// Decomposition lines. The arguments of all of them stand one after another, and so do their
-/// children.
+/// Decomposition lines. The arguments of all of them stand one after another, and so do
+/// their children.
 #[derive(Drop)]
 pub struct DecompositionLines<'s> {
     heads: Vec<DecompositionHead<'s>>,

@@ -143,8 +143,8 @@ fn check_places(alloc: Global, plan: &PlanText<'_>, places: &[u32]) -> Result<()
 ///
 /// # Errors
 ///
-/// `UnknownChild`, else `TwoParents`, each at the first line at fault; `Memory` where a growth was
-/// refused.
+/// `UnknownChild`, else `TwoParents`, each at the first line at fault; `Memory` where a
+/// growth was refused.
 pub(super) fn child_places(
     alloc: Global,
     plan: &PlanText<'_>,

@@ -52,8 +52,8 @@ AreRowsOfAtoms S rows = (r : List ℕ) → Contains rows r ↔ IsRowOf S r
 abbrev pub AreRowsOf : Atoms → List Row → Type 0
 AreRowsOf S rows = AreRowsOfAtoms S (rows_in rows)
 
--- the rows of the atoms of the code, and the objects of its terms, where variables have those of a
--- binding
+-- the rows of the atoms of the code, and the objects of its terms, where variables have
+-- those of a binding
 abbrev pub rows_with : Binding → List code_atom.Atom → List (List ℕ)
 rows_with b atoms = rows_under (objects_in b) (map atom_view atoms)
 

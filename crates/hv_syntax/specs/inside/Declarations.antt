@@ -41,8 +41,8 @@ abbrev pub task_at : Option Tree → Option Atom
 task_at None = None
 task_at (Some t) = atom_of t
 
--- the fields of a task of this name: `:parameters`; also `:precondition` and `:effect` that say
--- nothing
+-- the fields of a task of this name: `:parameters`; also `:precondition` and `:effect`
+-- that say nothing
 abbrev pub task_named : Span → Trees → WordAt → Option Task
 task_named s ts w =
     if is_field_list (slots.Parameters ∷ slots.Precondition ∷ slots.Effect ∷ []) ts
@@ -55,8 +55,8 @@ abbrev pub task_of : Span → Trees → Option Task
 task_of s none = None
 task_of s (more t ts) = option_and_then (task_named s ts) (symbol_of t)
 
--- the fields of a method of this name: `:parameters`, `:task`, `:precondition`, and those of a
--- network
+-- the fields of a method of this name: `:parameters`, `:task`, `:precondition`, and
+-- those of a network
 abbrev pub method_named : Span → Trees → WordAt → Option Method
 method_named s ts w =
     if is_field_list method_slots ts

@@ -25,8 +25,8 @@ OfExpressions (kinds.Text texts.Memory) s P = s ≡ at_start
 OfExpressions (kinds.Text _) s P = ⊥
 OfExpressions _ s P = P
 
--- what a reader answers, seen by view, is this value or this fault at its place, unless memory ran
--- out
+-- what a reader answers, seen by view, is this value or this fault at its place, unless
+-- memory ran out
 abbrev pub Answers : {X Y : Type 0} → (X → Y) → Result X SyntaxFault → Result Y (SyntaxKind × Span)
     → Type 0
 Answers view (Ok x) r = r ≡ Ok (view x)

@@ -83,8 +83,8 @@ abbrev pub listed_at : {A : Type 0} → (Tree → Option A) → Option Tree → 
 listed_at f None = Some []
 listed_at f (Some e) = listed f e
 
--- the subtasks of one of the two forms, and whether it is the ordered one; at most one of them
--- stands
+-- the subtasks of one of the two forms, and whether it is the ordered one; at most one
+-- of them stands
 abbrev pub subtasks_by : Option Tree → Option Tree → Option (Bool × List Subtask)
 subtasks_by None None = Some (false, [])
 subtasks_by (Some e) None = option_map (tuple false) (listed subtask_of e)

@@ -52,8 +52,8 @@ define_form v (list (more d (more t ts)) s) =
 abbrev pub sections_of : List ℕ → Trees → Option (WordAt × Trees × Span)
 sections_of v ts = option_and_then (define_form v) (only ts)
 
--- a section that is no spelling, where `odd` says that it holds an unsupported form: 15, and else
--- 14
+-- a section that is no spelling, where `odd` says that it holds an unsupported form:
+-- 15, and else 14
 abbrev pub unspelled : Bool → SyntaxKind
 unspelled odd = if odd then kinds.Unsupported else kinds.BadShape
 

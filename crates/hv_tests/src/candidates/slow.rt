@@ -1,5 +1,5 @@
-//! The candidates of a node by trial of all children for all subtasks and all objects for all
-//! parameters.
+//! The candidates of a node by trial of all children for all subtasks and all objects for
+//! all parameters.
 
 use crate::candidates::Candidate;
 use hv_plan::{Child, Node, Tree};

@@ -28,8 +28,8 @@ pub record IsSole (w : Typing) (c t : ℕ) : Type 0 where
 abbrev pub AreSole : Typing → (ℕ → Option ℕ) → Type 0
 AreSole w sole = (t c : ℕ) → sole t ≡ Some c → IsSole w c t
 
--- the base of a type is itself, or else that of the one type below it, and is none that has such a
--- type
+-- the base of a type is itself, or else that of the one type below it, and is none that
+-- has such a type
 pub record IsBased (w : Typing) (sole : ℕ → Option ℕ) (bases : List ℕ) (t : ℕ) : Type 0 where
   pub within : slice_index bases t < w.types
   pub reaches : Reaches w.parents (slice_index bases t) t

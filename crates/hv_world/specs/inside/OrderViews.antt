@@ -13,8 +13,8 @@ is_as_written (links.Pairs direct) = false
 abbrev pub written_of : Inside → Written
 written_of a = written a.len (is_as_written a.links) a.pairs.items
 
--- one subtask comes before another where its number is lower, and the row has the numbers as they
--- are
+-- one subtask comes before another where its number is lower, and the row has the
+-- numbers as they are
 pub record IsAsWritten (n : Written) (row : List ℕ) : Type 0 where
   pub ordered : n.is_ordered ≡ true
   pub before : (i j : ℕ) → Before n i j ↔ ((i < j) × (j < n.len))

@@ -1,5 +1,5 @@
--- What a table of names, or of subtasks, is hashed from: a start that has taken in each of its
--- keys.
+-- What a table of names, or of subtasks, is hashed from: a start that has taken in
+-- each of its keys.
 use Rattle.std.specs.Prelude.{ℕ, List, [], ◌∷◌, ◌++◌, fold}
 use Rattle.std.specs.List.{flat_map}
 use Rattle.std.specs.Hash as fed

@@ -69,8 +69,8 @@ fn are_same(list: &[Name<'_>], words: &[Placed<'_>]) -> bool
     true
 }
 
-// Whether the last of lists has these names: the variables of a group share them, and are noted
-// once.
+// Whether the last of lists has these names: the variables of a group share them, and
+// are noted once.
 fn is_last(lists: &[Vec<Name<'_>>], words: &[Placed<'_>]) -> bool
     ensures { IsTrue result → EndsWith (map names_in lists.now) (names (map word_view words.now)) }
 {
