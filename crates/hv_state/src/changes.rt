@@ -237,9 +237,10 @@ impl<S: State> Facts for Moment<'_, S> {
     }
 
     fn next_possible(&self, atom: &AtomView<'_>) -> usize {
-        least(
-            self.first.next_possible(atom),
-            self.changes.next_touched(atom),
-        )
+        let known = self.first.next_possible(atom);
+        if known == 0 {
+            return 0;
+        }
+        least(known, self.changes.next_touched(atom))
     }
 }

@@ -36,6 +36,10 @@ impl EverTrue<'_> {
         ensures { IsPassedOver (λ g. is_listed (ever_rows self.now) g ≡ true)
             (atom_read atom.now) result }
     {
-        least(self.first.next_known(atom), self.changes.next_touched(atom))
+        let known = self.first.next_known(atom);
+        if known == 0 {
+            return 0;
+        }
+        least(known, self.changes.next_touched(atom))
     }
 }

@@ -11,7 +11,7 @@ pub returns : goal.returns
 returns c os o n e le lt listed =
     let ever = c.args.self.now in
     let g = ground_atom c.args.atom.now.predicate.0 (os ++ n ∷ []) in
-    let known : n < c.next_known.result = omega (arith, lt, c.least.ensures.0) in
+    let known : n < c.next_known-known.result = omega (arith, lt, c.least.ensures.0) in
     let touched : n < c.next_touched.result = omega (arith, lt, c.least.ensures.1) in
     let there = from_rows (in_stretch ever.first.now ever.changes.now ever.from ever.end) (ever.first.now.0 ++ rows_of ever.changes.now) (row_of g) (contained (ever_rows ever) g listed) in
-    elim (Contains-append_cases ever.first.now.0 (rows_of ever.changes.now) (row_of g) there) [ inl m ↦ c.next_known.ensures os o n e le known m | inr m ↦ c.next_touched.ensures os o n e le touched m ]
+    elim (Contains-append_cases ever.first.now.0 (rows_of ever.changes.now) (row_of g) there) [ inl m ↦ c.next_known-known.ensures os o n e le known m | inr m ↦ c.next_touched.ensures os o n e le touched m ]
