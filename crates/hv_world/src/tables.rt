@@ -9,7 +9,7 @@ ghost use Rattle.hv_syntax.specs.ProblemViews.{problem_view};
 ghost use Rattle.hv_world.specs.Names.{names, place_in, is_among, number_in};
 ghost use Rattle.hv_world.specs.Eithers.{either_types, either_place};
 ghost use Rattle.hv_world.specs.Known.{type_names, known_in, predicate_words, declared_words, declarations};
-ghost use Rattle.hv_world.specs.inside.Tables.{known_by, names_in, places_by, signature_view, declaration_view};
+ghost use Rattle.hv_world.specs.inside.Tables.{known_by, names_in, places_by, signature_view, declaration_view, HavePlaces};
 
 mod eithers;
 pub(crate) mod gather;
@@ -137,8 +137,9 @@ impl<'s> Tables<'s> {
         domain: &DomainText<'s>,
         problem: &ProblemText<'s>,
     ) -> Result<Tables<'s>, Memory>
-        ensures { IfOk result
+        ensures known { IfOk result
             (λ t. known_by t ≡ known_in (domain_view domain.now) (problem_view problem.now)) }
+        ensures places { IfOk result (HavePlaces (domain_view domain.now)) }
     {
         let types = type_table(alloc, domain, problem)?;
         let objects = object_names(alloc, domain.constants(), problem.objects())?;

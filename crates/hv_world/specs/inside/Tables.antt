@@ -1,5 +1,5 @@
 -- What the tables of the code say.
-use Rattle.std.specs.Prelude.{ℕ, List, [], ◌∷◌, map, Option, Some, None, bytes_eq, if◌then◌else◌, Vec}
+use Rattle.std.specs.Prelude.{◌≡◌, ℕ, List, [], ◌∷◌, map, Option, Some, None, bytes_eq, if◌then◌else◌, Vec}
 use Rattle.std.specs.List.{slice_get}
 use Rattle.std.specs.declared.hash.DefaultHasher.{DefaultHasher}
 use Rattle.indexmap.specs.IndexMap.{hasher_of}
@@ -15,7 +15,9 @@ use Rattle.hv_world.specs.declared.tables.Declared as code_declared
 use Rattle.hv_world.specs.declared.tables.Tables.{Tables}
 use Rattle.hv_world.specs.Views.{name_view}
 use Rattle.hv_world.specs.Scopes.{Scope, outer, inside}
-use Rattle.hv_world.specs.Known.{Signature, signature, Declaration, declaration, Known, at_place, variables}
+use Rattle.hv_syntax.specs.Values.{Domain}
+use Rattle.hv_world.specs.Names.{names, place_in}
+use Rattle.hv_world.specs.Known.{Signature, signature, Declaration, declaration, Known, at_place, variables, predicate_words, declared_words, declarations}
 
 -- the place that stands beside a name
 abbrev pub place_beside : List (Name × ℕ) → List ℕ → Option ℕ
@@ -63,3 +65,10 @@ known_by t =
           λ n. signature_beside t.predicates.arities.items (places_by t.predicates.places n);
       task = λ n. at_place (map declaration_view t.tasks.list.items) (places_by t.tasks.places n);
     }
+
+-- The tables have the places of the names that a domain declares: those of its predicates, and those
+-- of its tasks and actions, which are listed as they stand in its text
+pub record HavePlaces (d : Domain) (t : Tables) : Type 0 where
+  pub predicates : places_by t.predicates.places ≡ place_in (names (predicate_words d.predicates))
+  pub list : map declaration_view t.tasks.list.items ≡ declarations d
+  pub tasks : places_by t.tasks.places ≡ place_in (names (declared_words (declarations d)))

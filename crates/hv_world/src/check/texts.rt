@@ -10,7 +10,7 @@ ghost use Rattle.hv_world.specs.Names.{repeated};
 ghost use Rattle.hv_world.specs.Faults.{faults_at, least};
 ghost use Rattle.hv_world.specs.Scopes.{parameters};
 ghost use Rattle.hv_world.specs.StaticRules.{duplicate_faults, domain_faults_by, problem_faults_by, literals_faults};
-ghost use Rattle.hv_world.specs.inside.Tables.{known_by};
+ghost use Rattle.hv_world.specs.inside.Tables.{known_by, HavePlaces};
 
 use crate::check::sections::{
     actions_fault, compounds_fault, goal_fault, htn_fault, methods_fault,
@@ -19,34 +19,29 @@ use crate::check::types::typed_fault;
 use crate::fault::{Side, StaticFault, StaticKind, earlier};
 use crate::names::{Names, repeated_word};
 use crate::tables::Tables;
-use crate::tables::sections::declarations;
 use crate::tables::words::{declared_words, method_words, predicate_words};
 use hv_syntax::{DomainText, Placed, ProblemText};
 use hv_text::Memory;
 use std::alloc::Global;
 
-// The first of these words that has one of its name before it.
-fn repeated_name(alloc: Global, words: &[Placed<'_>]) -> Result<Option<StaticFault>, Memory>
-    ensures { IfOk result
-        (λ o. o ≡ least
-        (faults_at kinds.DuplicateName sides.Domain (repeated (map word_view words.now)))) }
-{
-    let names = Names::of(alloc, words)?;
-    let kind = StaticKind::DuplicateName;
-    Ok(repeated_word(&names, words, kind, Side::Domain))
-}
-
 // The first name that is declared twice.
-fn duplicate_fault(alloc: Global, domain: &DomainText<'_>) -> Result<Option<StaticFault>, Memory>
+fn duplicate_fault<'s>(
+    alloc: Global,
+    tables: &Tables<'s>,
+    domain: &DomainText<'s>,
+) -> Result<Option<StaticFault>, Memory>
+    requires { HavePlaces (domain_view domain.now) tables.now }
     ensures { IfOk result (λ o. o ≡ least (duplicate_faults (domain_view domain.now))) }
 {
+    let kind = StaticKind::DuplicateName;
+    let side = Side::Domain;
     let predicate_words = predicate_words(alloc, domain.predicates())?;
-    let predicate = repeated_name(alloc, &predicate_words)?;
+    let predicate = repeated_word(&tables.predicates.places, &predicate_words, kind, side);
     let method_words = method_words(alloc, domain.methods())?;
-    let method = repeated_name(alloc, &method_words)?;
-    let sections = declarations(alloc, domain)?;
-    let task_words = declared_words(alloc, &sections)?;
-    let task = repeated_name(alloc, &task_words)?;
+    let method_names = Names::of(alloc, &method_words)?;
+    let method = repeated_word(&method_names, &method_words, kind, side);
+    let task_words = declared_words(alloc, &tables.tasks.list)?;
+    let task = repeated_word(&tables.tasks.places, &task_words, kind, side);
     let front = earlier(predicate, method);
     Ok(earlier(front, task))
 }
@@ -61,10 +56,11 @@ pub(crate) fn domain_fault<'s>(
     tables: &Tables<'s>,
     domain: &DomainText<'s>,
 ) -> Result<Option<StaticFault>, Memory>
+    requires { HavePlaces (domain_view domain.now) tables.now }
     ensures { IfOk result
         (λ o. o ≡ least (domain_faults_by (known_by tables.now) (domain_view domain.now))) }
 {
-    let duplicate = duplicate_fault(alloc, domain)?;
+    let duplicate = duplicate_fault(alloc, tables, domain)?;
     let constant = typed_fault(tables, Side::Domain, domain.constants());
     let task = compounds_fault(alloc, tables, domain.tasks())?;
     let method = methods_fault(alloc, tables, domain.methods())?;

@@ -1,4 +1,4 @@
-use Rattle.std.proofs.Common.{◌≡◌, ◌<◌, ◌+◌, Some, None, is_some, true, map, unwrap_or, ap, ◌∙◌, sym, subst, arith, rules}
+use Rattle.std.proofs.Common.{◌<◌, ◌+◌, Some, map, unwrap_or, ap, ◌∙◌, sym, subst, arith, rules}
 use Rattle.hv_world.specs.inside.Kept.{key_view}
 use Rattle.hv_world.specs.Alike.{number_in}
 use Rattle.hv_world.proofs.AlikeLemmas.{inserted, small_there}

@@ -8,8 +8,8 @@ use Rattle.hv_world.specs.inside.Tables.{names_in, places_by, declaration_view}
 use Rattle.hv_world.proofs.TableLemmas.{known_is}
 use Rattle.hv_world.proofs.tables.Tables.of.Goals as goal
 
-pub returns : goal.returns
-returns c =
+pub returns-clause-known : goal.returns-clause-known
+returns-clause-known c =
     let domain = domain_view c.args.domain.now in
     let problem = problem_view c.args.problem.now in
     let predicates = c.in_ok-predicates.predicates in
@@ -23,3 +23,11 @@ returns c =
     (c.in_ok-predicates.ensures.arities ∙ ap (λ ps. map (λ p. length p.parameters) ps) c.predicates.ensures)
     c.in_ok-tasks.ensures.list
     c.in_ok-tasks.ensures.places
+
+pub returns-clause-places : goal.returns-clause-places
+returns-clause-places c =
+    record {
+      predicates = c.in_ok-predicates.ensures.places ∙ ap (λ ps. place_in (names (predicate_words ps))) c.predicates.ensures;
+      list = c.in_ok-tasks.ensures.list;
+      tasks = c.in_ok-tasks.ensures.places;
+    }

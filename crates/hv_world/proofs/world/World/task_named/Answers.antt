@@ -1,4 +1,4 @@
-use Rattle.std.proofs.Common.{◌≡◌, Some, sym, ap, ◌∙◌}
+use Rattle.std.proofs.Common.{◌≡◌, Some, sym, ◌∙◌}
 use Rattle.hv_text.specs.Names.{text_of}
 use Rattle.hv_world.specs.WorldViews.{world_view}
 use Rattle.hv_world.specs.Worlds.{action_names}
