@@ -1,19 +1,20 @@
 -- Expressions that are read one at a time.
 use Rattle.std.proofs.Common.{◌≡◌, ◌||◌, ℕ, Bool, true, false, List, [], ◌∷◌, ◌++◌, map, Option, Some, None, Result, Ok, refl, sym, ap, ◌∙◌}
 use Rattle.std.proofs.lemmas.List.{append-nil, append_assoc, map-append}
-use Rattle.std.specs.Prelude.{codes, is_some, IfNone}
+use Rattle.std.specs.Prelude.{codes}
 use Rattle.hv_text.specs.Trees.{Tree, Trees, word, list, none, more, place_of}
 use Rattle.hv_text.specs.Rests.{Rest, last, upto, add, enclose, here, ended}
 use Rattle.hv_text.specs.declared.span.Span.{Span}
 use Rattle.hv_syntax.specs.inside.Reading.{both, every, behind}
-use Rattle.hv_syntax.specs.Values.{WordAt, Literal, Problem}
-use Rattle.hv_syntax.specs.Words.{is, is_the_word}
+use Rattle.hv_syntax.specs.Values.{WordAt, Literal}
+use Rattle.hv_syntax.specs.Words.{is}
 use Rattle.hv_syntax.specs.inside.Literals.{ground_literal_of}
 use Rattle.hv_syntax.specs.Sections.{headed, is_head, occurs}
-use Rattle.hv_syntax.specs.inside.Sections.{title_of}
-use Rattle.hv_syntax.specs.Problems.{ProblemSection, has_init, problem_standing, Parts, add_part, no_parts}
-use Rattle.hv_syntax.specs.inside.Problems.{problem_section_by, problem_section, parts_from, whole, problem_of}
-use Rattle.hv_syntax.specs.inside.Streams.{head_word, heads, has_head, IsSectionRead}
+use Rattle.hv_syntax.specs.inside.Sections.{refused, section_of, sections_from, sections_of}
+use Rattle.hv_syntax.specs.declared.section.Standing.{Standing}
+use Rattle.hv_syntax.specs.Problems.{has_init, problem_standing}
+use Rattle.hv_syntax.specs.inside.Problems.{problem_section_by, problem_section}
+use Rattle.hv_syntax.specs.inside.Streams.{head_word, heads, has_head, IsBegun, IsSectionRead}
 use Rattle.hv_syntax.specs.declared.section.Standing.TheVariants as standings
 use Rattle.hv_syntax.specs.declared.fault.SyntaxKind.{SyntaxKind}
 use Rattle.hv_syntax.proofs.Lists.{behind_both}
@@ -59,17 +60,18 @@ occurs_among : (v : List ℕ) (ts : List Tree) → occurs v ts ≡ has_head v (h
 occurs_among v [] = refl
 occurs_among v (t ∷ ts) = ap (λ z. is_head v (headed t) || z) (occurs_among v ts) ∙ occurs_by v (headed t) (heads ts)
 
-is_section_of : (t : Tree) (w : List ℕ) (us : Trees) (x : ProblemSection) (hs : List (List ℕ)) → headed t ≡ Some (w, us) → problem_standing w ≡ standings.Once → has_head w hs ≡ false
-    → problem_section_by w (place_of t) us ≡ Some x → (ts : List Tree) → heads ts ≡ hs → problem_section ts t ≡ Ok x
-is_section_of t w us x hs h st fresh by ts e =
-    let none : occurs w ts ≡ false = occurs_among w ts ∙ ap (has_head w) e ∙ fresh in
-    rw (h, st, none, by) refl
+module _ {S : Type 0} (standing : List ℕ → Standing) (spelled : List ℕ → Span → Trees → Option S) where
+  is_section_of : (t : Tree) (w : List ℕ) (us : Trees) (x : S) (hs : List (List ℕ)) → headed t ≡ Some (w, us) → refused (standing w) (has_head w hs) ≡ None
+      → spelled w (place_of t) us ≡ Some x → (ts : List Tree) → heads ts ≡ hs → section_of standing spelled ts t ≡ Ok x
+  is_section_of t w us x hs h fresh by ts e =
+      let same : occurs w ts ≡ has_head w hs = occurs_among w ts ∙ ap (has_head w) e in
+      rw (h, same, fresh, by) refl
 
--- a section that was read by its expression
-pub listed_read : (hs : List (List ℕ)) (t : Tree) (from after : Rest) (w : List ℕ) (us : Trees) (x : ProblemSection) (s : Span) → from ≡ add t after → Some (w, us) ≡ headed t
-    → standings.Once ≡ problem_standing w → has_head w hs ≡ false → s ≡ place_of t → problem_section_by w s us ≡ Some x → IsSectionRead hs from x w after
-listed_read hs t from after w us x s f h st fresh p by =
-    record { tree = t; first = f; head = ap head_word (sym h); is_section = is_section_of t w us x hs (sym h) (sym st) fresh (ap (λ z. problem_section_by w z us) (sym p) ∙ by) }
+  -- a section that was read by its expression
+  pub listed_read : (hs : List (List ℕ)) (t : Tree) (from after : Rest) (w : List ℕ) (us : Trees) (x : S) (s : Span) (st : Standing) → from ≡ add t after → Some (w, us) ≡ headed t
+      → st ≡ standing w → refused st (has_head w hs) ≡ None → s ≡ place_of t → spelled w s us ≡ Some x → IsSectionRead (section_of standing spelled) hs from x w after
+  listed_read hs t from after w us x s st f h k fresh p by =
+      record { tree = t; first = f; head = ap head_word (sym h); is_section = is_section_of t w us x hs (sym h) (ap (λ z. refused z (has_head w hs)) (sym k) ∙ fresh) (ap (λ z. spelled w z us) (sym p) ∙ by) }
 
 init_standing : (w : List ℕ) → w ≡ codes ":init" → problem_standing w ≡ standings.Once
 init_standing w e = rw e refl
@@ -79,7 +81,8 @@ init_by w s us ls e r = rw (e, r) refl
 
 -- `:init`, that was read one literal at a time
 pub init_read : (hs : List (List ℕ)) (start place : Span) (w : List ℕ) (ls : List Literal) (from m e after : Rest) (p : ℕ) → from ≡ enclose start (add (word w place) m)
-    → is w (codes ":init") ≡ true → has_head w hs ≡ false → every ground_literal_of (here m) ≡ Some ls → e ≡ ended m → e ≡ upto none p after → IsSectionRead hs from (has_init ls) w after
+    → is w (codes ":init") ≡ true → refused standings.Once (has_head w hs) ≡ None → every ground_literal_of (here m) ≡ Some ls → e ≡ ended m → e ≡ upto none p after
+    → IsSectionRead problem_section hs from (has_init ls) w after
 init_read hs start place w ls from (last us) e after p f h fresh r k q = absurd (never (sym k ∙ q))
   where
     never : last none ≡ upto none p after → ⊥
@@ -89,42 +92,39 @@ init_read hs start place w ls from (upto us n b) e after p f h fresh r k q =
     let behind_it : b ≡ after = cc in
     let word_is : w ≡ codes ":init" = same_word w (codes ":init") h in
     let t : Tree = list (more (word w place) us) (record { start = start.start; past = n }) in
+    let may : refused (problem_standing w) (has_head w hs) ≡ None = ap (λ z. refused z (has_head w hs)) (init_standing w word_is) ∙ fresh in
     record {
       tree = t;
       first = f ∙ ap (add t) behind_it;
       head = refl;
-      is_section = is_section_of t w us (has_init ls) hs refl (init_standing w word_is) fresh (init_by w (place_of t) us ls word_is r);
+      is_section = is_section_of problem_standing problem_section_by t w us (has_init ls) hs refl may (init_by w (place_of t) us ls word_is r);
     }
 
--- one more section
-pub section_more : (hs : List (List ℕ)) (from after : Rest) (x : ProblemSection) (w : List ℕ) (parts : Parts) (all : Result Parts (SyntaxKind × Span)) → IsSectionRead hs from x w after
-    → (ts : List Tree) × (heads ts ≡ hs) × (parts_from parts ts (here from) ≡ all)
-    → (ts : List Tree) × (heads ts ≡ hs ++ w ∷ []) × (parts_from (add_part parts x) ts (here after) ≡ all)
-section_more hs from after x w parts all r (ts, e, g) =
-    let one : parts_from parts ts (here from) ≡ parts_from parts ts (more r.tree (here after)) = ap (λ z. parts_from parts ts z) (ap here r.first ∙ here_add r.tree after) in
-    let two : parts_from parts ts (more r.tree (here after)) ≡ parts_from (add_part parts x) (ts ++ r.tree ∷ []) (here after) = rw (r.is_section ts e) refl in
-    (ts ++ r.tree ∷ [], heads_behind ts r.tree w r.head ∙ ap (λ z. z ++ w ∷ []) e, sym two ∙ sym one ∙ g)
+module _ {V S : Type 0} (section : List Tree → Tree → Result S (SyntaxKind × Span)) (add_one : V → S → V) where
+  -- one more section
+  pub section_more : (hs : List (List ℕ)) (from after : Rest) (x : S) (w : List ℕ) (known : V) (all : Result V (SyntaxKind × Span)) → IsSectionRead section hs from x w after
+      → (ts : List Tree) × (heads ts ≡ hs) × (sections_from section add_one known ts (here from) ≡ all)
+      → (ts : List Tree) × (heads ts ≡ hs ++ w ∷ []) × (sections_from section add_one (add_one known x) ts (here after) ≡ all)
+  section_more hs from after x w known all r (ts, e, g) =
+      let one : sections_from section add_one known ts (here from) ≡ sections_from section add_one known ts (more r.tree (here after)) = ap (λ z. sections_from section add_one known ts z) (ap here r.first ∙ here_add r.tree after) in
+      let two : sections_from section add_one known ts (more r.tree (here after)) ≡ sections_from section add_one (add_one known x) (ts ++ r.tree ∷ []) (here after) = rw (r.is_section ts e) refl in
+      (ts ++ r.tree ∷ [], heads_behind ts r.tree w r.head ∙ ap (λ z. z ++ w ∷ []) e, sym two ∙ sym one ∙ g)
 
-pub section_ended : (hs : List (List ℕ)) (from after : Rest) (x : ProblemSection) (w : List ℕ) (all : Rest) → IsSectionRead hs from x w after → ended from ≡ all → ended after ≡ all
-section_ended hs from after x w all r e = sym (ended_add r.tree after) ∙ ap ended (sym r.first) ∙ e
+pub section_ended : {S : Type 0} (section : List Tree → Tree → Result S (SyntaxKind × Span)) (hs : List (List ℕ)) (from after : Rest) (x : S) (w : List ℕ) (all : Rest) → IsSectionRead section hs from x w after
+    → ended from ≡ all → ended after ≡ all
+section_ended section hs from after x w all r e = sym (ended_add r.tree after) ∙ ap ended (sym r.first) ∙ e
 
--- the whole definition
-pub problem_read : (from first second third e b : Rest) (start : Span) (d k : Tree) (p : ℕ) (n : WordAt) (parts : Parts) (v : Problem) → from ≡ enclose start first → first ≡ add d second
-    → is_the_word (codes "define") d ≡ true → second ≡ add k third → Some n ≡ title_of (codes "problem") k → parts_from no_parts [] (here third) ≡ Ok parts → e ≡ ended third → e ≡ upto none p b → b ≡ last none
-    → whole (record { start = start.start; past = p }) n parts ≡ Ok v → problem_of (here from) ≡ Ok v
-problem_read from first second (last us) e b start d k p n parts v f g h i j l m o q w = absurd (never (sym m ∙ o))
+-- what a whole text defines, whose sections stand up to here
+pub definition_read : (v : List ℕ) (from third e : Rest) (start : Span) (n : WordAt) (p : ℕ) → IsBegun v from start n third → e ≡ ended third → e ≡ upto none p (last none)
+    → sections_of v (here from) ≡ Some (n, here third, record { start = start.start; past = p })
+definition_read v from (last us) e start n p b m o = absurd (never (sym m ∙ o))
   where
-    never : last none ≡ upto none p b → ⊥
+    never : last none ≡ upto none p (last none) → ⊥
     never z = cc
-problem_read from first second (upto us z c) e b start d k p n parts v f g h i j l m o q w =
-    let same : upto none z c ≡ upto none p b = sym m ∙ o in
+definition_read v from (upto us z c) e start n p b m o =
+    let same : upto none z c ≡ upto none p (last none) = sym m ∙ o in
     let ends : z ≡ p = cc in
-    let tail : c ≡ b = cc in
+    let tail : c ≡ last none = cc in
     let place : Span = record { start = start.start; past = p } in
-    let all : from ≡ enclose start (add d (add k (upto us z c))) = f ∙ ap (enclose start) (g ∙ ap (add d) i) in
-    let one : here from ≡ more (list (more d (more k us)) place) none = ap here (rw (ends, tail, q) at all) in
-    rw (one, h, sym j, l) w
-
-pub nothing_next : {X : Type 0} {P : Type 0} (o : Option X) (b : Bool) → b ≡ is_some o → b ≡ false → IfNone o P → P
-nothing_next None b e f p = p
-nothing_next (Some x) b e f p = absurd cc
+    let one : here from ≡ more (list (more b.define (more b.title us)) place) none = ap here (rw (ends, tail) at b.first) in
+    rw (one, b.is_define, sym b.has_name) refl

@@ -1,10 +1,10 @@
 //! Domains.
 
-ghost use Rattle.std.specs.Prelude.{◌≡◌, [], map, OnOk, IfErr};
+ghost use Rattle.std.specs.Prelude.{◌≡◌, [], map, OnOk};
 ghost use Rattle.hv_text.specs.Names.{text_of};
 ghost use Rattle.hv_text.specs.Trees.{tree, trees};
 ghost use Rattle.hv_syntax.specs.inside.Reading.{Gives};
-ghost use Rattle.hv_syntax.specs.inside.Faults.{Answers, IsMemory};
+ghost use Rattle.hv_syntax.specs.inside.Faults.{Answers};
 ghost use Rattle.hv_syntax.specs.Domains.{domain_standing, add_section, no_domain};
 ghost use Rattle.hv_syntax.specs.inside.Domains.{domain_section_by, domain_section, domain_from};
 ghost use Rattle.hv_syntax.specs.inside.Domains.{domain_of};
@@ -12,6 +12,8 @@ ghost use Rattle.hv_syntax.specs.Views.{word_view, typed_view};
 ghost use Rattle.hv_syntax.specs.DeclarationViews.{predicate_view, task_view, method_view};
 ghost use Rattle.hv_syntax.specs.DeclarationViews.{action_view};
 ghost use Rattle.hv_syntax.specs.DomainViews.{domain_section_view, domain_view};
+
+mod stream;
 
 use crate::action::{ActionText, read_action};
 use crate::fault::{SyntaxFault, SyntaxKind};
@@ -24,8 +26,9 @@ use crate::section::{
 use crate::task::{TaskText, read_task};
 use crate::typed::{TypedText, read_typed_list};
 use crate::word::{Placed, span_of};
-use hv_text::{Name, Sexp, Span};
+use hv_text::{Memory, Name, Sexp, Span};
 use std::alloc::Global;
+pub(crate) use stream::read_domain_at;
 
 /// A domain, as its text says it.
 #[derive(Drop)]
@@ -188,10 +191,9 @@ fn read_section<'s>(
     }
 }
 
-fn add<'s>(domain: &mut DomainText<'s>, section: DomainSection<'s>) -> Result<(), SyntaxFault>
-    ensures ok { OnOk result (domain_view domain.new
+fn add<'s>(domain: &mut DomainText<'s>, section: DomainSection<'s>) -> Result<(), Memory>
+    ensures { OnOk result (domain_view domain.new
         ≡ add_section (domain_view domain.old) (domain_section_view section.entry)) }
-    ensures err { IfErr result (λ f. IsMemory f) }
 {
     match section {
         DomainSection::Requirements(requirements) => domain.requirements = requirements,

@@ -2,7 +2,7 @@
 
 ghost use Rattle.std.specs.Prelude.{◌≡◌};
 
-use hv_text::{Span, TextFault, TextKind};
+use hv_text::{Memory, Span, TextFault, TextKind};
 use std::alloc::AllocFailed;
 
 /// The kinds of faults of the text of a domain or a problem.
@@ -67,6 +67,19 @@ impl<T: Drop> From<AllocFailed<T>> for SyntaxFault {
         × (e.span ≡ record { start = 0; past = 0 }) };
 
     fn from(_refused: AllocFailed<T>) -> SyntaxFault {
+        SyntaxFault::memory()
+    }
+}
+
+impl From<Memory> for SyntaxFault {
+    ghost use Rattle.std.specs.Prelude.{◌≡◌};
+    ghost use Rattle.hv_syntax.specs.declared.fault.SyntaxKind.TheVariants as kinds;
+    ghost use Rattle.hv_text.specs.declared.fault.TextKind.TheVariants as texts;
+
+    ghost from_gives = { λ _ e. (e.kind ≡ kinds.Text texts.Memory)
+        × (e.span ≡ record { start = 0; past = 0 }) };
+
+    fn from(_refused: Memory) -> SyntaxFault {
         SyntaxFault::memory()
     }
 }

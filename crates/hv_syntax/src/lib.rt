@@ -19,6 +19,7 @@ mod problem;
 mod read;
 mod refusal;
 mod section;
+mod stream;
 mod task;
 mod term;
 mod typed;

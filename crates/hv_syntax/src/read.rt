@@ -5,7 +5,7 @@ ghost use Rattle.hv_syntax.specs.Texts.{IsDomainText, IsDomainFault, IsProblemTe
 ghost use Rattle.hv_syntax.specs.DomainViews.{domain_view};
 ghost use Rattle.hv_syntax.specs.ProblemViews.{problem_view};
 
-use crate::domain::{DomainText, read_domain_of};
+use crate::domain::{DomainText, read_domain_at, read_domain_of};
 use crate::fault::SyntaxFault;
 use crate::problem::{ProblemText, read_problem_at, read_problem_of};
 use crate::refusal::Refusal;
@@ -19,6 +19,19 @@ use std::alloc::Global;
 /// The fault of the text: that it has no expressions, or the first one of these; and that memory
 /// ran out.
 pub fn read_domain<'s>(alloc: Global, text: &'s [u8]) -> Result<DomainText<'s>, SyntaxFault>
+    ensures ok { IfOk result (λ d. IsDomainText text.now (domain_view d)) }
+    ensures err { IfErr result (λ f. IsDomainFault text.now f.kind f.span) }
+{
+    let start = Cursor::new(alloc, text)?;
+    match read_domain_at(alloc, start) {
+        Ok(domain) => Ok(domain),
+        Err(Refusal::Memory) => Err(SyntaxFault::memory()),
+        Err(Refusal::NoSpelling) => read_whole_domain(alloc, text),
+    }
+}
+
+// Reads the domain that a text says by the tree of all its expressions, which tells the fault.
+fn read_whole_domain<'s>(alloc: Global, text: &'s [u8]) -> Result<DomainText<'s>, SyntaxFault>
     ensures ok { IfOk result (λ d. IsDomainText text.now (domain_view d)) }
     ensures err { IfErr result (λ f. IsDomainFault text.now f.kind f.span) }
 {

@@ -94,7 +94,8 @@ impl<'s> Cursor<'s> {
     }
 
     /// The word or parenthesis that comes next, and the place behind it; None at the
-    /// end of the text.
+    /// end of the text. It is inlined, as both take longer to hand over than to find.
+    #[inline(always)]
     pub fn next(self) -> Option<(Word<'s>, Cursor<'s>)>
         ensures none { IfNone result (rest_at self.entry ≡ last none) }
         ensures some { IfSome result (λ p. rest_at self.entry ≡ step (piece_of p.0) (rest_at p.1)) }
@@ -146,12 +147,13 @@ impl<'s> Cursor<'s> {
     }
 
     /// The expression that comes next, and the place behind it; None at the end of the list, or of
-    /// the text.
+    /// the text. It is inlined, so that a word that stands in a list is put there at once.
     ///
     /// # Errors
     ///
     /// Memory ran out.
     #[cycle(expressions)]
+    #[inline(always)]
     pub fn read_one(self, alloc: Global) -> Result<Option<(Sexp<'s>, Cursor<'s>)>, Memory>
         ensures none { IfOk result (λ o. IfNone o (here (rest_at self.entry) ≡ none)) }
         ensures some { IfOk result (λ o. IfSome o

@@ -1,12 +1,14 @@
 -- How the code reads: sections that are read one at a time: what stands behind each, and the heads
 -- of those before it.
-use Rattle.std.specs.Prelude.{◌≡◌, ◌||◌, ℕ, Bool, false, List, [], ◌∷◌, ◌++◌, Option, Some, None, Ok}
+use Rattle.std.specs.Prelude.{◌≡◌, ◌||◌, ℕ, Bool, true, false, List, [], ◌∷◌, ◌++◌, Option, Some, None, Result, Ok, codes}
 use Rattle.hv_text.specs.Trees.{Tree, Trees}
-use Rattle.hv_text.specs.Rests.{Rest, add}
-use Rattle.hv_syntax.specs.Words.{is}
+use Rattle.hv_text.specs.Rests.{Rest, add, enclose}
+use Rattle.hv_text.specs.declared.span.Span.{Span}
+use Rattle.hv_syntax.specs.declared.fault.SyntaxKind.{SyntaxKind}
+use Rattle.hv_syntax.specs.Values.{WordAt}
+use Rattle.hv_syntax.specs.Words.{is, is_the_word}
 use Rattle.hv_syntax.specs.Sections.{headed}
-use Rattle.hv_syntax.specs.Problems.{ProblemSection}
-use Rattle.hv_syntax.specs.inside.Problems.{problem_section}
+use Rattle.hv_syntax.specs.inside.Sections.{title_of}
 
 -- the word that heads, if one does
 abbrev pub head_word : Option (List ℕ × Trees) → List (List ℕ)
@@ -23,11 +25,21 @@ abbrev pub has_head : List ℕ → List (List ℕ) → Bool
 has_head v [] = false
 has_head v (w ∷ ws) = is w v || has_head v ws
 
+-- the list of `define` comes first: where it starts, the name in its title, which has this word,
+-- and what stands behind the title
+pub record IsBegun (v : List ℕ) (from : Rest) (start : Span) (n : WordAt) (after : Rest)
+    : Type 0 where
+  pub define : Tree
+  pub title : Tree
+  pub first : from ≡ enclose start (add define (add title after))
+  pub is_define : is_the_word (codes "define") define ≡ true
+  pub has_name : Some n ≡ title_of v title
+
 -- the expression that comes first is this section, headed by this word, behind sections of these
 -- heads; and what stands behind it
-pub record IsSectionRead (before : List (List ℕ)) (from : Rest) (x : ProblemSection) (w : List ℕ)
-    (after : Rest) : Type 0 where
+pub record IsSectionRead {S : Type 0} (section : List Tree → Tree → Result S (SyntaxKind × Span))
+    (before : List (List ℕ)) (from : Rest) (x : S) (w : List ℕ) (after : Rest) : Type 0 where
   pub tree : Tree
   pub first : from ≡ add tree after
   pub head : head_word (headed tree) ≡ w ∷ []
-  pub is_section : (ts : List Tree) → heads ts ≡ before → problem_section ts tree ≡ Ok x
+  pub is_section : (ts : List Tree) → heads ts ≡ before → section ts tree ≡ Ok x

@@ -1,6 +1,4 @@
 //! Problems read one section at a time, and `:init` one literal at a time.
-//!
-//! This way finds problems and no faults: where it gives up, the tree of the text is read.
 
 ghost use Rattle.std.specs.Prelude.{◌≡◌, ◌<◌, [], true, Ok, IfOk, IfNone, IfSome, codes, map};
 ghost use Rattle.hv_text.specs.Names.{text_of};
@@ -8,9 +6,9 @@ ghost use Rattle.hv_text.specs.Trees.{word, none};
 ghost use Rattle.hv_text.specs.Rests.{add, enclose, here, ended};
 ghost use Rattle.hv_text.specs.Cursors.{rest_at, left_at};
 ghost use Rattle.hv_syntax.specs.Words.{is};
-ghost use Rattle.hv_syntax.specs.inside.Streams.{has_head, IsSectionRead};
+ghost use Rattle.hv_syntax.specs.inside.Streams.{IsSectionRead};
 ghost use Rattle.hv_syntax.specs.Problems.{no_parts};
-ghost use Rattle.hv_syntax.specs.inside.Problems.{parts_from, problem_of};
+ghost use Rattle.hv_syntax.specs.inside.Problems.{parts_from, problem_of, problem_section};
 ghost use Rattle.hv_syntax.specs.ProblemViews.{problem_section_view, parts_view, problem_view};
 
 use super::{
@@ -18,22 +16,11 @@ use super::{
 };
 use crate::literal::read_ground_literals_at;
 use crate::refusal::Refusal;
-use crate::section::{Standing, headed, title};
-use crate::word::{is_the_word, span_of};
+use crate::section::{Standing, headed};
+use crate::stream::{SectionRead, begun, may_stand, past_all};
+use crate::word::span_of;
 use hv_text::{Cursor, Name, Span, Word};
 use std::alloc::Global;
-
-// Whether one of these names is this one.
-fn is_among(name: Name<'_>, names: &[Name<'_>]) -> bool
-    ensures { result ≡ has_head (text_of name.entry) (map text_of names.now) }
-{
-    for other in names {
-        if other.is(name.written()) {
-            return true;
-        }
-    }
-    false
-}
 
 // A list that `:init` heads, up to behind that word.
 #[derive(Clone, Copy)]
@@ -70,29 +57,21 @@ fn begun_init<'s>(from: Cursor<'s>) -> Option<BegunInit<'s>>
     }
 }
 
-// A section that was read, its head, and the place behind it.
-#[derive(Drop)]
-pub(crate) struct SectionRead<'s> {
-    pub(crate) section: ProblemSection<'s>,
-    pub(crate) head: Name<'s>,
-    pub(crate) after: Cursor<'s>,
-}
-
 // The rest of `:init`, one literal at a time.
 fn read_init_at<'s>(
     alloc: Global,
     from: Cursor<'s>,
     begun: BegunInit<'s>,
     heads: &[Name<'s>],
-) -> Result<SectionRead<'s>, Refusal>
+) -> Result<SectionRead<'s, ProblemSection<'s>>, Refusal>
     requires begun { rest_at from ≡ enclose begun.start
         (add (word (text_of begun.name) begun.place) (rest_at begun.members)) }
     requires head { is (text_of begun.name) (codes ":init") ≡ true }
-    ensures read { IfOk result (λ r. IsSectionRead (map text_of heads.now) (rest_at from.entry)
+    ensures read { IfOk result (λ r. IsSectionRead problem_section (map text_of heads.now) (rest_at from.entry)
         (problem_section_view r.section) (text_of r.head) (rest_at r.after)) }
     ensures less { IfOk result (λ r. left_at r.after < left_at begun.entry.members) }
 {
-    if is_among(begun.name, heads) {
+    if !may_stand(Standing::Once, begun.name, heads) {
         return Err(Refusal::NoSpelling);
     }
     let (literals, end) = read_ground_literals_at(alloc, begun.members)?;
@@ -111,10 +90,10 @@ fn read_listed_at<'s>(
     alloc: Global,
     from: Cursor<'s>,
     heads: &[Name<'s>],
-) -> Result<Option<SectionRead<'s>>, Refusal>
+) -> Result<Option<SectionRead<'s, ProblemSection<'s>>>, Refusal>
     ensures none { IfOk result (λ o. IfNone o (here (rest_at from.entry) ≡ none)) }
     ensures read { IfOk result (λ o. IfSome o
-        (λ r. IsSectionRead (map text_of heads.now) (rest_at from.entry)
+        (λ r. IsSectionRead problem_section (map text_of heads.now) (rest_at from.entry)
         (problem_section_view r.section) (text_of r.head) (rest_at r.after))) }
     ensures less { IfOk result (λ o. IfSome o (λ r. left_at r.after < left_at from.entry)) }
 {
@@ -124,11 +103,7 @@ fn read_listed_at<'s>(
     let Some((head, members)) = headed(&e) else {
         return Err(Refusal::NoSpelling);
     };
-    match standing_of(head) {
-        Standing::Once => {}
-        _ => return Err(Refusal::NoSpelling),
-    }
-    if is_among(head, heads) {
+    if !may_stand(standing_of(head), head, heads) {
         return Err(Refusal::NoSpelling);
     }
     let section = read_members(alloc, head, span_of(&e), members)?;
@@ -144,10 +119,10 @@ fn read_section_at<'s>(
     alloc: Global,
     from: Cursor<'s>,
     heads: &[Name<'s>],
-) -> Result<Option<SectionRead<'s>>, Refusal>
+) -> Result<Option<SectionRead<'s, ProblemSection<'s>>>, Refusal>
     ensures none { IfOk result (λ o. IfNone o (here (rest_at from.entry) ≡ none)) }
     ensures read { IfOk result (λ o. IfSome o
-        (λ r. IsSectionRead (map text_of heads.now) (rest_at from.entry)
+        (λ r. IsSectionRead problem_section (map text_of heads.now) (rest_at from.entry)
         (problem_section_view r.section) (text_of r.head) (rest_at r.after))) }
     ensures less { IfOk result (λ o. IfSome o (λ r. left_at r.after < left_at from.entry)) }
 {
@@ -194,33 +169,13 @@ pub(crate) fn read_problem_at<'s>(
 ) -> Result<ProblemText<'s>, Refusal>
     ensures { IfOk result (λ p. problem_of (here (rest_at from.entry)) ≡ Ok (problem_view p)) }
 {
-    let Some((start, first)) = from.enter() else {
-        return Err(Refusal::NoSpelling);
-    };
-    let Some((define, second)) = first.read_one(alloc)? else {
-        return Err(Refusal::NoSpelling);
-    };
-    if !is_the_word(&define, b"define") {
-        return Err(Refusal::NoSpelling);
-    }
-    let Some((kind, third)) = second.read_one(alloc)? else {
-        return Err(Refusal::NoSpelling);
-    };
-    let Some(name) = title(&kind, b"problem") else {
-        return Err(Refusal::NoSpelling);
-    };
-    let (parts, end) = read_sections_at(alloc, third)?;
-    let Some((past, behind)) = end.leave() else {
-        return Err(Refusal::NoSpelling);
-    };
-    if behind.next().is_some() {
-        return Err(Refusal::NoSpelling);
-    }
+    let begun = begun(alloc, from, b"problem")?;
+    let (parts, end) = read_sections_at(alloc, begun.sections)?;
     let span = Span {
-        start: start.start,
-        past,
+        start: begun.start.start,
+        past: past_all(end)?,
     };
-    match whole(span, name, parts) {
+    match whole(span, begun.name, parts) {
         Ok(problem) => Ok(problem),
         Err(_) => Err(Refusal::NoSpelling),
     }

@@ -1,12 +1,10 @@
-use Rattle.hv_text.specs.Trees.{trees}
+use Rattle.std.proofs.Common.{Ok}
+use Rattle.hv_text.specs.Rests.{here}
+use Rattle.hv_text.specs.Cursors.{rest_at}
 use Rattle.hv_syntax.specs.DomainViews.{domain_view}
-use Rattle.hv_syntax.proofs.TextLemmas.{domain_of_text, fault_of_domain}
+use Rattle.hv_syntax.proofs.TextLemmas.{domain_of_text}
 use Rattle.hv_syntax.proofs.read.read_domain.Goals as goal
 
-pub returns-clause-ok : goal.returns-clause-ok
-returns-clause-ok c =
-    domain_of_text c.args.text.now (trees c.deref.result.now) (rw c.deref.ensures.value c.in_ok-es.ensures.ok) domain_view c.read_domain_of.result c.read_domain_of.ensures
-
-pub returns-clause-err : goal.returns-clause-err
-returns-clause-err c =
-    fault_of_domain c.args.text.now (trees c.deref.result.now) (rw c.deref.ensures.value c.in_ok-es.ensures.ok) domain_view c.read_domain_of.result c.read_domain_of.ensures
+pub returns-in-Ok-clause-ok : goal.returns-in-Ok-clause-ok
+returns-in-Ok-clause-ok c =
+    domain_of_text c.args.text.now (here (rest_at c.in_ok-start.start)) c.in_ok-start.ensures.are domain_view (Ok c.in-Ok.domain) c.in-Ok.ensures

@@ -8,5 +8,5 @@ use Rattle.hv_syntax.proofs.problem.stream.read_init_at.Goals as goal
 pub returns-clause-read : goal.returns-clause-read
 returns-clause-read c =
     init_read (map text_of c.args.heads.now) c.args.begun.start c.args.begun.place (text_of c.args.begun.name) (map literal_view c.in_ok-literals.literals.items) (rest_at c.args.from) (rest_at c.args.begun.members)
-    (rest_at c.in_ok-literals.end) (rest_at c.in-Some.after) c.in-Some._past c.requires.begun c.requires.head (sym c.is_among.ensures ∙ c.if-is_among.false)
+    (rest_at c.in_ok-literals.end) (rest_at c.in-Some.after) c.in-Some._past c.requires.begun c.requires.head (c.may_stand.ensures c.if-not-may_stand.false)
     c.in_ok-literals.ensures.every c.in_ok-literals.ensures.end c.in-Some.ensures.some

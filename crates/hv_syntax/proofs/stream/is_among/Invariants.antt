@@ -1,7 +1,7 @@
 use Rattle.std.proofs.Common.{◌≡◌, drop, map}
 use Rattle.hv_text.specs.Names.{text_of}
 use Rattle.hv_syntax.specs.inside.Streams.{has_head}
-use Rattle.hv_syntax.proofs.problem.stream.is_among.Given as goal
+use Rattle.hv_syntax.proofs.stream.is_among.Given as goal
 
 -- what is left decides as the whole does
 abbrev pub invariant-loop-other : goal.invariant-loop-other
