@@ -7,7 +7,7 @@ ghost use Rattle.hv_syntax.specs.DomainViews.{domain_view};
 ghost use Rattle.hv_syntax.specs.ProblemViews.{problem_view};
 ghost use Rattle.hv_world.specs.Known.{known_in, predicate_words};
 ghost use Rattle.hv_world.specs.Names.{names, place_in};
-ghost use Rattle.hv_world.specs.inside.Tables.{known_by, places_by};
+ghost use Rattle.hv_world.specs.inside.Tables.{known_by, places_by, HaveParameters};
 ghost use Rattle.hv_world.specs.Types.{IsInRange};
 ghost use Rattle.hv_world.specs.Faults.{memory_fault};
 ghost use Rattle.hv_world.specs.StaticRules.{IsStatic, first_fault};
@@ -188,6 +188,7 @@ fn start_in<'s>(
     init: Vec<Atom>,
 ) -> Result<Start<'s>, Memory>
     requires arrangeable { IsArrangeable (written_by (problem_view problem.now).htn.network) }
+    requires parameters { HaveParameters (problem_view problem.now).htn tables.now }
     requires init { map atom_view init.items
         ≡ added (known_by tables.now) (parameters []) (problem_view problem.now).init }
     ensures init { IfOk result
@@ -223,6 +224,7 @@ fn parts_in<'s>(
     requires known { known_by tables.now
         ≡ known_in (domain_view domain.now) (problem_view problem.now) }
     requires sound { IsStatic (domain_view domain.now) (problem_view problem.now) }
+    requires parameters { HaveParameters (problem_view problem.now).htn tables.now }
     requires init { map atom_view init.items
         ≡ added (known_by tables.now) (parameters []) (problem_view problem.now).init }
     ensures { IfOk result
@@ -316,6 +318,7 @@ impl<'s> World<'s> {
         requires known { known_by tables
             ≡ known_in (domain_view domain.now) (problem_view problem.now) }
         requires sound { IsStatic (domain_view domain.now) (problem_view problem.now) }
+        requires parameters { HaveParameters (problem_view problem.now).htn tables }
         requires init { map atom_view init.items
             ≡ added (known_by tables) (parameters []) (problem_view problem.now).init }
         ensures { IfOk result

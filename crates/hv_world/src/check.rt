@@ -8,7 +8,7 @@ ghost use Rattle.hv_world.specs.declared.fault.Side.TheVariants as sides;
 ghost use Rattle.hv_world.specs.Faults.{least};
 ghost use Rattle.hv_world.specs.Scopes.{parameters};
 ghost use Rattle.hv_world.specs.StaticRules.{IsStatic, first_fault, literals_faults};
-ghost use Rattle.hv_world.specs.inside.Tables.{known_by, HavePlaces};
+ghost use Rattle.hv_world.specs.inside.Tables.{known_by, HavePlaces, HaveParameters};
 
 mod effects;
 mod formulas;
@@ -41,6 +41,7 @@ pub(crate) fn first_fault<'s>(
     requires known { known_by tables.now
         ≡ known_in (domain_view domain.now) (problem_view problem.now) }
     requires places { HavePlaces (domain_view domain.now) tables.now }
+    requires parameters { HaveParameters (problem_view problem.now).htn tables.now }
     requires literal { literal
         ≡ least (literals_faults (known_by tables.now) sides.Problem (parameters [])
         (problem_view problem.now).init) }

@@ -9,7 +9,7 @@ ghost use Rattle.hv_syntax.specs.ProblemViews.{problem_view};
 ghost use Rattle.hv_world.specs.Names.{names, place_in, is_among, number_in};
 ghost use Rattle.hv_world.specs.Eithers.{either_types, either_place};
 ghost use Rattle.hv_world.specs.Known.{type_names, known_in, predicate_words, declared_words, declarations};
-ghost use Rattle.hv_world.specs.inside.Tables.{known_by, names_in, places_by, signature_view, declaration_view, HavePlaces};
+ghost use Rattle.hv_world.specs.inside.Tables.{known_by, names_in, places_by, signature_view, declaration_view, HavePlaces, HaveParameters};
 
 mod eithers;
 pub(crate) mod gather;
@@ -49,6 +49,8 @@ pub(crate) struct Declared<'s> {
 #[derive(Drop)]
 pub(crate) struct TypeTable<'s> {
     pub names: IndexSet<Name<'s>, Seeded>,
+    // Where the name of a type may stand among them.
+    pub hints: Hints,
     pub eithers: IndexSet<Vec<Name<'s>>, Seeded>,
 }
 
@@ -75,6 +77,8 @@ pub(crate) struct Tables<'s> {
     pub hints: Hints,
     pub predicates: PredicateTable<'s>,
     pub tasks: TaskTable<'s>,
+    /// The parameters of the initial network: where the name of each stands first.
+    pub parameters: Names<'s>,
 }
 
 // The table of types.
@@ -90,8 +94,13 @@ fn type_table<'s>(
         ≡ either_types (domain_view domain.now) (problem_view problem.now)) }
 {
     let names = type_names(alloc, domain.types())?;
+    let hints = hints_of(alloc, &names)?;
     let eithers = either_types(alloc, domain, problem)?;
-    Ok(TypeTable { names, eithers })
+    Ok(TypeTable {
+        names,
+        hints,
+        eithers,
+    })
 }
 
 // The table of predicates.
@@ -140,18 +149,21 @@ impl<'s> Tables<'s> {
         ensures known { IfOk result
             (λ t. known_by t ≡ known_in (domain_view domain.now) (problem_view problem.now)) }
         ensures places { IfOk result (HavePlaces (domain_view domain.now)) }
+        ensures parameters { IfOk result (HaveParameters (problem_view problem.now).htn) }
     {
         let types = type_table(alloc, domain, problem)?;
         let objects = object_names(alloc, domain.constants(), problem.objects())?;
         let hints = hints_of(alloc, &objects)?;
         let predicates = predicate_table(alloc, domain.predicates())?;
         let tasks = task_table(alloc, domain)?;
+        let parameters = Names::of_variables(alloc, problem.htn().parameters())?;
         Ok(Tables {
             types,
             objects,
             hints,
             predicates,
             tasks,
+            parameters,
         })
     }
 
@@ -159,7 +171,15 @@ impl<'s> Tables<'s> {
     pub(crate) fn is_type(&self, name: Name<'s>) -> bool
         ensures { result ≡ is_among (known_by self.now).types (text_of name.entry) }
     {
-        self.types.names.contains(&name)
+        self.type_at(name).is_some()
+    }
+
+    // The number of a type, where it is declared.
+    fn type_at(&self, name: Name<'s>) -> Option<usize>
+        ensures place { result ≡ place_in (known_by self.now).types (text_of name.entry) }
+        ensures known { is_some result ≡ is_among (known_by self.now).types (text_of name.entry) }
+    {
+        place_of(&self.types.names, &self.types.hints, name)
     }
 
     /// The number of a type with a name; of one that is not declared, the number behind the last
@@ -167,7 +187,7 @@ impl<'s> Tables<'s> {
     pub(crate) fn type_number(&self, name: Name<'s>) -> usize
         ensures { result ≡ number_in (known_by self.now).types (text_of name.entry) }
     {
-        match self.types.names.get_index_of(&name) {
+        match self.type_at(name) {
             Some(number) => number,
             None => self.types.names.len(),
         }

@@ -15,7 +15,7 @@ use Rattle.hv_world.specs.declared.tables.Declared as code_declared
 use Rattle.hv_world.specs.declared.tables.Tables.{Tables}
 use Rattle.hv_world.specs.Views.{name_view}
 use Rattle.hv_world.specs.Scopes.{Scope, outer, inside}
-use Rattle.hv_syntax.specs.Values.{Domain}
+use Rattle.hv_syntax.specs.Values.{Domain, Htn}
 use Rattle.hv_world.specs.Names.{names, place_in}
 use Rattle.hv_world.specs.Known.{Signature, signature, Declaration, declaration, Known, at_place, variables, predicate_words, declared_words, declarations}
 
@@ -72,3 +72,7 @@ pub record HavePlaces (d : Domain) (t : Tables) : Type 0 where
   pub predicates : places_by t.predicates.places ≡ place_in (names (predicate_words d.predicates))
   pub list : map declaration_view t.tasks.list.items ≡ declarations d
   pub tasks : places_by t.tasks.places ≡ place_in (names (declared_words (declarations d)))
+
+-- the tables have the places of the names of the parameters of an initial network
+abbrev pub HaveParameters : Htn → Tables → Type 0
+HaveParameters h t = places_by t.parameters ≡ place_in (variables h.parameters)

@@ -9,7 +9,7 @@ ghost use Rattle.hv_world.specs.declared.fault.Side.TheVariants as sides;
 ghost use Rattle.hv_world.specs.Scopes.{parameters};
 ghost use Rattle.hv_world.specs.Faults.{least};
 ghost use Rattle.hv_world.specs.StaticRules.{variable_faults, method_faults, action_faults, htn_faults, goal_faults, literals_faults};
-ghost use Rattle.hv_world.specs.inside.Tables.{known_by};
+ghost use Rattle.hv_world.specs.inside.Tables.{known_by, HaveParameters};
 
 use crate::check::effects::effect_fault;
 use crate::check::formulas::formula_fault;
@@ -163,14 +163,14 @@ pub(crate) fn htn_fault<'s>(
     tables: &Tables<'s>,
     htn: &HtnText<'s>,
 ) -> Result<Option<StaticFault>, Memory>
+    requires { HaveParameters (htn_view htn.now) tables.now }
     ensures { IfOk result
         (λ o. o ≡ least (htn_faults (known_by tables.now) sides.Problem (htn_view htn.now))) }
 {
     let side = Side::Problem;
     let list = htn.parameters();
-    let names = Names::of_variables(alloc, list)?;
-    let scope = Scope::Parameters(&names, list.len());
-    let parameters = parameter_fault(tables, &names, side, list);
+    let scope = Scope::Parameters(&tables.parameters, list.len());
+    let parameters = parameter_fault(tables, &tables.parameters, side, list);
     let network = network_fault(alloc, tables, &scope, side, htn.span(), htn.network())?;
     Ok(earlier(parameters, network))
 }

@@ -10,7 +10,7 @@ ghost use Rattle.hv_world.specs.Names.{repeated};
 ghost use Rattle.hv_world.specs.Faults.{faults_at, least};
 ghost use Rattle.hv_world.specs.Scopes.{parameters};
 ghost use Rattle.hv_world.specs.StaticRules.{duplicate_faults, domain_faults_by, problem_faults_by, literals_faults};
-ghost use Rattle.hv_world.specs.inside.Tables.{known_by, HavePlaces};
+ghost use Rattle.hv_world.specs.inside.Tables.{known_by, HavePlaces, HaveParameters};
 
 use crate::check::sections::{
     actions_fault, compounds_fault, goal_fault, htn_fault, methods_fault,
@@ -83,7 +83,8 @@ pub(crate) fn problem_fault<'s>(
     problem: &ProblemText<'s>,
     literal: Option<StaticFault>,
 ) -> Result<Option<StaticFault>, Memory>
-    requires { literal
+    requires parameters { HaveParameters (problem_view problem.now).htn tables.now }
+    requires literal { literal
         ≡ least (literals_faults (known_by tables.now) sides.Problem (parameters [])
         (problem_view problem.now).init) }
     ensures { IfOk result

@@ -5,7 +5,7 @@ ghost use Rattle.hv_syntax.specs.NetworkViews.{network_view as said_network};
 ghost use Rattle.hv_syntax.specs.DeclarationViews.{task_view as said_task, method_view as said_method, action_view as said_action};
 ghost use Rattle.hv_syntax.specs.ProblemViews.{htn_view as said_htn};
 ghost use Rattle.hv_world.specs.Networks.{written_by, IsArrangeable};
-ghost use Rattle.hv_world.specs.inside.Tables.{known_by, scope_view};
+ghost use Rattle.hv_world.specs.inside.Tables.{known_by, scope_view, HaveParameters};
 ghost use Rattle.hv_world.specs.Values.{and, no_formulas};
 ghost use Rattle.hv_world.specs.Views.{formula_view};
 ghost use Rattle.hv_world.specs.NetworkViews.{network_view};
@@ -110,12 +110,12 @@ pub(crate) fn top_in<'s>(
     tables: &Tables<'s>,
     htn: &HtnText<'s>,
 ) -> Result<Method<'s>, Memory>
-    requires { IsArrangeable (written_by (said_htn htn.now).network) }
+    requires arrangeable { IsArrangeable (written_by (said_htn htn.now).network) }
+    requires parameters { HaveParameters (said_htn htn.now) tables.now }
     ensures { IfOk result (λ m. method_view m ≡ top_in (known_by tables.now) (said_htn htn.now)) }
 {
     let list = htn.parameters();
-    let names = Names::of_variables(alloc, list)?;
-    let scope = Scope::Parameters(&names, list.len());
+    let scope = Scope::Parameters(&tables.parameters, list.len());
     let parameters = types_of(alloc, tables, list)?;
     let network = network_in(alloc, tables, &scope, htn.network())?;
     let precondition = always(alloc);

@@ -21,7 +21,7 @@ sections_in-requires c = methods_arrangeable (domain_view c.args.domain.now) (pr
 
 pub start_in-requires : goal.start_in-requires
 start_in-requires c =
-    record { arrangeable = top_arrangeable (domain_view c.args.domain.now) (problem_view c.args.problem.now) c.requires.sound; init = c.requires.init }
+    record { arrangeable = top_arrangeable (domain_view c.args.domain.now) (problem_view c.args.problem.now) c.requires.sound; parameters = c.requires.parameters; init = c.requires.init }
 
 pub returns : goal.returns
 returns c =

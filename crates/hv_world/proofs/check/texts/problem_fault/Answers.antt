@@ -24,5 +24,5 @@ returns c =
     (c.earlier-front.ensures
     ∙ least-both objects htn _ _ (c.typed_fault-object.ensures ∙ ap (λ vs. least (typed_faults k s vs)) c.objects.ensures)
     (c.in_ok-htn.ensures ∙ ap (λ h. least (htn_faults k s h)) c.htn.ensures))
-    c.requires)
+    c.requires.literal)
     (c.goal_fault-goal.ensures ∙ ap (λ g. least (goal_faults k s g)) c.goal.ensures)
