@@ -15,10 +15,11 @@ use Rattle.std.proofs.lemmas.List.Quantifiers.{all_pairs_push}
 use Rattle.hv_lists.proofs.Contained.{contains_first, none_in_empty, in_tail}
 use Rattle.hv_world.specs.declared.id.TypeId.{TypeId}
 use Rattle.hv_world.specs.declared.id.ObjectId.{ObjectId}
+use Rattle.hv_world.specs.declared.lists.TypesOf.{TypesOf}
 use Rattle.hv_world.specs.Types.{Typing, Reaches, same, up, Of, object_numbers}
 use Rattle.hv_lists.specs.Lists.{Once}
 use Rattle.hv_world.specs.inside.Bases.{AreShared}
-use Rattle.hv_world.specs.inside.TypeLists.{list_of, type_numbers, type_lists, object_lists, AreSeconds, Climbs, stays, steps, ClimbsFrom, AscendsBelow, IsPut, IsPutAbove, AreMembersBelow}
+use Rattle.hv_world.specs.inside.TypeLists.{list_of, type_numbers, type_lists, declared_lists, object_lists, AreSeconds, Climbs, stays, steps, ClimbsFrom, AscendsBelow, IsPut, IsPutAbove, AreMembersBelow}
 
 -- a number whose list has a member has a list
 pub has_list : (lists : List (List ℕ)) (t x : ℕ) → Contains (list_of lists t) x → t < length lists
@@ -27,10 +28,13 @@ has_list (l ∷ ls) zero x m = omega arith
 has_list (l ∷ ls) (suc t) x m = let h : t < length ls = has_list ls t x m in omega arith
 
 -- lists with nothing in them
+pub all_empty_by : {V X : Type 0} (of : V → List X) (f : X → ℕ) (lists : List V) → All (λ v. of v ≡ []) lists → (i : ℕ) → list_of (map (λ v. map f (of v)) lists) i ≡ []
+all_empty_by of f [] h i = refl
+all_empty_by of f (v ∷ vs) h zero = ap (map f) (All-head (λ v. of v ≡ []) v vs h)
+all_empty_by of f (v ∷ vs) h (suc i) = all_empty_by of f vs (All-tail (λ v. of v ≡ []) v vs h) i
+
 pub all_empty : {X : Type 0} (f : X → ℕ) (lists : List (Vec X)) → All (λ v. v.items ≡ []) lists → (i : ℕ) → list_of (map (λ v. map f v.items) lists) i ≡ []
-all_empty f [] h i = refl
-all_empty f (v ∷ vs) h zero = ap (map f) (All-head (λ v. v.items ≡ []) v vs h)
-all_empty f (v ∷ vs) h (suc i) = all_empty f vs (All-tail (λ v. v.items ≡ []) v vs h) i
+all_empty f lists h i = all_empty_by (λ v. v.items) f lists h i
 
 -- one list changed
 pub list_set_same : (lists : List (List ℕ)) (a : ℕ) (xs : List ℕ) → a < length lists → list_of (set lists a xs) a ≡ xs
@@ -395,11 +399,15 @@ at_map f lists i d lt = get_or-map (λ v. map f v.items) lists i d [] lt
 pub set_map : {X : Type 0} (f : X → ℕ) (lists : List (Vec X)) (i : ℕ) (v : Vec X) → map (λ v. map f v.items) (set lists i v) ≡ set (map (λ v. map f v.items) lists) i (map f v.items)
 set_map f lists i v = map-set (λ v. map f v.items) lists i v
 
-module _ {X : Type 0} (f : X → ℕ) (lists : List (Vec X)) (i : ℕ) (v : Vec X) (d : Vec X) (lt : i < length lists) where
-  -- a vector grew by one
-  pub pushed : (x : X) → v.items ≡ (get_or lists i d).items ++ x ∷ []
-      → map (λ v. map f v.items) (set lists i v) ≡ set (map (λ v. map f v.items) lists) i (list_of (map (λ v. map f v.items) lists) i ++ f x ∷ [])
-  pushed x e = set_map f lists i v ∙ ap (set (map (λ v. map f v.items) lists) i) (ap (map f) e ∙ map_push f (get_or lists i d).items x ∙ ap (λ xs. xs ++ f x ∷ []) (sym (at_map f lists i d lt)))
+module _ {V X : Type 0} (of : V → List X) (f : X → ℕ) (lists : List V) (i : ℕ) (v d : V) (lt : i < length lists) where
+  abbrev numbers_of : V → List ℕ
+  numbers_of u = map f (of u)
+
+  -- a list grew by one
+  pub pushed : (x : X) → of v ≡ of (get_or lists i d) ++ x ∷ [] → map numbers_of (set lists i v) ≡ set (map numbers_of lists) i (list_of (map numbers_of lists) i ++ f x ∷ [])
+  pushed x e =
+      map-set numbers_of lists i v
+      ∙ ap (set (map numbers_of lists) i) (ap (map f) e ∙ map_push f (of (get_or lists i d)) x ∙ ap (λ xs. xs ++ f x ∷ []) (sym (get_or-map numbers_of lists i d [] lt)))
 
 -- one step of the climb, where the type a was taken from the end of those that wait
 module _ (parents : List (List ℕ)) (starts : List ℕ) (n : ℕ) (old : List (List ℕ)) (members : List (Vec ObjectId)) (waiting rest : List TypeId) (a : TypeId)
@@ -491,24 +499,29 @@ module _ (n : ℕ) (objects : List ObjectId) (ascend : AscendsBelow (n + 1) (obj
       from m = let is_n : last.0 ≡ n = is_last m.0 (omega (arith, m.1, long)) m.2 in grind (arith, nat_tests)
 
 -- one pair of the code more in the lists
+pub grouped_more_by : {P V X : Type 0} (of : V → List X) (f : X → ℕ) (numbers : P → ℕ × ℕ) (pairs : List P) (i : ℕ) (p : P) (lists : List V) (a : ℕ) (v d : V) (b : X)
+    → i < length pairs → numbers (get_or pairs i p) ≡ (a, f b) → a < length lists → of v ≡ of (get_or lists a d) ++ b ∷ []
+    → AreSeconds (map numbers (take i pairs)) (map (λ u. map f (of u)) lists) → AreSeconds (map numbers (take (i + 1) pairs)) (map (λ u. map f (of u)) (set lists a v))
+grouped_more_by of f numbers pairs i p lists a v d b lt e within grew h =
+    let more : map numbers (take (i + 1) pairs) ≡ map numbers (take i pairs) ++ (a, f b) ∷ [] = map_more numbers pairs i p lt ∙ ap (λ x. map numbers (take i pairs) ++ x ∷ []) e in
+    let lists_more : map (λ u. map f (of u)) (set lists a v) ≡ set (map (λ u. map f (of u)) lists) a (list_of (map (λ u. map f (of u)) lists) a ++ f b ∷ []) = pushed of f lists a v d within b grew in
+    let long : length (map (λ u. map f (of u)) lists) ≡ length lists = length-map lists (λ u. map f (of u)) in
+    rw (more, lists_more) (pair_more (map numbers (take i pairs)) (map (λ u. map f (of u)) lists) a (f b) (omega (arith, long)) h)
+
 pub grouped_more : {P X : Type 0} (f : X → ℕ) (numbers : P → ℕ × ℕ) (pairs : List P) (i : ℕ) (p : P) (lists : List (Vec X)) (a : ℕ) (v d : Vec X) (b : X)
     → i < length pairs → numbers (get_or pairs i p) ≡ (a, f b) → a < length lists → v.items ≡ (get_or lists a d).items ++ b ∷ []
     → AreSeconds (map numbers (take i pairs)) (map (λ u. map f u.items) lists) → AreSeconds (map numbers (take (i + 1) pairs)) (map (λ u. map f u.items) (set lists a v))
-grouped_more f numbers pairs i p lists a v d b lt e within grew h =
-    let more : map numbers (take (i + 1) pairs) ≡ map numbers (take i pairs) ++ (a, f b) ∷ [] = map_more numbers pairs i p lt ∙ ap (λ x. map numbers (take i pairs) ++ x ∷ []) e in
-    let lists_more : map (λ u. map f u.items) (set lists a v) ≡ set (map (λ u. map f u.items) lists) a (list_of (map (λ u. map f u.items) lists) a ++ f b ∷ []) = pushed f lists a v d within b grew in
-    let long : length (map (λ u. map f u.items) lists) ≡ length lists = length-map lists (λ u. map f u.items) in
-    rw (more, lists_more) (pair_more (map numbers (take i pairs)) (map (λ u. map f u.items) lists) a (f b) (omega (arith, long)) h)
+grouped_more f numbers pairs i p lists a v d b lt e within grew h = grouped_more_by (λ u. u.items) f numbers pairs i p lists a v d b lt e within grew h
 
 -- the numbers of the pairs are in their range
 pub second_within : {P : Type 0} (numbers : P → ℕ × ℕ) (pairs : List P) (types : ℕ) → All (λ p. (numbers p).1 < types) pairs → (a b : ℕ) → Contains (map numbers pairs) (a, b) → b < types
 second_within numbers pairs types all a b m = All-contains (λ q. q.1 < types) (map numbers pairs) (a, b) (All-map (λ q. q.1 < types) numbers pairs all) m
 
 -- what waits at first is what is declared of the object
-pub starts_are : (direct read : List (Vec TypeId)) (n : ℕ) (v : Vec TypeId) (waiting all of : List TypeId)
-    → n < length direct → read ≡ direct → v ≡ get_or read n v → of ≡ v.items → waiting ≡ [] → all ≡ waiting ++ of → type_numbers all ≡ list_of (type_lists direct) n
+pub starts_are : (direct read : List TypesOf) (n : ℕ) (v : TypesOf) (waiting all of : List TypeId)
+    → n < length direct → read ≡ direct → v ≡ get_or read n v → of ≡ v.types.items → waiting ≡ [] → all ≡ waiting ++ of → type_numbers all ≡ list_of (declared_lists direct) n
 starts_are direct read n v waiting all of lt read_is v_is of_is none all_is =
-    ap type_numbers (all_is ∙ ap (λ ts. ts ++ of) none ∙ of_is ∙ ap (λ u. u.items) v_is ∙ ap (λ l. (get_or l n v).items) read_is) ∙ sym (at_map (λ t. t.0) direct n v lt)
+    ap type_numbers (all_is ∙ ap (λ ts. ts ++ of) none ∙ of_is ∙ ap (λ u. u.types.items) v_is ∙ ap (λ l. (get_or l n v).types.items) read_is) ∙ sym (get_or-map (λ u. type_numbers u.types.items) direct n v [] lt)
 
 pub put_above_as : (parents parents' : List (List ℕ)) (starts starts' : List ℕ) (n : ℕ) (old old' new : List (List ℕ)) → parents ≡ parents' → starts ≡ starts' → old ≡ old'
     → IsPutAbove parents starts n old new → IsPutAbove parents' starts' n old' new

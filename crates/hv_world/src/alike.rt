@@ -135,19 +135,23 @@ fn fixed_positions(
     Ok(rows)
 }
 
+// How many positions are marked.
+fn marked_count(marks: &[bool]) -> usize {
+    marks.iter().filter(|mark| **mark).count()
+}
+
 // The objects at the marked positions.
 fn marked_objects(alloc: Global, marks: &[bool], terms: &[Term]) -> Result<Vec<usize>, Memory>
     ensures { IfOk result
         (λ v. v.items ≡ alike.fixed_objects (is_marked marks.now) 0 (map term_view terms.now)) }
 {
-    let mut objects = Vec::with_capacity(alloc, terms.len())?;
+    let mut objects = Vec::with_capacity(alloc, marked_count(marks))?;
     for (position, term) in terms.iter().enumerate() {
         match term {
             Term::Object(object) if is_marked(marks, position) => objects.push(object.0)?,
             _ => {}
         }
     }
-    objects.shrink_to_fit();
     Ok(objects)
 }
 

@@ -1,7 +1,7 @@
 //! Numbers in place of names.
 
 /// The number of a type, by first sight; that of `object` is 0.
-#[derive(Clone, Copy, Debug, PartialEq, Eq)]
+#[derive(Clone, Copy, Debug, Default, PartialEq, Eq)]
 pub struct TypeId(pub usize);
 
 /// The number of a constant or an object, by first sight.

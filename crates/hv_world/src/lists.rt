@@ -4,13 +4,14 @@ ghost use Rattle.std.specs.Prelude.{◌≡◌, ◌<◌, ◌+◌, ◌↔◌, ℕ,
 ghost use Rattle.std.specs.List.{All, Contains};
 ghost use Rattle.hv_world.specs.Types.{Typing, typing, object_numbers};
 ghost use Rattle.hv_world.specs.Ranges.{range_view, IsRange};
-ghost use Rattle.hv_world.specs.inside.TypeLists.{list_of, type_numbers, type_lists, object_lists, AllAscend, AreSeconds, AscendsBelow, IsPut, IsPutAbove, AreMembersBelow};
+ghost use Rattle.hv_world.specs.inside.TypeLists.{list_of, type_numbers, type_lists, declared_lists, object_lists, AllAscend, AreSeconds, AscendsBelow, IsPut, IsPutAbove, AreMembersBelow};
 ghost use Rattle.hv_world.specs.inside.Bases.{AreShared};
 
 use crate::bases::{bases, contracted};
 use crate::id::{ObjectId, TypeId};
 use crate::range::Range;
 use hv_text::Memory;
+use smallvec::SmallVec;
 use std::alloc::Global;
 
 /// Lists of objects, each for the types that have just these.
@@ -91,20 +92,39 @@ pub(crate) fn parents_by_type(
     Ok(lists)
 }
 
+/// The types that are declared of an object. Mostly it is one, which takes no allocation.
+#[derive(Drop)]
+pub(crate) struct TypesOf {
+    types: SmallVec<TypeId, 1>,
+}
+
+// No types, for each of so many objects.
+fn no_types(alloc: Global, objects: usize) -> Result<Vec<TypesOf>, Memory>
+    ensures size { IfOk result (λ lists. length lists.items ≡ objects) }
+    ensures empty { IfOk result (λ lists. All (λ o. o.types.items ≡ []) lists.items) }
+{
+    let mut lists = Vec::with_capacity(alloc, objects)?;
+    for _ in 0..objects {
+        let types = SmallVec::new(alloc);
+        lists.push(TypesOf { types })?;
+    }
+    Ok(lists)
+}
+
 // The declared types of each object.
 fn types_by_object(
     alloc: Global,
     objects: usize,
     pairs: &[(ObjectId, TypeId)],
-) -> Result<Vec<Vec<TypeId>>, Memory>
+) -> Result<Vec<TypesOf>, Memory>
     requires { All (λ p. p.0.0 < objects) pairs.now }
     ensures size { IfOk result (λ lists. length lists.items ≡ objects) }
     ensures lists { IfOk result
-        (λ lists. AreSeconds (map (λ p. (p.0.0, p.1.0)) pairs.now) (type_lists lists.items)) }
+        (λ lists. AreSeconds (map (λ p. (p.0.0, p.1.0)) pairs.now) (declared_lists lists.items)) }
 {
-    let mut lists = no_lists(alloc, objects)?;
+    let mut lists = no_types(alloc, objects)?;
     for (object, of) in pairs {
-        lists[object.0].push(*of)?;
+        lists[object.0].types.push(*of)?;
     }
     Ok(lists)
 }
@@ -180,7 +200,7 @@ fn members(
     let mut waiting = Vec::new(alloc);
     for (number, of) in direct.iter().enumerate() {
         let object = ObjectId(number);
-        waiting.extend_from_slice(of)?;
+        waiting.extend_from_slice(of.types.as_slice())?;
         put_above(object, &mut waiting, &above, &mut members)?;
         put(&mut members[0], object)?;
     }

@@ -5,6 +5,7 @@ use Rattle.std.specs.List.Sorted.{IsStrictlyIncreasing}
 use Rattle.std.specs.Global.{Vec}
 use Rattle.hv_world.specs.declared.id.TypeId.{TypeId}
 use Rattle.hv_world.specs.declared.id.ObjectId.{ObjectId}
+use Rattle.hv_world.specs.declared.lists.TypesOf.{TypesOf}
 use Rattle.hv_world.specs.Types.{Typing, Of, object_numbers}
 
 -- the list of a number; none past the end
@@ -16,6 +17,10 @@ type_numbers = map (λ t. t.0)
 
 abbrev pub type_lists : List (Vec TypeId) → List (List ℕ)
 type_lists = map (λ v. type_numbers v.items)
+
+-- the types that are declared of each object
+abbrev pub declared_lists : List TypesOf → List (List ℕ)
+declared_lists = map (λ o. type_numbers o.types.items)
 
 abbrev pub object_lists : List (Vec ObjectId) → List (List ℕ)
 object_lists = map (λ v. object_numbers v.items)
