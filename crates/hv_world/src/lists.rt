@@ -14,6 +14,11 @@ use hv_text::Memory;
 use smallvec::SmallVec;
 use std::alloc::Global;
 
+// So many objects, each counted for itself in each list, may stand in the lists of all types: a
+// text can ask for as many as the product of two numbers that grow with it. Where it asks for more,
+// memory is said to have run out before it has.
+const MOST_LISTED: usize = 1 << 27;
+
 /// Lists of objects, each for the types that have just these.
 #[derive(Drop)]
 pub(crate) struct TypeLists {
@@ -153,13 +158,14 @@ fn put(list: &mut Vec<ObjectId>, object: ObjectId) -> Result<bool, Memory>
     Ok(true)
 }
 
-// Puts an object into the lists of the waiting types and of all above them.
+// Puts an object into the lists of the waiting types and of all above them. Says into how many: only
+// memory hangs on that.
 fn put_above(
     object: ObjectId,
     waiting: &mut Vec<TypeId>,
     parents: &[Vec<TypeId>],
     members: &mut [Vec<ObjectId>],
-) -> Result<(), Memory>
+) -> Result<usize, Memory>
     requires size { length parents.now ≡ length members.old }
     requires waiting { (t : ℕ) → Contains (type_numbers waiting.old.items) t
         → t < length parents.now }
@@ -171,12 +177,14 @@ fn put_above(
         (IsPutAbove (type_lists parents.now) (type_numbers waiting.old.items) object.0
         (object_lists members.old) (object_lists members.new)) }
 {
+    let mut count = 0usize;
     'climb: while let Some(at) = waiting.pop() {
         if put(&mut members[at.0], object)? {
+            count = count.saturating_add(1);
             waiting.extend_from_slice(&parents[at.0])?;
         }
     }
-    Ok(())
+    Ok(count)
 }
 
 // The objects of each type.
@@ -198,11 +206,16 @@ fn members(
     let direct = types_by_object(alloc, objects, declared)?;
     let mut members = no_lists(alloc, types)?;
     let mut waiting = Vec::new(alloc);
+    let mut listed = 0usize;
     for (number, of) in direct.iter().enumerate() {
         let object = ObjectId(number);
         waiting.extend_from_slice(of.types.as_slice())?;
-        put_above(object, &mut waiting, &above, &mut members)?;
+        let count = put_above(object, &mut waiting, &above, &mut members)?;
         put(&mut members[0], object)?;
+        listed = listed.saturating_add(count);
+        if listed > MOST_LISTED {
+            return Err(Memory);
+        }
     }
     Ok(members)
 }
