@@ -3,7 +3,7 @@ use Rattle.std.proofs.Common.{◌≡◌, ◌||◌, ℕ, Bool, true, false, List,
 use Rattle.std.proofs.lemmas.List.{append-nil, append_assoc, map-append}
 use Rattle.std.specs.Prelude.{codes}
 use Rattle.hv_text.specs.Trees.{Tree, Trees, word, list, none, more, place_of}
-use Rattle.hv_text.specs.Rests.{Rest, last, upto, add, enclose, here, ended}
+use Rattle.hv_text.specs.Rests.{Rest, last, lost, upto, add, enclose, here, ended}
 use Rattle.hv_text.specs.declared.span.Span.{Span}
 use Rattle.hv_syntax.specs.inside.Reading.{both, every, behind}
 use Rattle.hv_syntax.specs.Values.{WordAt, Literal}
@@ -22,14 +22,17 @@ use Rattle.hv_syntax.proofs.SpellingLemmas.{same_word}
 
 pub here_add : (t : Tree) (r : Rest) → here (add t r) ≡ more t (here r)
 here_add t (last ts) = refl
+here_add t (lost ts) = refl
 here_add t (upto ts e r) = refl
 
 pub ended_add : (t : Tree) (r : Rest) → ended (add t r) ≡ ended r
 ended_add t (last ts) = refl
+ended_add t (lost ts) = refl
 ended_add t (upto ts e r) = refl
 
 pub ended_none : (r : Rest) → here r ≡ none → r ≡ ended r
 ended_none (last ts) e = ap last e
+ended_none (lost ts) e = ap lost e
 ended_none (upto ts p r) e = ap (λ x. upto x p r) e
 
 module _ {A X : Type 0} (f : Tree → Option A) (view : X → A) (t : Tree) (r r' : Rest) (first : r ≡ add t r') (all : Option (List A)) where
@@ -87,6 +90,10 @@ init_read hs start place w ls from (last us) e after p f h fresh r k q = absurd 
   where
     never : last none ≡ upto none p after → ⊥
     never z = cc
+init_read hs start place w ls from (lost us) e after p f h fresh r k q = absurd (never (sym k ∙ q))
+  where
+    never : lost none ≡ upto none p after → ⊥
+    never z = cc
 init_read hs start place w ls from (upto us n b) e after p f h fresh r k q =
     let same : upto none n b ≡ upto none p after = sym k ∙ q in
     let behind_it : b ≡ after = cc in
@@ -115,16 +122,30 @@ pub section_ended : {S : Type 0} (section : List Tree → Tree → Result S (Syn
 section_ended section hs from after x w all r e = sym (ended_add r.tree after) ∙ ap ended (sym r.first) ∙ e
 
 -- what a whole text defines, whose sections stand up to here
-pub definition_read : (v : List ℕ) (from third e : Rest) (start : Span) (n : WordAt) (p : ℕ) → IsBegun v from start n third → e ≡ ended third → e ≡ upto none p (last none)
-    → sections_of v (here from) ≡ Some (n, here third, record { start = start.start; past = p })
-definition_read v from (last us) e start n p b m o = absurd (never (sym m ∙ o))
-  where
-    never : last none ≡ upto none p (last none) → ⊥
-    never z = cc
-definition_read v from (upto us z c) e start n p b m o =
-    let same : upto none z c ≡ upto none p (last none) = sym m ∙ o in
-    let ends : z ≡ p = cc in
-    let tail : c ≡ last none = cc in
-    let place : Span = record { start = start.start; past = p } in
-    let one : here from ≡ more (list (more b.define (more b.title us)) place) none = ap here (rw (ends, tail) at b.first) in
-    rw (one, b.is_define, sym b.has_name) refl
+module _ (v : List ℕ) (from : Rest) (start : Span) (n : WordAt) (p : ℕ) where
+  abbrev place : Span
+  place = record { start = start.start; past = p }
+
+  -- the one list of the text
+  whole_list : (third e : Rest) (b : IsBegun v from start n third) → e ≡ ended third → e ≡ upto none p (last none)
+      → from ≡ last (more (list (more b.define (more b.title (here third))) place) none)
+  whole_list (last us) e b m o = absurd (never (sym m ∙ o))
+    where
+      never : last none ≡ upto none p (last none) → ⊥
+      never z = cc
+  whole_list (lost us) e b m o = absurd (never (sym m ∙ o))
+    where
+      never : lost none ≡ upto none p (last none) → ⊥
+      never z = cc
+  whole_list (upto us z c) e b m o =
+      let same : upto none z c ≡ upto none p (last none) = sym m ∙ o in
+      let ends : z ≡ p = cc in
+      let tail : c ≡ last none = cc in
+      rw (ends, tail) at b.first
+
+  pub whole_read : (third e : Rest) → IsBegun v from start n third → e ≡ ended third → e ≡ upto none p (last none) → from ≡ last (here from)
+  whole_read third e b m o = let w = whole_list third e b m o in w ∙ ap last (sym (ap here w))
+
+  pub definition_read : (third e : Rest) → IsBegun v from start n third → e ≡ ended third → e ≡ upto none p (last none)
+      → sections_of v (here from) ≡ Some (n, here third, record { start = start.start; past = p })
+  definition_read third e b m o = rw (ap here (whole_list third e b m o), b.is_define, sym b.has_name) refl

@@ -22,7 +22,9 @@ pub fn read_domain<'s>(alloc: Global, text: &'s [u8]) -> Result<DomainText<'s>, 
     ensures ok { IfOk result (λ d. IsDomainText text.now (domain_view d)) }
     ensures err { IfErr result (λ f. IsDomainFault text.now f.kind f.span) }
 {
-    let start = Cursor::new(alloc, text)?;
+    let Some(start) = Cursor::new(text) else {
+        return read_whole_domain(alloc, text);
+    };
     match read_domain_at(alloc, start) {
         Ok(domain) => Ok(domain),
         Err(Refusal::Memory) => Err(SyntaxFault::memory()),
@@ -49,7 +51,9 @@ pub fn read_problem<'s>(alloc: Global, text: &'s [u8]) -> Result<ProblemText<'s>
     ensures ok { IfOk result (λ p. IsProblemText text.now (problem_view p)) }
     ensures err { IfErr result (λ f. IsProblemFault text.now f.kind f.span) }
 {
-    let start = Cursor::new(alloc, text)?;
+    let Some(start) = Cursor::new(text) else {
+        return read_whole_problem(alloc, text);
+    };
     match read_problem_at(alloc, start) {
         Ok(problem) => Ok(problem),
         Err(Refusal::Memory) => Err(SyntaxFault::memory()),

@@ -104,11 +104,8 @@ pub(crate) fn begun<'s>(
 pub(crate) fn past_all(end: Cursor<'_>) -> Result<u32, Refusal>
     ensures { IfOk result (λ past. rest_at end.entry ≡ upto none past (last none)) }
 {
-    let Some((past, behind)) = end.leave() else {
-        return Err(Refusal::NoSpelling);
-    };
-    match behind.next() {
-        None => Ok(past),
-        Some(_) => Err(Refusal::NoSpelling),
+    match end.leave() {
+        Some((past, behind)) if behind.is_over() => Ok(past),
+        _ => Err(Refusal::NoSpelling),
     }
 }

@@ -113,7 +113,7 @@ ended (x ∷ xs) = behind (ended xs) where
 pub some_reading : (text : List ℕ) → HasExpressions text ⊎ HasOwnFault text
 some_reading text = sized (compare (length text) MOST_BYTES) where
   closed : length text ≤ MOST_BYTES → fault_from 0 (pieces text) ≡ None → Ended (open_from [] (pieces text)) → HasExpressions text ⊎ HasOwnFault text
-  closed size e (empty c) = inl (_, (expressions_to_come text (record { size = size; sound = e; closed = c })).0)
+  closed size e (empty c) = inl (_, expressions_to_come text (record { size = size; sound = e; closed = c }))
   closed size e (ends before s c) = inr (kinds.Unclosed, s, ((λ d. cc), is_text_fault text kinds.Unclosed s (size, e, (before, c))))
 
   searched : length text ≤ MOST_BYTES → Found (fault_from 0 (pieces text)) → HasExpressions text ⊎ HasOwnFault text

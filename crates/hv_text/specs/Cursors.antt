@@ -1,10 +1,11 @@
 -- What stands from a cursor on.
 use Rattle.std.specs.Prelude.{◌-◌, ℕ, length}
-use Rattle.hv_text.specs.Rests.{Rest, to_come}
+use Rattle.hv_text.specs.Words.{pieces_at}
+use Rattle.hv_text.specs.Rests.{Rest, rest_from}
 use Rattle.hv_text.specs.declared.at.Cursor.{Cursor}
 
 abbrev pub rest_at : Cursor → Rest
-rest_at c = to_come c.text.now c.at
+rest_at c = rest_from c.depth (pieces_at c.text.now c.at)
 
 -- how many bytes are left
 abbrev pub left_at : Cursor → ℕ

@@ -1,74 +1,20 @@
-//! The expressions of a text one at a time: a text is checked once, and then read with no tree of
-//! it all.
+//! The expressions of a text one at a time, with no tree of it all.
 
-ghost use Rattle.std.specs.Prelude.{◌≡◌, ◌<◌, ◌≤◌, OnOk, IfOk, IfErr, IfSome, IfNone};
+ghost use Rattle.std.specs.Prelude.{◌≡◌, ◌<◌, ◌≤◌, ◌∷◌, List, length, true, IfOk, IfSome, IfNone, MatchOption};
 ghost use Rattle.hv_text.specs.Trees.{tree, trees, list, none};
-ghost use Rattle.hv_text.specs.Words.{piece_of};
-ghost use Rattle.hv_text.specs.Sexps.{AreExpressions, IsTextFault};
-ghost use Rattle.hv_text.specs.inside.Scan.{IsScanFault, IsBalanced};
-ghost use Rattle.hv_text.specs.Rests.{last, upto, step, add, add_all, enclose, here, to_come};
+ghost use Rattle.hv_text.specs.Words.{Piece, piece_of};
+ghost use Rattle.hv_text.specs.Sexps.{AreExpressions};
+ghost use Rattle.hv_text.specs.Rests.{last, upto, lost, IsOut, step, add, add_all, enclose, here, rest_from};
 ghost use Rattle.hv_text.specs.Cursors.{rest_at, left_at};
+ghost use Rattle.hv_text.specs.declared.fault.TheConstants.{MOST_BYTES, MOST_OPEN};
 
 use crate::at::Cursor;
-use crate::fault::{MOST_BYTES, MOST_OPEN, TextFault, TextKind};
+use crate::fault::{MOST_BYTES, MOST_OPEN};
 use crate::refusal::Memory;
 use crate::sexp::Sexp;
 use crate::span::Span;
 use crate::words::{Word, next_word};
 use std::alloc::Global;
-
-/// Checks that a text has expressions, with a stack of the parentheses that are open
-/// and nothing else.
-///
-/// # Errors
-///
-/// The fault of the text.
-pub fn check_text(alloc: Global, text: &[u8]) -> Result<(), TextFault>
-    ensures ok { OnOk result (AreExpressions text.now (here (to_come text.now 0))) }
-    ensures last { OnOk result (to_come text.now 0 ≡ last (here (to_come text.now 0))) }
-    ensures err { IfErr result (λ f. IsTextFault text.now f.kind f.span) }
-{
-    balance(alloc, text)
-}
-
-fn fault(kind: TextKind, span: Span) -> TextFault
-    ensures { result ≡ record { kind = kind; span = span } }
-{
-    TextFault { kind, span }
-}
-
-// The faults of a text, with a stack of the parentheses that are open.
-fn balance(alloc: Global, text: &[u8]) -> Result<(), TextFault>
-    ensures ok { OnOk result (IsBalanced text.now) }
-    ensures err { IfErr result (λ f. IsScanFault text.now f.kind f.span) }
-{
-    if text.len() > MOST_BYTES {
-        return Err(TextFault::nowhere(TextKind::TooLong));
-    }
-    let mut pending = Vec::new(alloc);
-    let mut at = 0;
-    'words: while let Some(found) = next_word(text, at)? {
-        at = found.past;
-        match found.word {
-            Word::Name(..) => {}
-            Word::Left(place) => {
-                if pending.len() == MOST_OPEN {
-                    return Err(fault(TextKind::TooDeep, place));
-                }
-                pending.push(place)?;
-            }
-            Word::Right(place) => {
-                let Some(_left) = pending.pop() else {
-                    return Err(fault(TextKind::Unopened, place));
-                };
-            }
-        }
-    }
-    match pending.pop() {
-        None => Ok(()),
-        Some(left) => Err(fault(TextKind::Unclosed, left)),
-    }
-}
 
 // The list of these members, from its parenthesis at `start` to the one that ends at `past`.
 fn list_of<'s>(members: Vec<Sexp<'s>>, start: u32, past: u32) -> Sexp<'s>
@@ -79,39 +25,71 @@ fn list_of<'s>(members: Vec<Sexp<'s>>, start: u32, past: u32) -> Sexp<'s>
 }
 
 impl<'s> Cursor<'s> {
-    /// The beginning of a text that has expressions.
-    ///
-    /// # Errors
-    ///
-    /// The fault of the text.
-    pub fn new(alloc: Global, text: &'s [u8]) -> Result<Cursor<'s>, TextFault>
-        ensures ok { IfOk result (λ c. rest_at c ≡ last (here (rest_at c))) }
-        ensures are { IfOk result (λ c. AreExpressions text.now (here (rest_at c))) }
-        ensures err { IfErr result (λ f. IsTextFault text.now f.kind f.span) }
+    /// The beginning of a text; None where it is larger than a text may be.
+    pub fn new(text: &'s [u8]) -> Option<Cursor<'s>>
+        ensures size { IfSome result (λ _. length text.now ≤ MOST_BYTES) }
+        ensures are { IfSome result (λ c. rest_at c ≡ last (here (rest_at c))
+            → AreExpressions text.now (here (rest_at c))) }
     {
-        check_text(alloc, text)?;
-        Ok(Cursor { text, at: 0 })
+        if text.len() > MOST_BYTES {
+            return None;
+        }
+        Some(Cursor {
+            text,
+            at: 0,
+            depth: 0,
+        })
     }
 
-    /// The word or parenthesis that comes next, and the place behind it; None at the
-    /// end of the text. It is inlined, as both take longer to hand over than to find.
+    /// The word or parenthesis that comes next, and the place behind it; None at the end of the
+    /// text and where a fault of the text comes next. It is inlined, as both take longer to hand
+    /// over than to find.
     #[inline(always)]
     pub fn next(self) -> Option<(Word<'s>, Cursor<'s>)>
-        ensures none { IfNone result (rest_at self.entry ≡ last none) }
+        ensures none { IfNone result (IsOut (rest_at self.entry)) }
         ensures some { IfSome result (λ p. rest_at self.entry ≡ step (piece_of p.0) (rest_at p.1)) }
         ensures less { IfSome result (λ p. left_at p.1 < left_at self.entry) }
     {
-        match next_word(self.text, self.at) {
-            Ok(Some(found)) => Some((
-                found.word,
-                Cursor {
-                    text: self.text,
-                    at: found.past,
-                },
-            )),
-            Ok(None) => None,
-            Err(_) => None,
+        let Ok(Some(found)) = next_word(self.text, self.at) else {
+            return None;
+        };
+        let depth = self.depth_behind(found.word)?;
+        Some((
+            found.word,
+            Cursor {
+                text: self.text,
+                at: found.past,
+                depth,
+            },
+        ))
+    }
+
+    // How many parentheses are open behind a word; None where it is one too many.
+    #[inline(always)]
+    fn depth_behind(self, word: Word<'s>) -> Option<usize>
+        ensures { (ps : List Piece) → MatchOption result
+            (rest_from self.entry.depth (piece_of word.entry ∷ ps) ≡ lost none)
+            (λ n. (n ≤ MOST_OPEN) × (rest_from self.entry.depth (piece_of word.entry ∷ ps)
+            ≡ step (piece_of word.entry) (rest_from n ps))) }
+    {
+        match word {
+            Word::Name(..) => Some(self.depth),
+            Word::Right(_) => self.depth.checked_sub(1),
+            Word::Left(_) => {
+                if self.depth == MOST_OPEN {
+                    None
+                } else {
+                    Some(self.depth + 1)
+                }
+            }
         }
+    }
+
+    /// Whether nothing but white space and comments is left.
+    pub fn is_over(self) -> bool
+        ensures { result ≡ true → rest_at self.entry ≡ last none }
+    {
+        matches!(next_word(self.text, self.at), Ok(None))
     }
 
     /// Behind the `(` that comes next, with its place; None where none does.
@@ -133,7 +111,7 @@ impl<'s> Cursor<'s> {
     pub fn leave(self) -> Option<(u32, Cursor<'s>)>
         ensures some { IfSome result (λ p. rest_at self.entry ≡ upto none p.0 (rest_at p.1)) }
         ensures none { IfNone result
-            (here (rest_at self.entry) ≡ none → rest_at self.entry ≡ last none) }
+            (here (rest_at self.entry) ≡ none → IsOut (rest_at self.entry)) }
         ensures less { IfSome result (λ p. left_at p.1 < left_at self.entry) }
     {
         match self.next() {

@@ -20,7 +20,6 @@ mod span;
 mod words;
 
 pub use at::Cursor;
-pub use cursor::check_text;
 pub use fault::{MOST_BYTES, MOST_OPEN, TextFault, TextKind};
 pub use files::{FromReader, ToWriter};
 pub use hints::Hints;

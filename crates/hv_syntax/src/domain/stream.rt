@@ -3,7 +3,7 @@
 ghost use Rattle.std.specs.Prelude.{◌≡◌, ◌<◌, [], Ok, IfOk, IfNone, IfSome, map};
 ghost use Rattle.hv_text.specs.Names.{text_of};
 ghost use Rattle.hv_text.specs.Trees.{none};
-ghost use Rattle.hv_text.specs.Rests.{here, ended};
+ghost use Rattle.hv_text.specs.Rests.{last, here, ended};
 ghost use Rattle.hv_text.specs.Cursors.{rest_at, left_at};
 ghost use Rattle.hv_syntax.specs.Domains.{no_domain};
 ghost use Rattle.hv_syntax.specs.inside.Domains.{domain_section, domain_from, domain_of};
@@ -84,7 +84,9 @@ pub(crate) fn read_domain_at<'s>(
     alloc: Global,
     from: Cursor<'s>,
 ) -> Result<DomainText<'s>, Refusal>
-    ensures { IfOk result (λ d. domain_of (here (rest_at from.entry)) ≡ Ok (domain_view d)) }
+    ensures domain { IfOk result
+        (λ d. domain_of (here (rest_at from.entry)) ≡ Ok (domain_view d)) }
+    ensures whole { IfOk result (λ _. rest_at from.entry ≡ last (here (rest_at from.entry))) }
 {
     let begun = begun(alloc, from, b"domain")?;
     let (domain, end) = read_sections_at(alloc, begun.name, begun.sections)?;

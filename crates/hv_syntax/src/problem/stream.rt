@@ -3,7 +3,7 @@
 ghost use Rattle.std.specs.Prelude.{◌≡◌, ◌<◌, [], true, Ok, IfOk, IfNone, IfSome, codes, map};
 ghost use Rattle.hv_text.specs.Names.{text_of};
 ghost use Rattle.hv_text.specs.Trees.{word, none};
-ghost use Rattle.hv_text.specs.Rests.{add, enclose, here, ended};
+ghost use Rattle.hv_text.specs.Rests.{last, add, enclose, here, ended};
 ghost use Rattle.hv_text.specs.Cursors.{rest_at, left_at};
 ghost use Rattle.hv_syntax.specs.Words.{is};
 ghost use Rattle.hv_syntax.specs.inside.Streams.{IsSectionRead};
@@ -167,7 +167,9 @@ pub(crate) fn read_problem_at<'s>(
     alloc: Global,
     from: Cursor<'s>,
 ) -> Result<ProblemText<'s>, Refusal>
-    ensures { IfOk result (λ p. problem_of (here (rest_at from.entry)) ≡ Ok (problem_view p)) }
+    ensures problem { IfOk result
+        (λ p. problem_of (here (rest_at from.entry)) ≡ Ok (problem_view p)) }
+    ensures whole { IfOk result (λ _. rest_at from.entry ≡ last (here (rest_at from.entry))) }
 {
     let begun = begun(alloc, from, b"problem")?;
     let (parts, end) = read_sections_at(alloc, begun.sections)?;

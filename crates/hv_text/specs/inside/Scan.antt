@@ -48,7 +48,7 @@ pub record IsScanned (text : List ℕ) (es : List Sexp) : Type 0 where
   pub closed : open_from [] (pieces text) ≡ []
   pub spelled : spellings es ≡ pieces text
 
--- what a check with a stack of parentheses finds: no fault, and none open at the end
+-- a text without a fault: there is none on the way, and no parenthesis is open at the end
 pub record IsBalanced (text : List ℕ) : Type 0 where
   pub size : length text ≤ MOST_BYTES
   pub sound : fault_from 0 (pieces text) ≡ None

@@ -7,4 +7,4 @@ use Rattle.hv_syntax.proofs.read.read_problem.Goals as goal
 
 pub returns-in-Ok-clause-ok : goal.returns-in-Ok-clause-ok
 returns-in-Ok-clause-ok c =
-    problem_of_text c.args.text.now (here (rest_at c.in_ok-start.start)) c.in_ok-start.ensures.are problem_view (Ok c.in-Ok.problem) c.in-Ok.ensures
+    problem_of_text c.args.text.now (here (rest_at c.in-Some.start)) (c.in-Some.ensures.are c.in-Ok.ensures.whole) problem_view (Ok c.in-Ok.problem) c.in-Ok.ensures.problem
