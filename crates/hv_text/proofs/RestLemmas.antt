@@ -4,7 +4,7 @@ use Rattle.std.proofs.lemmas.List.{length-append, length-take}
 use Rattle.hv_text.specs.Trees.{Tree, Trees, tree, trees, word, list, none, more}
 use Rattle.hv_text.specs.Words as found
 use Rattle.hv_text.specs.Words.{Piece, left, right, bad, pieces}
-use Rattle.hv_text.specs.Sexps.{spelled, spelled_all, opening, closing, AreExpressions, IsTextFault}
+use Rattle.hv_text.specs.Sexps.{spelled, spelled_all, opening, closing, AreExpressions}
 use Rattle.hv_text.specs.inside.Scan.{fault_from, open_from, IsBalanced}
 use Rattle.hv_text.specs.Rests.{Rest, last, lost, upto, add, add_all, enclose, rest_from, here, IsOut}
 use Rattle.hv_text.specs.declared.sexp.Sexp.{Sexp}

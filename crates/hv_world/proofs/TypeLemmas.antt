@@ -19,7 +19,7 @@ use Rattle.hv_world.specs.declared.lists.TypesOf.{TypesOf}
 use Rattle.hv_world.specs.Types.{Typing, Reaches, same, up, Of, object_numbers}
 use Rattle.hv_lists.specs.Lists.{Once}
 use Rattle.hv_world.specs.inside.Bases.{AreShared}
-use Rattle.hv_world.specs.inside.TypeLists.{list_of, type_numbers, type_lists, declared_lists, object_lists, AreSeconds, Climbs, stays, steps, ClimbsFrom, AscendsBelow, IsPut, IsPutAbove, AreMembersBelow}
+use Rattle.hv_world.specs.inside.TypeLists.{list_of, type_numbers, declared_lists, object_lists, AreSeconds, Climbs, stays, steps, ClimbsFrom, AscendsBelow, IsPut, IsPutAbove, AreMembersBelow}
 
 -- a number whose list has a member has a list
 pub has_list : (lists : List (List ℕ)) (t x : ℕ) → Contains (list_of lists t) x → t < length lists

@@ -80,10 +80,7 @@ fn read_sections_at<'s>(
 /// # Errors
 ///
 /// `NoSpelling` where they may spell none, and `Memory`.
-pub(crate) fn read_domain_at<'s>(
-    alloc: Global,
-    from: Cursor<'s>,
-) -> Result<DomainText<'s>, Refusal>
+pub(crate) fn read_domain_at<'s>(alloc: Global, from: Cursor<'s>) -> Result<DomainText<'s>, Refusal>
     ensures domain { IfOk result
         (λ d. domain_of (here (rest_at from.entry)) ≡ Ok (domain_view d)) }
     ensures whole { IfOk result (λ _. rest_at from.entry ≡ last (here (rest_at from.entry))) }

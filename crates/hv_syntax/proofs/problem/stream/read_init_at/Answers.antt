@@ -1,4 +1,4 @@
-use Rattle.std.proofs.Common.{map, sym, ◌∙◌}
+use Rattle.std.proofs.Common.{map}
 use Rattle.hv_text.specs.Names.{text_of}
 use Rattle.hv_text.specs.Cursors.{rest_at}
 use Rattle.hv_syntax.specs.Views.{literal_view}
