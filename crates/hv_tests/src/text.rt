@@ -3,9 +3,10 @@
 use hv_fixtures::{Falter, FalteringReader, FalteringWriter};
 use hv_text::{
     Cursor, FromMemory, Hints, Lists, Name, ReadFault, Span, TextKind, ToMemory, WriteFault,
-    check_text, place, read_all, read_sexps, read_words, write_all,
+    place, read_all, read_sexps, read_words, write_all,
 };
 use indexmap::IndexMap;
+use std::alloc::Global;
 use std::test::Fail;
 
 #[test]
@@ -24,20 +25,33 @@ fn reads_expressions(rt: HostRuntime) -> Result<(), Fail> {
 
 #[test]
 fn reads_expressions_one_at_a_time(rt: HostRuntime) -> Result<(), Fail> {
-    let start = Cursor::new(rt.alloc(), b"a (b ()) ; c\n d")?;
+    let Some(start) = Cursor::new(b"a (b ()) ; c\n d") else {
+        assert!(rt; false);
+        return Ok(());
+    };
     let (es, end) = start.read_rest(rt.alloc())?;
     assert_eq!(rt; es.len(), 3);
-    assert!(rt; end.next().is_none());
+    assert!(rt; end.is_over());
     Ok(())
 }
 
+// Whether the expressions of a text, one at a time, lead to its end.
+fn are_read_to_the_end(alloc: Global, text: &[u8]) -> Result<bool, Fail> {
+    let Some(start) = Cursor::new(text) else {
+        return Ok(false);
+    };
+    let (_es, end) = start.read_rest(alloc)?;
+    Ok(end.is_over())
+}
+
 #[test]
-fn checks_a_text(rt: HostRuntime) {
-    let kind = |text: &[u8]| check_text(rt.alloc(), text)
-        .err()
-        .map(|f| (f.kind, f.span.start));
-    assert_eq!(rt; kind(b"a (b ()) ; c\n d"), None);
-    assert_eq!(rt; kind(b"(a (b) (c"), Some((TextKind::Unclosed, 7)));
+fn a_cursor_stops_at_a_fault(rt: HostRuntime) -> Result<(), Fail> {
+    let alloc = rt.alloc();
+    assert!(rt; are_read_to_the_end(alloc, b"a (b) ; c")?);
+    assert!(rt; !are_read_to_the_end(alloc, b"(a (b) (c")?);
+    assert!(rt; !are_read_to_the_end(alloc, b"a ) b")?);
+    assert!(rt; !are_read_to_the_end(alloc, b"a \x01")?);
+    Ok(())
 }
 
 #[test]
