@@ -2,8 +2,8 @@
 
 use hv_fixtures::{Falter, FalteringReader, FalteringWriter};
 use hv_text::{
-    Cursor, FromMemory, Hints, Lists, Name, ReadFault, Span, TextKind, ToMemory, WriteFault,
-    place, read_all, read_sexps, read_words, write_all,
+    Cursor, FromMemory, Hints, Lists, Name, ReadFault, Span, TextKind, ToMemory, WriteFault, place,
+    read_all, read_sexps, read_words, write_all,
 };
 use indexmap::IndexMap;
 use std::alloc::Global;
