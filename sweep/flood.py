@@ -1,0 +1,102 @@
+#!/usr/bin/env python3
+"""Gives the program names that all collide under the one hash that has a fixed start, that of hints.
+
+sweep/flood.py PROGRAM
+
+Objects are named so that the hints of all of them fall into one place, and :init speaks of each. The same number of names that do not
+collide is judged beside them. Each is the best of five runs, in processor time. Four times as many names may take at most eight times
+as long, and names that collide at most four times as long as others. The status is 0 where it is so. Wants gcc."""
+
+import os
+import resource
+import subprocess
+import sys
+import tempfile
+
+COUNTS = (10_000, 40_000)
+MOST_GROWTH = 8
+MOST_TIMES = 4
+
+# Prints so many names of seven letters whose hash, as src/hints.rt of hv_text has it, falls into the first of twice as many places.
+FINDER = r"""
+#include <stdint.h>
+#include <stdio.h>
+#include <stdlib.h>
+int main(int argc, char **argv) {
+    uint64_t wanted = strtoull(argv[1], 0, 10), found = 0;
+    for (uint64_t front = 0; found < wanted && front < 26 * 26 * 26 * 26 * 26; front++) {
+        char name[8] = {0};
+        uint64_t hash = 0, rest = front;
+        for (int at = 0; at < 5; at++) {
+            name[at] = 'a' + rest % 26;
+            rest /= 26;
+            hash = (hash ^ (uint64_t)name[at]) * 0x9e3779b97f4a7c15u;
+        }
+        for (int one = 'a'; one <= 'z'; one++) {
+            uint64_t half = (hash ^ (uint64_t)one) * 0x9e3779b97f4a7c15u;
+            for (int two = 'a'; two <= 'z' && found < wanted; two++) {
+                uint64_t whole = (half ^ (uint64_t)two) * 0x9e3779b97f4a7c15u;
+                if (((whole >> 32) * 2 * wanted) >> 32 == 0) {
+                    name[5] = one;
+                    name[6] = two;
+                    puts(name);
+                    found++;
+                }
+            }
+        }
+    }
+    return found < wanted;
+}
+"""
+
+
+def colliding(folder, count):
+    finder = f"{folder}/finder"
+    if not os.path.exists(finder):
+        with open(f"{finder}.c", "w") as out:
+            out.write(FINDER)
+        subprocess.run(["gcc", "-O2", "-o", finder, f"{finder}.c"], check=True)
+    return subprocess.run([finder, str(count)], check=True, capture_output=True, text=True).stdout.split()
+
+
+def others(count):
+    letters = "abcdefghijklmnopqrstuvwxyz"
+    return ["".join(letters[number // 26**at % 26] for at in range(7)) for number in range(count)]
+
+
+def seconds(program, folder, names):
+    """The processor time of the best of five runs; None where the answer is another than it should be."""
+    texts = {
+        "domain.hddl": "(define (domain flood) (:predicates (p ?x)) (:action stay))\n",
+        "problem.hddl": "(define (problem flood) (:domain flood) (:objects %s)\n(:htn :subtasks (stay)) (:init %s))\n"
+        % (" ".join(names), "\n".join(f"(p {name})" for name in names)),
+        "plan.txt": "==>\n1 stay\nroot 1\n<==\n",
+    }
+    for name, text in texts.items():
+        with open(f"{folder}/{name}", "w") as out:
+            out.write(text)
+    taken = []
+    for _ in range(5):
+        before = resource.getrusage(resource.RUSAGE_CHILDREN).ru_utime
+        ran = subprocess.run([program, "judge", *texts], cwd=folder, capture_output=True)
+        taken.append(resource.getrusage(resource.RUSAGE_CHILDREN).ru_utime - before)
+        if (ran.returncode, ran.stdout) != (0, b"solves\n"):
+            return None
+    return min(taken)
+
+
+def main():
+    program = os.path.abspath(sys.argv[1])
+    with tempfile.TemporaryDirectory() as folder:
+        found = [(seconds(program, folder, colliding(folder, count)), seconds(program, folder, others(count))) for count in COUNTS]
+    if None in sum(found, ()):
+        sys.exit("another answer than solves")
+    for count, (flooded, usual) in zip(COUNTS, found):
+        print(f"{count} names: {flooded * 1000:.0f} ms where they collide, {usual * 1000:.0f} ms where they do not")
+    growth = found[1][0] / max(found[0][0], 0.004)
+    times = found[1][0] / max(found[1][1], 0.004)
+    print(f"{COUNTS[1] // COUNTS[0]} times as many that collide take {growth:.1f} times as long, {times:.1f} times as long as others")
+    sys.exit(growth > MOST_GROWTH or times > MOST_TIMES)
+
+
+main()
