@@ -1,5 +1,5 @@
-//! Verdicts, checks of certificates and printed texts, over readers and writers that falter: at some
-//! reads and writes, and at each in turn.
+//! Verdicts, checks of certificates and printed texts, over readers and writers that falter: at
+//! some reads and writes, and at each in turn.
 
 ghost use Rattle.std.specs.Prelude.{◌≡◌};
 ghost use Rattle.hv_fixtures.specs.Faltering.{writes_failed};

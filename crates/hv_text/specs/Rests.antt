@@ -25,7 +25,8 @@ abbrev pub add_all : Trees → Rest → Rest
 add_all none r = r
 add_all (more t ts) r = add t (add_all ts r)
 
--- a `(` at this place: it begins the list that the next open `)` ends; it is a fault where none does
+-- a `(` at this place: it begins the list that the next open `)` ends; where none does, it is a
+-- fault
 abbrev pub enclose : Span → Rest → Rest
 enclose s (last ts) = lost none
 enclose s (lost ts) = lost none

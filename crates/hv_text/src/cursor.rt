@@ -1,8 +1,8 @@
 //! The expressions of a text one at a time, with no tree of it all.
 
-ghost use Rattle.std.specs.Prelude.{◌≡◌, ◌<◌, ◌≤◌, ◌∷◌, List, length, true, IfOk, IfSome, IfNone, MatchOption};
+ghost use Rattle.std.specs.Prelude.{◌≡◌, ◌<◌, ◌≤◌, ◌∷◌, ◌↔◌, List, length, IsTrue, IfOk, IfSome, IfNone, MatchOption};
 ghost use Rattle.hv_text.specs.Trees.{tree, trees, list, none};
-ghost use Rattle.hv_text.specs.Words.{Piece, piece_of};
+ghost use Rattle.hv_text.specs.Words.{Piece, piece_of, pieces};
 ghost use Rattle.hv_text.specs.Sexps.{AreExpressions};
 ghost use Rattle.hv_text.specs.Rests.{last, upto, lost, IsOut, step, add, add_all, enclose, here, rest_from};
 ghost use Rattle.hv_text.specs.Cursors.{rest_at, left_at};
@@ -27,7 +27,9 @@ fn list_of<'s>(members: Vec<Sexp<'s>>, start: u32, past: u32) -> Sexp<'s>
 impl<'s> Cursor<'s> {
     /// The beginning of a text; None where it is larger than a text may be.
     pub fn new(text: &'s [u8]) -> Option<Cursor<'s>>
+        ensures none { IfNone result (MOST_BYTES < length text.now) }
         ensures size { IfSome result (λ _. length text.now ≤ MOST_BYTES) }
+        ensures start { IfSome result (λ c. rest_at c ≡ rest_from 0 (pieces text.now)) }
         ensures are { IfSome result (λ c. rest_at c ≡ last (here (rest_at c))
             → AreExpressions text.now (here (rest_at c))) }
     {
@@ -87,7 +89,7 @@ impl<'s> Cursor<'s> {
 
     /// Whether nothing but white space and comments is left.
     pub fn is_over(self) -> bool
-        ensures { result ≡ true → rest_at self.entry ≡ last none }
+        ensures { IsTrue result ↔ (rest_at self.entry ≡ last none) }
     {
         matches!(next_word(self.text, self.at), Ok(None))
     }

@@ -158,8 +158,8 @@ fn put(list: &mut Vec<ObjectId>, object: ObjectId) -> Result<bool, Memory>
     Ok(true)
 }
 
-// Puts an object into the lists of the waiting types and of all above them. Says into how many: only
-// memory hangs on that.
+// Puts an object into the lists of the waiting types and of all above them. Says into how many, on
+// which memory alone hangs.
 fn put_above(
     object: ObjectId,
     waiting: &mut Vec<TypeId>,

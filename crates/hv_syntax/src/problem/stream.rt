@@ -67,7 +67,8 @@ fn read_init_at<'s>(
     requires begun { rest_at from ≡ enclose begun.start
         (add (word (text_of begun.name) begun.place) (rest_at begun.members)) }
     requires head { is (text_of begun.name) (codes ":init") ≡ true }
-    ensures read { IfOk result (λ r. IsSectionRead problem_section (map text_of heads.now) (rest_at from.entry)
+    ensures read { IfOk result
+        (λ r. IsSectionRead problem_section (map text_of heads.now) (rest_at from.entry)
         (problem_section_view r.section) (text_of r.head) (rest_at r.after)) }
     ensures less { IfOk result (λ r. left_at r.after < left_at begun.entry.members) }
 {
