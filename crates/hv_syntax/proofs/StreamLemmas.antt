@@ -1,20 +1,24 @@
 -- Expressions that are read one at a time.
 use Rattle.std.proofs.Common.{◌≡◌, ◌||◌, ℕ, true, List, [], ◌∷◌, ◌++◌, map, Option, Some, None, Result, Ok, refl, sym, ap, ◌∙◌}
 use Rattle.std.proofs.lemmas.List.{append-nil, append_assoc, map-append}
-use Rattle.std.specs.Prelude.{codes}
+use Rattle.std.specs.Prelude.{codes, option_map, option_and_then}
 use Rattle.hv_text.specs.Trees.{Tree, Trees, word, list, none, more, place_of}
 use Rattle.hv_text.specs.Rests.{Rest, last, lost, upto, add, enclose, here, ended}
 use Rattle.hv_text.specs.declared.span.Span.{Span}
 use Rattle.hv_syntax.specs.inside.Reading.{both, every, behind}
-use Rattle.hv_syntax.specs.Values.{WordAt, Literal}
-use Rattle.hv_syntax.specs.Words.{is}
-use Rattle.hv_syntax.specs.inside.Literals.{ground_literal_of}
+use Rattle.hv_syntax.specs.Values.{WordAt, word_at, Literal, literal, Term, constant, variable, atom_with}
+use Rattle.hv_syntax.specs.Literals.{is_constant, are_constants}
+use Rattle.hv_syntax.specs.inside.Terms.{term_of, atom_of}
+use Rattle.hv_syntax.specs.inside.Lists.{behind_not}
+use Rattle.hv_syntax.specs.declared.word.Head.TheVariants as word_heads
+use Rattle.hv_syntax.specs.Words.{is, head_of}
+use Rattle.hv_syntax.specs.inside.Literals.{literal_by, literal_of, if_ground, ground_literal_of}
 use Rattle.hv_syntax.specs.Sections.{headed, is_head, occurs}
 use Rattle.hv_syntax.specs.inside.Sections.{refused, section_of, sections_from, sections_of}
 use Rattle.hv_syntax.specs.declared.section.Standing.{Standing}
 use Rattle.hv_syntax.specs.Problems.{has_init, problem_standing}
 use Rattle.hv_syntax.specs.inside.Problems.{problem_section_by, problem_section}
-use Rattle.hv_syntax.specs.inside.Streams.{head_word, heads, has_head, IsBegun, IsSectionRead}
+use Rattle.hv_syntax.specs.inside.Streams.{head_word, heads, has_head, IsBegun, IsSectionRead, IsLiteralRead}
 use Rattle.hv_syntax.specs.declared.section.Standing.TheVariants as standings
 use Rattle.hv_syntax.specs.declared.fault.SyntaxKind.{SyntaxKind}
 use Rattle.hv_syntax.proofs.Lists.{behind_both}
@@ -149,3 +153,31 @@ module _ (v : List ℕ) (from : Rest) (start : Span) (n : WordAt) (p : ℕ) wher
   pub definition_read : (third e : Rest) → IsBegun v from start n third → e ≡ ended third → e ≡ upto none p (last none)
       → sections_of v (here from) ≡ Some (n, here third, record { start = start.start; past = p })
   definition_read third e b m o = rw (ap here (whole_list third e b m o), b.is_define, sym b.has_name) refl
+
+pub constants_more : (xs : List Term) (x : Term) → are_constants xs ≡ true → is_constant x ≡ true → are_constants (xs ++ x ∷ []) ≡ true
+constants_more [] x e f = rw f refl
+constants_more (constant w ∷ xs) x e f = constants_more xs x e f
+constants_more (variable w ∷ xs) x e f = absurd cc
+
+-- a symbol and names in a list are a literal
+pub fact_read : (start place : Span) (w : List ℕ) (from m e after : Rest) (p : ℕ) (xs : List Term) → from ≡ enclose start (add (word w place) m) → head_of w ≡ word_heads.Symbol
+    → behind xs (every term_of (here e)) ≡ every term_of (here m) → are_constants xs ≡ true → ended e ≡ ended m → e ≡ upto none p after
+    → IsLiteralRead from (literal true (atom_with (word_at w place) xs)) after
+fact_read start at w from (last us) e after p xs f h n g k q = absurd (never (ap ended (sym q) ∙ k))
+  where
+    never : upto none p after ≡ last none → ⊥
+    never z = cc
+fact_read start at w from (lost us) e after p xs f h n g k q = absurd (never (ap ended (sym q) ∙ k))
+  where
+    never : upto none p after ≡ lost none → ⊥
+    never z = cc
+fact_read start at w from (upto us z b) e after p xs f h n g k q =
+    let same : upto none p after ≡ upto none z b = ap ended (sym q) ∙ k in
+    let behind_it : b ≡ after = cc in
+    let terms : every term_of us ≡ Some xs = sym n ∙ ap (λ x. behind xs (every term_of (here x))) q ∙ ap Some (append-nil xs) in
+    let t : Tree = list (more (word w at) us) (record { start = start.start; past = z }) in
+    let atom : atom_of t ≡ Some (atom_with (word_at w at) xs) = rw (h, terms) refl in
+    let positive : literal_of t ≡ option_map (literal true) (atom_of t) = ap (λ x. literal_by (behind_not x us) t) h in
+    let l : Literal = literal true (atom_with (word_at w at) xs) in
+    let is_ground : if_ground l ≡ Some l = rw g refl in
+    record { tree = t; first = f ∙ ap (add t) behind_it; spells = ap (option_and_then if_ground) (positive ∙ ap (option_map (literal true)) atom) ∙ is_ground }

@@ -1,19 +1,20 @@
 //! Literals.
 
-ghost use Rattle.std.specs.Prelude.{◌≡◌, ◌≤◌, IfOk, map};
+ghost use Rattle.std.specs.Prelude.{◌≡◌, map};
 ghost use Rattle.hv_text.specs.Trees.{tree, trees};
-ghost use Rattle.hv_text.specs.Rests.{here, ended};
-ghost use Rattle.hv_text.specs.Cursors.{rest_at, left_at};
 ghost use Rattle.hv_syntax.specs.inside.Reading.{Gives, every};
 ghost use Rattle.hv_syntax.specs.Literals.{is_constant, are_constants};
 ghost use Rattle.hv_syntax.specs.inside.Literals.{literal_of, ground_literal_of};
 ghost use Rattle.hv_syntax.specs.Views.{term_view, atom_view, literal_view};
 
+mod stream;
+
 use crate::list::negated;
 use crate::refusal::Refusal;
 use crate::term::{AtomText, TermText, read_atom};
-use hv_text::{Cursor, Sexp};
+use hv_text::Sexp;
 use std::alloc::Global;
+pub(crate) use stream::read_ground_literals_at;
 
 /// An atom, or the negation of one.
 #[derive(Drop)]
@@ -106,28 +107,4 @@ pub(crate) fn read_ground_literals<'s>(
         literals.push(read_ground_literal(alloc, e)?)?;
     }
     Ok(literals)
-}
-
-/// Reads literals whose terms are names, one at a time up to the end of the list, and
-/// the place there.
-///
-/// # Errors
-///
-/// `NoSpelling` where one of the expressions is none, and `Memory`.
-pub(crate) fn read_ground_literals_at<'s>(
-    alloc: Global,
-    from: Cursor<'s>,
-) -> Result<(Vec<LiteralText<'s>>, Cursor<'s>), Refusal>
-    ensures every { Gives (λ p. map literal_view p.0.items) result
-        (every ground_literal_of (here (rest_at from.entry))) }
-    ensures end { IfOk result (λ p. rest_at p.1 ≡ ended (rest_at from.entry)) }
-    ensures less { IfOk result (λ p. left_at p.1 ≤ left_at from.entry) }
-{
-    let mut cursor = from;
-    let mut literals = Vec::new(alloc);
-    'all: while let Some((e, after)) = cursor.read_one(alloc)? {
-        cursor = after;
-        literals.push(read_ground_literal(alloc, &e)?)?;
-    }
-    Ok((literals, cursor))
 }

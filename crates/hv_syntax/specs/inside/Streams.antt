@@ -5,9 +5,10 @@ use Rattle.hv_text.specs.Trees.{Tree, Trees}
 use Rattle.hv_text.specs.Rests.{Rest, add, enclose}
 use Rattle.hv_text.specs.declared.span.Span.{Span}
 use Rattle.hv_syntax.specs.declared.fault.SyntaxKind.{SyntaxKind}
-use Rattle.hv_syntax.specs.Values.{WordAt}
+use Rattle.hv_syntax.specs.Values.{WordAt, Literal}
 use Rattle.hv_syntax.specs.Words.{is, is_the_word}
 use Rattle.hv_syntax.specs.Sections.{headed}
+use Rattle.hv_syntax.specs.inside.Literals.{ground_literal_of}
 use Rattle.hv_syntax.specs.inside.Sections.{title_of}
 
 -- the word that heads, if one does
@@ -43,3 +44,10 @@ pub record IsSectionRead {S : Type 0} (section : List Tree → Tree → Result S
   pub first : from ≡ add tree after
   pub head : head_word (headed tree) ≡ w ∷ []
   pub is_section : (ts : List Tree) → heads ts ≡ before → section ts tree ≡ Ok x
+
+-- the expression that comes first spells this literal, whose terms are names; and what stands
+-- behind it
+pub record IsLiteralRead (from : Rest) (l : Literal) (after : Rest) : Type 0 where
+  pub tree : Tree
+  pub first : from ≡ add tree after
+  pub spells : ground_literal_of tree ≡ Some l

@@ -4,7 +4,7 @@ use Rattle.hv_text.specs.Cursors.{rest_at, left_at}
 use Rattle.hv_syntax.specs.inside.Reading.{every, behind}
 use Rattle.hv_syntax.specs.inside.Literals.{ground_literal_of}
 use Rattle.hv_syntax.specs.Views.{literal_view}
-use Rattle.hv_syntax.proofs.literal.read_ground_literals_at.Given as goal
+use Rattle.hv_syntax.proofs.literal.stream.read_ground_literals_at.Given as goal
 
 -- what has been read, and behind it what the rest spells, is what all spell
 abbrev pub invariant-all : goal.invariant-all

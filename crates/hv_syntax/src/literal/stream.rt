@@ -1,0 +1,167 @@
+//! Literals of `:init`, one at a time. Most are a symbol and names in a list, and for these no
+//! expression is made.
+
+ghost use Rattle.std.specs.Prelude.{◌≡◌, ◌<◌, ◌≤◌, true, IfOk, IfErr, IfNone, IfSome, map};
+ghost use Rattle.hv_text.specs.Names.{text_of};
+ghost use Rattle.hv_text.specs.Trees.{word, none};
+ghost use Rattle.hv_text.specs.Rests.{add, enclose, here, ended};
+ghost use Rattle.hv_text.specs.Cursors.{rest_at, left_at};
+ghost use Rattle.hv_syntax.specs.Words.{head_of, sort_of};
+ghost use Rattle.hv_syntax.specs.Literals.{are_constants};
+ghost use Rattle.hv_syntax.specs.inside.Reading.{Gives, Fails, every, behind};
+ghost use Rattle.hv_syntax.specs.inside.Terms.{term_of};
+ghost use Rattle.hv_syntax.specs.inside.Literals.{ground_literal_of};
+ghost use Rattle.hv_syntax.specs.inside.Streams.{IsLiteralRead};
+ghost use Rattle.hv_syntax.specs.Views.{term_view, literal_view};
+
+use super::{LiteralText, read_ground_literal};
+use crate::refusal::Refusal;
+use crate::term::{AtomText, TermText};
+use crate::word::{Head, Placed, Sort, head_of, sort_of};
+use hv_text::{Cursor, Memory, Span, Word};
+use std::alloc::Global;
+
+// A list that a symbol heads: where it starts, and the place behind its symbol.
+#[derive(Clone, Copy)]
+pub(crate) struct BegunAtom<'s> {
+    pub(crate) start: Span,
+    pub(crate) symbol: Placed<'s>,
+    pub(crate) terms: Cursor<'s>,
+}
+
+// The list that comes next, where a symbol heads it.
+fn begun_atom<'s>(from: Cursor<'s>) -> Option<BegunAtom<'s>>
+    ensures begun { IfSome result (λ b. rest_at from.entry
+        ≡ enclose b.start (add (word (text_of b.symbol.name) b.symbol.span) (rest_at b.terms))) }
+    ensures symbol { IfSome result (λ b. head_of (text_of b.symbol.name) ≡ Head.Symbol) }
+    ensures less { IfSome result (λ b. left_at b.terms < left_at from.entry) }
+{
+    let (start, inner) = from.enter()?;
+    let (head, terms) = inner.next()?;
+    match head {
+        Word::Name(name, span) => match head_of(name) {
+            Head::Symbol => Some(BegunAtom {
+                start,
+                symbol: Placed { name, span },
+                terms,
+            }),
+            _ => None,
+        },
+        Word::Left(_) => None,
+        Word::Right(_) => None,
+    }
+}
+
+// The name that comes next, and the place behind it.
+fn next_name<'s>(from: Cursor<'s>) -> Option<(Placed<'s>, Cursor<'s>)>
+    ensures name { IfSome result (λ p. rest_at from.entry
+        ≡ add (word (text_of p.0.name) p.0.span) (rest_at p.1)) }
+    ensures sort { IfSome result (λ p. sort_of (text_of p.0.name) ≡ Sort.Name) }
+    ensures less { IfSome result (λ p. left_at p.1 < left_at from.entry) }
+{
+    let (word, after) = from.next()?;
+    match word {
+        Word::Name(name, span) => match sort_of(name) {
+            Sort::Name => Some((Placed { name, span }, after)),
+            _ => None,
+        },
+        Word::Left(_) => None,
+        Word::Right(_) => None,
+    }
+}
+
+// Puts the names that come next into a room, as terms, in place of what it has. Answers the place
+// behind them.
+fn fill_names<'s>(from: Cursor<'s>, room: &mut Vec<TermText<'s>>) -> Result<Cursor<'s>, Memory>
+    ensures names { IfOk result
+        (λ c. behind (map term_view room.new.items) (every term_of (here (rest_at c)))
+        ≡ every term_of (here (rest_at from.entry))) }
+    ensures ground { IfOk result (λ _. are_constants (map term_view room.new.items) ≡ true) }
+    ensures end { IfOk result (λ c. ended (rest_at c) ≡ ended (rest_at from.entry)) }
+    ensures less { IfOk result (λ c. left_at c ≤ left_at from.entry) }
+{
+    room.clear();
+    let mut cursor = from;
+    'names: while let Some((name, after)) = next_name(cursor) {
+        cursor = after;
+        room.push(TermText::Constant(name))?;
+    }
+    Ok(cursor)
+}
+
+// The literal that comes next, where it is a symbol and names in a list, and the place behind it;
+// None where something else comes.
+fn read_fact_at<'s>(
+    alloc: Global,
+    from: Cursor<'s>,
+    room: &mut Vec<TermText<'s>>,
+) -> Result<Option<(LiteralText<'s>, Cursor<'s>)>, Memory>
+    ensures read { IfOk result (λ o. IfSome o
+        (λ p. IsLiteralRead (rest_at from.entry) (literal_view p.0) (rest_at p.1))) }
+    ensures less { IfOk result (λ o. IfSome o (λ p. left_at p.1 < left_at from.entry)) }
+{
+    let Some(begun) = begun_atom(from) else {
+        return Ok(None);
+    };
+    let end = fill_names(begun.terms, room)?;
+    let Some((_past, after)) = end.leave() else {
+        return Ok(None);
+    };
+    let terms = Vec::from_slice(alloc, room)?;
+    let literal = LiteralText {
+        is_positive: true,
+        atom: AtomText {
+            symbol: begun.symbol,
+            terms,
+        },
+    };
+    Ok(Some((literal, after)))
+}
+
+// The literal that comes next, and the place behind it; None at the end of the list.
+fn read_next_at<'s>(
+    alloc: Global,
+    from: Cursor<'s>,
+    room: &mut Vec<TermText<'s>>,
+) -> Result<Option<(LiteralText<'s>, Cursor<'s>)>, Refusal>
+    ensures none { IfOk result (λ o. IfNone o (here (rest_at from.entry) ≡ none)) }
+    ensures read { IfOk result (λ o. IfSome o
+        (λ p. IsLiteralRead (rest_at from.entry) (literal_view p.0) (rest_at p.1))) }
+    ensures less { IfOk result (λ o. IfSome o (λ p. left_at p.1 < left_at from.entry)) }
+    ensures err { IfErr result
+        (λ e. Fails e (every ground_literal_of (here (rest_at from.entry)))) }
+{
+    if let Some(read) = read_fact_at(alloc, from, room)? {
+        return Ok(Some(read));
+    }
+    let Some((e, after)) = from.read_one(alloc)? else {
+        return Ok(None);
+    };
+    let literal = read_ground_literal(alloc, &e)?;
+    Ok(Some((literal, after)))
+}
+
+/// Reads literals whose terms are names, one at a time up to the end of the list, and
+/// the place there.
+///
+/// # Errors
+///
+/// `NoSpelling` where one of the expressions is none, and `Memory`.
+pub(crate) fn read_ground_literals_at<'s>(
+    alloc: Global,
+    from: Cursor<'s>,
+) -> Result<(Vec<LiteralText<'s>>, Cursor<'s>), Refusal>
+    ensures every { Gives (λ p. map literal_view p.0.items) result
+        (every ground_literal_of (here (rest_at from.entry))) }
+    ensures end { IfOk result (λ p. rest_at p.1 ≡ ended (rest_at from.entry)) }
+    ensures less { IfOk result (λ p. left_at p.1 ≤ left_at from.entry) }
+{
+    let mut cursor = from;
+    let mut literals = Vec::new(alloc);
+    let mut room = Vec::new(alloc);
+    'all: while let Some((literal, after)) = read_next_at(alloc, cursor, &mut room)? {
+        cursor = after;
+        literals.push(literal)?;
+    }
+    Ok((literals, cursor))
+}
