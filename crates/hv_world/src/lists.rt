@@ -14,10 +14,10 @@ use hv_text::Memory;
 use smallvec::SmallVec;
 use std::alloc::Global;
 
-// So many objects, each counted for itself in each list, may stand in the lists of all types: a
-// text can ask for as many as the product of two numbers that grow with it. Where it asks for more,
-// memory is said to have run out before it has.
-const MOST_LISTED: usize = 1 << 27;
+// So many steps up from a type to its parents are taken, for all objects together, to put each into
+// the lists that it is in: a text can ask for as many as the product of two numbers that grow with
+// it. Where it asks for more, memory is said to have run out before it has.
+const MOST_STEPS: usize = 1 << 27;
 
 /// Lists of objects, each for the types that have just these.
 #[derive(Drop)]
@@ -158,8 +158,8 @@ fn put(list: &mut Vec<ObjectId>, object: ObjectId) -> Result<bool, Memory>
     Ok(true)
 }
 
-// Puts an object into the lists of the waiting types and of all above them. Says into how many, on
-// which memory alone hangs.
+// Puts an object into the lists of the waiting types and of all above them. Says how many steps it
+// took, on which time and memory alone hang.
 fn put_above(
     object: ObjectId,
     waiting: &mut Vec<TypeId>,
@@ -179,8 +179,8 @@ fn put_above(
 {
     let mut count = 0usize;
     'climb: while let Some(at) = waiting.pop() {
+        count = count.saturating_add(1);
         if put(&mut members[at.0], object)? {
-            count = count.saturating_add(1);
             waiting.extend_from_slice(&parents[at.0])?;
         }
     }
@@ -206,14 +206,14 @@ fn members(
     let direct = types_by_object(alloc, objects, declared)?;
     let mut members = no_lists(alloc, types)?;
     let mut waiting = Vec::new(alloc);
-    let mut listed = 0usize;
+    let mut steps = 0usize;
     for (number, of) in direct.iter().enumerate() {
         let object = ObjectId(number);
         waiting.extend_from_slice(of.types.as_slice())?;
         let count = put_above(object, &mut waiting, &above, &mut members)?;
         put(&mut members[0], object)?;
-        listed = listed.saturating_add(count);
-        if listed > MOST_LISTED {
+        steps = steps.saturating_add(count);
+        if steps > MOST_STEPS {
             return Err(Memory);
         }
     }
