@@ -14,10 +14,14 @@ use hv_text::Memory;
 use smallvec::SmallVec;
 use std::alloc::Global;
 
-// So many steps up from a type to its parents are taken, for all objects together, to put each into
-// the lists that it is in: a text can ask for as many as the product of two numbers that grow with
-// it. Where it asks for more, memory is said to have run out before it has.
-const MOST_STEPS: usize = 1 << 27;
+// What it may cost to put all objects into their lists: a step up from a type to a parent costs one,
+// and a place in a list sixteen, so that there are at most 134,217,728 places. A text can ask for as
+// much as the product of two numbers that grow with it. Where it asks for more, memory is said to
+// have run out before it has.
+const MOST_COST: usize = 1 << 31;
+
+// What a place in a list costs beside the step to it.
+const PLACE: usize = 15;
 
 /// Lists of objects, each for the types that have just these.
 #[derive(Drop)]
@@ -158,8 +162,8 @@ fn put(list: &mut Vec<ObjectId>, object: ObjectId) -> Result<bool, Memory>
     Ok(true)
 }
 
-// Puts an object into the lists of the waiting types and of all above them. Says how many steps it
-// took, on which time and memory alone hang.
+// Puts an object into the lists of the waiting types and of all above them. Says what it
+// cost, on which time and memory alone hang.
 fn put_above(
     object: ObjectId,
     waiting: &mut Vec<TypeId>,
@@ -177,14 +181,15 @@ fn put_above(
         (IsPutAbove (type_lists parents.now) (type_numbers waiting.old.items) object.0
         (object_lists members.old) (object_lists members.new)) }
 {
-    let mut count = 0usize;
+    let mut cost = 0usize;
     'climb: while let Some(at) = waiting.pop() {
-        count = count.saturating_add(1);
+        cost = cost.saturating_add(1);
         if put(&mut members[at.0], object)? {
+            cost = cost.saturating_add(PLACE);
             waiting.extend_from_slice(&parents[at.0])?;
         }
     }
-    Ok(count)
+    Ok(cost)
 }
 
 // The objects of each type.
@@ -206,14 +211,14 @@ fn members(
     let direct = types_by_object(alloc, objects, declared)?;
     let mut members = no_lists(alloc, types)?;
     let mut waiting = Vec::new(alloc);
-    let mut steps = 0usize;
+    let mut cost = 0usize;
     for (number, of) in direct.iter().enumerate() {
         let object = ObjectId(number);
         waiting.extend_from_slice(of.types.as_slice())?;
-        let count = put_above(object, &mut waiting, &above, &mut members)?;
+        let climb = put_above(object, &mut waiting, &above, &mut members)?;
         put(&mut members[0], object)?;
-        steps = steps.saturating_add(count);
-        if steps > MOST_STEPS {
+        cost = cost.saturating_add(climb);
+        if cost > MOST_COST {
             return Err(Memory);
         }
     }

@@ -44,7 +44,7 @@ put-requires c =
     let mid_is = take_at mid (drop (length mid) c.loop-number.members.items) c.loop-number.members.len long in
     let some : 0 < length mid = omega (arith, c.put_above.auto.members, ap length c.deref_mut.ensures.value, c.loop-number.invariant.1.size, length-map c.loop-number.members.items (λ v. object_numbers v.items), c.requires.object) in
     let items : list_of (object_lists mid) 0 ≡ object_numbers object.items = at_map (λ o. o.0) mid 0 object some ∙ ap (λ v. object_numbers v.items) (sym (c.index_mut.ensures.value ∙ ap (λ ls. get_or ls 0 object) mid_is)) in
-    subst (AscendsBelow (c.loop-number.number + 1)) items (c.in_ok-count.ensures.members.ascend 0)
+    subst (AscendsBelow (c.loop-number.number + 1)) items (c.in_ok-climb.ensures.members.ascend 0)
 
 pub loop-number-preserved : goal.loop-number-preserved
 loop-number-preserved c =
@@ -61,11 +61,11 @@ loop-number-preserved c =
     let long : length mid ≡ c.loop-number.members.len = omega (arith, c.put_above.auto.members, c.deref_mut.ensures.len) in
     let mid_is = take_at mid (drop (length mid) old) c.loop-number.members.len long in
     let some : 0 < length mid = omega (arith, c.put_above.auto.members, ap length c.deref_mut.ensures.value, c.loop-number.invariant.1.size, length-map old (λ v. object_numbers v.items), c.requires.object) in
-    let climbed = put_above_as _ (type_lists above) _ (list_of (declared_lists direct) n) n _ (object_lists old) (object_lists mid) (ap type_lists c.deref.ensures.value) starts (ap object_lists c.deref_mut.ensures.value) c.in_ok-count.ensures.members in
+    let climbed = put_above_as _ (type_lists above) _ (list_of (declared_lists direct) n) n _ (object_lists old) (object_lists mid) (ap type_lists c.deref.ensures.value) starts (ap object_lists c.deref_mut.ensures.value) c.in_ok-climb.ensures.members in
     let put = object_put n mid object new c.in_ok-put.field-0 some (c.index_mut.ensures.value ∙ ap (λ ls. get_or ls 0 object) mid_is) c.in_ok-put.ensures in
     let next = next_object (typing c.args.types c.args.objects c.args.parents.now c.args.declared.now) (type_lists above) (declared_lists direct) (object_lists old) (object_lists mid) n c.in_ok-put.field-0 (object_numbers new.items)
     c.requires.object (omega (arith, lt, c.in_ok-direct.ensures.size)) c.in_ok-above.ensures.lists c.in_ok-direct.ensures.lists c.loop-number.invariant.1 climbed put in
-    (c.in_ok-count.ensures.waiting, subst (AreMembersBelow (n + 1) (typing c.args.types c.args.objects c.args.parents.now c.args.declared.now)) (sym (ap (λ ls. object_lists (set ls 0 new)) mid_is ∙ set_map (λ o. o.0) mid 0 new)) next)
+    (c.in_ok-climb.ensures.waiting, subst (AreMembersBelow (n + 1) (typing c.args.types c.args.objects c.args.parents.now c.args.declared.now)) (sym (ap (λ ls. object_lists (set ls 0 new)) mid_is ∙ set_map (λ o. o.0) mid 0 new)) next)
 
 pub returns : goal.returns
 returns c =
