@@ -14,10 +14,10 @@ use hv_text::Memory;
 use smallvec::SmallVec;
 use std::alloc::Global;
 
-// What it may cost to put all objects into their lists: a step up from a type to a parent costs one,
-// and a place in a list sixteen, so that there are at most 134,217,728 places. A text can ask for as
-// much as the product of two numbers that grow with it. Where it asks for more, memory is said to
-// have run out before it has.
+// What it may cost to put all objects into their lists: a step up from a type to a parent costs
+// one, and a place in a list sixteen, so that there are at most 134,217,728 places. A text can ask
+// for as much as the product of two numbers that grow with it. Where it asks for more, memory is
+// said to have run out before it has.
 const MOST_COST: usize = 1 << 31;
 
 // What a place in a list costs beside the step to it.
