@@ -36,6 +36,16 @@ module _ (f g h : StaticFault) where
   three false false true p q r = absurd (grind (arith, nat_tests, p, q, r))
   three false false false p q r = rw (p, q, r) refl
 
+-- none of two is there where the earlier is not
+pub none_both : (a b : Option StaticFault) → earlier a b ≡ None → (a ≡ None) × (b ≡ None)
+none_both None b e = (refl, e)
+none_both (Some f) None e = absurd (cc)
+none_both (Some f) (Some g) e = absurd (picked (nat_le f.span.start g.span.start) e)
+  where
+    picked : (b : Bool) → (if b then Some f else Some g) ≡ None → ⊥
+    picked true e = absurd (cc)
+    picked false e = absurd (cc)
+
 pub earlier_assoc : (a b c : Option StaticFault) → earlier (earlier a b) c ≡ earlier a (earlier b c)
 earlier_assoc None b c = refl
 earlier_assoc (Some f) None c = refl

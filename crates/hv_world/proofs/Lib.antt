@@ -7,6 +7,7 @@ pub mod FaultLemmas
 pub mod InternLemmas
 pub mod LabelLemmas
 pub mod LiteralLemmas
+pub mod SectionLemmas
 pub mod NameLemmas
 pub mod OrderLists
 pub mod OrderMeanings

@@ -136,13 +136,19 @@ module _ (d : Domain) where
     declared_within typed = All-map AreObjectAndType (object_pair known) all (λ i e lt. both_known (get_or all i e) (known_names all i e lt) (typed i e lt))
 
     module _ (static : IsStatic d p) where
+      pub methods_sound : flat_map (method_faults known sides.Domain) d.methods ≡ []
+      methods_sound = last_none _ _ (first_none _ _ static.of_domain)
+
+      pub top_sound : htn_faults known sides.Problem p.htn ≡ []
+      top_sound = last_none _ _ (first_none _ _ (first_none _ _ static.of_problem))
+
       pub methods_arrangeable : All (λ m. IsArrangeable (written_by m.network)) d.methods
       methods_arrangeable =
           All-weaker (λ m. method_faults known sides.Domain m ≡ []) (λ m. IsArrangeable (written_by m.network)) (λ m e. method_arrangeable known sides.Domain m e) d.methods
-          (none_of_each (method_faults known sides.Domain) d.methods (last_none _ _ (first_none _ _ static.of_domain)))
+          (none_of_each (method_faults known sides.Domain) d.methods methods_sound)
 
       pub top_arrangeable : IsArrangeable (written_by p.htn.network)
-      top_arrangeable = htn_arrangeable known sides.Problem p.htn (last_none _ _ (first_none _ _ (first_none _ _ static.of_problem)))
+      top_arrangeable = htn_arrangeable known sides.Problem p.htn top_sound
 
       pub objects_within : All AreObjectAndType (map (object_pair known) all)
       objects_within =

@@ -2,7 +2,6 @@
 use Rattle.std.proofs.Common.{◌≡◌, ℕ, suc, ◌+◌, ◌<◌, Bool, true, false, not, ◌||◌, List, [], ◌∷◌, ◌++◌, map, length, Option, Some, None, bytes_eq, if◌then◌else◌, refl, ap, sym, subst, ◌∙◌, arith}
 use Rattle.std.specs.Prelude.{MatchOption}
 use Rattle.std.specs.List.{flat_map, All}
-use Rattle.std.specs.Option.{is_some}
 use Rattle.std.proofs.lemmas.List.{length-map}
 use Rattle.hv_syntax.specs.declared.network.SubtaskText.{SubtaskText}
 use Rattle.hv_syntax.specs.NetworkViews.{subtask_view}
@@ -79,19 +78,11 @@ module _ (w : Written) where
   pub has_cycle : All (λ p. (p.0 < w.len) × (p.1 < w.len)) w.pairs → IsCyclic w → true ≡ is_cyclic w
   has_cycle within c = sym (cycle_there w within c)
 
-flipped : (b : Bool) → true ≡ not b → b ≡ false
-flipped true e = cc
-flipped false e = refl
-
-kept : (b : Bool) → false ≡ not b → b ≡ true
-kept true e = refl
-kept false e = cc
-
 -- an order is there just where there is no cycle
-pub cyclic_is : {X : Type 0} (P : X → Type 0) (v w : Written) (o : Option X) (b : Bool) → v ≡ w → All (λ p. (p.0 < w.len) × (p.1 < w.len)) w.pairs
-    → MatchOption o (IsCyclic v) (λ x. P x × (IsCyclic v → ⊥)) → is_some o ≡ not b → b ≡ is_cyclic w
-cyclic_is P v w None b same within h e = kept b e ∙ has_cycle w within (subst IsCyclic same h)
-cyclic_is P v w (Some x) b same within h e = flipped b e ∙ is_acyclic w (λ c. h.1 (subst IsCyclic (sym same) c))
+pub order_is : (v w : Written) (o : Option Written) → v ≡ w → All (λ p. (p.0 < w.len) × (p.1 < w.len)) w.pairs
+    → MatchOption o (IsCyclic v) (λ x. (x ≡ v) × (IsCyclic v → ⊥)) → MatchOption o (is_cyclic w ≡ true) (λ x. (x ≡ w) × (is_cyclic w ≡ false))
+order_is v w None same within h = sym (has_cycle w within (subst IsCyclic same h))
+order_is v w (Some x) same within h = (h.0 ∙ same, sym (is_acyclic w (λ c. h.1 (subst IsCyclic (sym same) c))))
 
 pub written_is : (subtasks : List SubtaskText) (b : Bool) (ps : List (ℕ × ℕ)) (n : Network) → map subtask_view subtasks ≡ n.subtasks → b ≡ n.is_ordered
     → ps ≡ (written_by n).pairs → written (length subtasks) b ps ≡ written_by n

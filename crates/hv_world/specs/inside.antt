@@ -8,6 +8,7 @@ pub mod Layouts
 pub mod LabelViews
 pub mod OrderWalks
 pub mod OrderViews
+pub mod Numbered
 pub mod Parts
 pub mod Kept
 pub mod Seeds

@@ -1,10 +1,12 @@
 //! The classes of alike subtasks of a network, and its free parameters.
 
 ghost use Rattle.std.specs.Prelude.{◌≡◌, ◌↔◌, ℕ, true, List, ◌++◌, ◌&&◌, ◌+◌, ◌<◌, ◌^◌, not, [], ◌∷◌, map, filter, length, slice_get, Contains, All, AllPairs, ◌≢◌, Some, IfOk, OnOk};
+ghost use Rattle.std.specs.HashMap.{get};
 ghost use Rattle.std.specs.List.{range_with_len};
+ghost use Rattle.std.specs.Option.{option_copied};
 ghost use Rattle.hv_world.specs.Alike as alike;
 ghost use Rattle.hv_world.specs.Alike.{is_object};
-ghost use Rattle.hv_world.specs.inside.Kept.{is_marked, kept_marks, RowsSay, counts_in, counted, key_view, AreClasses};
+ghost use Rattle.hv_world.specs.inside.Kept.{is_marked, is_name, kept_marks, RowsSay, counts_in, counted, key_view, AreClasses};
 ghost use Rattle.hv_world.specs.Values as value;
 ghost use Rattle.hv_world.specs.Bindings.{object_number};
 ghost use Rattle.hv_world.specs.Views.{name_view, term_view, subtask_view};
@@ -14,14 +16,16 @@ use crate::id::{ObjectId, TaskName};
 use crate::seed::seed_of_subtasks;
 use hv_text::{Memory, Seeded};
 use indexmap::IndexMap;
+use smallvec::SmallVec;
 use std::alloc::Global;
 use std::hash::{Hash, Hasher};
 
-/// What tells classes apart: the name of a subtask, and its objects at the fixed positions.
+/// What tells classes apart: the name of a subtask, and its objects at the fixed positions. Mostly
+/// these are few, and take no allocation.
 #[derive(PartialEq, Eq, Hash, Drop)]
 struct Key {
     name: TaskName,
-    objects: Vec<usize>,
+    objects: SmallVec<usize, 2>,
 }
 
 impl Hash for TaskName {
@@ -97,6 +101,19 @@ fn are_kept(marks: &[bool], terms: &[Term]) -> bool
     true
 }
 
+// The marks of a name. Many networks have one name alone, so the first is looked at before the name
+// is hashed.
+fn marks_of(rows: &IndexMap<TaskName, Vec<bool>, Seeded>, name: TaskName) -> Option<&Vec<bool>>
+    ensures { option_copied result ≡ get is_name rows.now name }
+{
+    if let Some((first, marks)) = rows.get_index(0)
+        && *first == name
+    {
+        return Some(marks);
+    }
+    rows.get(&name)
+}
+
 // Takes account of one subtask more. Most leave the marks as they are.
 fn note_objects(
     alloc: Global,
@@ -107,7 +124,7 @@ fn note_objects(
         ((ss : List value.Subtask) → RowsSay ss rows.old
         → RowsSay (ss ++ subtask_view subtask.now ∷ []) rows.new) }
 {
-    let row = match rows.get(&subtask.name) {
+    let row = match marks_of(rows, subtask.name) {
         Some(marks) => {
             if are_kept(marks, &subtask.terms) {
                 return Ok(());
@@ -141,11 +158,15 @@ fn marked_count(marks: &[bool]) -> usize {
 }
 
 // The objects at the marked positions.
-fn marked_objects(alloc: Global, marks: &[bool], terms: &[Term]) -> Result<Vec<usize>, Memory>
+fn marked_objects(
+    alloc: Global,
+    marks: &[bool],
+    terms: &[Term],
+) -> Result<SmallVec<usize, 2>, Memory>
     ensures { IfOk result
         (λ v. v.items ≡ alike.fixed_objects (is_marked marks.now) 0 (map term_view terms.now)) }
 {
-    let mut objects = Vec::with_capacity(alloc, marked_count(marks))?;
+    let mut objects = SmallVec::with_capacity(alloc, marked_count(marks))?;
     for (position, term) in terms.iter().enumerate() {
         match term {
             Term::Object(object) if is_marked(marks, position) => objects.push(object.0)?,
@@ -166,9 +187,9 @@ fn key_of(
         → Contains ss (subtask_view subtask.now)
         → key_view k ≡ alike.key ss (subtask_view subtask.now)) }
 {
-    let objects = match rows.get(&subtask.name) {
+    let objects = match marks_of(rows, subtask.name) {
         Some(marks) => marked_objects(alloc, marks, &subtask.terms)?,
-        None => Vec::new(alloc),
+        None => SmallVec::new(alloc),
     };
     Ok(Key {
         name: subtask.name,
@@ -177,11 +198,11 @@ fn key_of(
 }
 
 // The objects at the marked positions, where all terms are objects.
-fn marked_ids(alloc: Global, marks: &[bool], ids: &[ObjectId]) -> Result<Vec<usize>, Memory>
+fn marked_ids(alloc: Global, marks: &[bool], ids: &[ObjectId]) -> Result<SmallVec<usize, 2>, Memory>
     ensures { IfOk result (λ v. v.items ≡ alike.fixed_objects (is_marked marks.now) 0
         (map value.object (map object_number ids.now))) }
 {
-    let mut objects = Vec::new(alloc);
+    let mut objects = SmallVec::new(alloc);
     for (position, id) in ids.iter().enumerate() {
         if is_marked(marks, position) {
             objects.push(id.0)?;
@@ -290,7 +311,7 @@ impl Classes {
             → r ≡ alike.class_of ss (alike.with_objects (name_view name)
             (map object_number ids.now))) }
     {
-        let Some(marks) = self.fixed.get(&name) else {
+        let Some(marks) = marks_of(&self.fixed, name) else {
             return Ok(None);
         };
         let objects = marked_ids(alloc, marks, ids)?;

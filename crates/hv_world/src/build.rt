@@ -1,37 +1,32 @@
 //! Worlds are built.
 
-ghost use Rattle.std.specs.Prelude.{ℕ, List, ◌≡◌, ◌⊎◌, [], Some, map, option_map, All, IfOk, IfErr};
+ghost use Rattle.std.specs.Prelude.{ℕ, List, ◌≡◌, ◌⊎◌, Some, map, IfOk, IfErr};
 ghost use Rattle.hv_text.specs.Names.{text_of};
 ghost use Rattle.hv_syntax.specs.DeclarationViews.{predicate_view as said_predicate, task_view as said_task, method_view as said_method, action_view as said_action};
 ghost use Rattle.hv_syntax.specs.DomainViews.{domain_view};
 ghost use Rattle.hv_syntax.specs.ProblemViews.{problem_view};
 ghost use Rattle.hv_world.specs.Known.{known_in, predicate_words};
 ghost use Rattle.hv_world.specs.Names.{names, place_in};
-ghost use Rattle.hv_world.specs.inside.Tables.{known_by, places_by, HaveParameters};
+ghost use Rattle.hv_world.specs.inside.Tables.{known_by, places_by};
+ghost use Rattle.hv_world.specs.inside.Numbered.{found_in, AreNumbered, AreFoundIn, AreFoundAt};
 ghost use Rattle.hv_world.specs.Types.{IsInRange};
 ghost use Rattle.hv_world.specs.Faults.{memory_fault};
 ghost use Rattle.hv_world.specs.StaticRules.{IsStatic, first_fault};
 ghost use Rattle.hv_world.specs.Bounds.{IsBound, IsSound};
-ghost use Rattle.hv_world.specs.MethodViews.{method_view};
-ghost use Rattle.hv_world.specs.Networks.{written_by, IsArrangeable};
-ghost use Rattle.hv_world.specs.Scopes.{parameters};
-ghost use Rattle.hv_world.specs.SectionViews.{task_view, action_view};
-ghost use Rattle.hv_world.specs.Views.{atom_view, formula_view};
 ghost use Rattle.hv_world.specs.WorldViews.{world_view};
 ghost use Rattle.hv_world.specs.inside.Parts.{world_of_parts};
-ghost use Rattle.hv_world.specs.Worlds.{task_by, method_in, action_in, formula_in, added, top_in, typing_by, world_by, world_of, task_names, action_names, method_names, said_task_names, said_action_names, said_method_names};
+ghost use Rattle.hv_world.specs.Worlds.{typing_by, world_by, world_of, task_names, action_names, method_names, said_task_names, said_action_names, said_method_names};
 
 use crate::action::Action;
 use crate::check::first_fault;
 use crate::fault::StaticFault;
 use crate::formula::{Atom, Formula};
 use crate::intern::lists::{
-    actions_in, add_eithers_pairs, add_object_pairs, goal_in, init_in, methods_in, predicate_names,
-    tasks_in, type_pairs,
+    add_eithers_pairs, add_object_pairs, goal_in, predicate_names, tasks_in, type_pairs,
 };
-use crate::intern::sections::top_in;
 use crate::method::Method;
 use crate::names::Names;
+use crate::numbered::Numbered;
 use crate::tables::Tables;
 use crate::tables::words::predicate_words;
 use crate::task::Task;
@@ -139,40 +134,6 @@ fn kinds_in<'s>(
     Ok(Kinds { typing, predicates })
 }
 
-// What the sections of a domain say, by number.
-#[derive(Drop)]
-struct Sections<'s> {
-    tasks: Vec<Task<'s>>,
-    methods: Vec<Method<'s>>,
-    actions: Vec<Action<'s>>,
-}
-
-fn sections_in<'s>(
-    alloc: Global,
-    tables: &Tables<'s>,
-    domain: &DomainText<'s>,
-) -> Result<Sections<'s>, Memory>
-    requires { All (λ m. IsArrangeable (written_by m.network)) (domain_view domain.now).methods }
-    ensures tasks { IfOk result
-        (λ s. map task_view s.tasks.items
-        ≡ map (task_by (known_by tables.now)) (domain_view domain.now).tasks) }
-    ensures methods { IfOk result
-        (λ s. map method_view s.methods.items
-        ≡ map (method_in (known_by tables.now)) (domain_view domain.now).methods) }
-    ensures actions { IfOk result
-        (λ s. map action_view s.actions.items
-        ≡ map (action_in (known_by tables.now)) (domain_view domain.now).actions) }
-{
-    let tasks = tasks_in(alloc, tables, domain.tasks())?;
-    let methods = methods_in(alloc, tables, domain.methods())?;
-    let actions = actions_in(alloc, tables, domain.actions())?;
-    Ok(Sections {
-        tasks,
-        methods,
-        actions,
-    })
-}
-
 // What a problem starts from and what it wants, by number.
 #[derive(Drop)]
 struct Start<'s> {
@@ -181,36 +142,13 @@ struct Start<'s> {
     top: Method<'s>,
 }
 
-fn start_in<'s>(
-    alloc: Global,
-    tables: &Tables<'s>,
-    problem: &ProblemText<'s>,
-    init: Vec<Atom>,
-) -> Result<Start<'s>, Memory>
-    requires arrangeable { IsArrangeable (written_by (problem_view problem.now).htn.network) }
-    requires parameters { HaveParameters (problem_view problem.now).htn tables.now }
-    requires init { map atom_view init.items
-        ≡ added (known_by tables.now) (parameters []) (problem_view problem.now).init }
-    ensures init { IfOk result
-        (λ s. map atom_view s.init.items
-        ≡ added (known_by tables.now) (parameters []) (problem_view problem.now).init) }
-    ensures goal { IfOk result
-        (λ s. option_map formula_view s.goal
-        ≡ option_map (formula_in (known_by tables.now) (parameters []))
-        (problem_view problem.now).goal) }
-    ensures top { IfOk result
-        (λ s. method_view s.top ≡ top_in (known_by tables.now) (problem_view problem.now).htn) }
-{
-    let goal = goal_in(alloc, tables, problem.goal())?;
-    let top = top_in(alloc, tables, problem.htn())?;
-    Ok(Start { init, goal, top })
-}
-
 // What a domain and a problem say, by number.
 #[derive(Drop)]
 struct Parts<'s> {
     kinds: Kinds<'s>,
-    sections: Sections<'s>,
+    tasks: Vec<Task<'s>>,
+    methods: Vec<Method<'s>>,
+    actions: Vec<Action<'s>>,
     start: Start<'s>,
 }
 
@@ -219,24 +157,41 @@ fn parts_in<'s>(
     tables: &Tables<'s>,
     domain: &DomainText<'s>,
     problem: &ProblemText<'s>,
-    init: Vec<Atom>,
+    numbered: Numbered<'s>,
 ) -> Result<Parts<'s>, Memory>
     requires known { known_by tables.now
         ≡ known_in (domain_view domain.now) (problem_view problem.now) }
     requires sound { IsStatic (domain_view domain.now) (problem_view problem.now) }
-    requires parameters { HaveParameters (problem_view problem.now).htn tables.now }
-    requires init { map atom_view init.items
-        ≡ added (known_by tables.now) (parameters []) (problem_view problem.now).init }
+    requires numbered { AreNumbered (known_by tables.now) (domain_view domain.now)
+        (problem_view problem.now) numbered }
+    requires methods { AreFoundIn (known_by tables.now) (domain_view domain.now)
+        (found_in numbered) }
+    requires top { AreFoundAt (known_by tables.now) (problem_view problem.now) (found_in numbered) }
     ensures { IfOk result
         (λ p. world_of_parts tables.now p
         ≡ world_by (known_by tables.now) (domain_view domain.now) (problem_view problem.now)) }
 {
     let kinds = kinds_in(alloc, tables, domain, problem)?;
-    let sections = sections_in(alloc, tables, domain)?;
-    let start = start_in(alloc, tables, problem, init)?;
+    let tasks = tasks_in(alloc, tables, domain.tasks())?;
+    let goal = goal_in(alloc, tables, problem.goal())?;
+    let Numbered {
+        methods,
+        actions,
+        top,
+        init,
+    } = numbered;
+    let value = top.value;
+    let Some(top) = value else { unreachable!() };
+    let start = Start {
+        init: init.value,
+        goal,
+        top,
+    };
     Ok(Parts {
         kinds,
-        sections,
+        tasks,
+        methods: methods.value,
+        actions: actions.value,
         start,
     })
 }
@@ -295,15 +250,15 @@ impl<'s> World<'s> {
             ⊎ (first_fault (domain_view domain.now) (problem_view problem.now) ≡ Some f)) }
     {
         let tables = Tables::of(alloc, domain, problem)?;
-        let init = init_in(alloc, &tables, problem.init())?;
-        match first_fault(alloc, &tables, domain, problem, init.fault)? {
+        let numbered = Numbered::of(alloc, &tables, domain, problem)?;
+        match first_fault(alloc, &tables, domain, problem, numbered.found())? {
             Some(fault) => Err(fault),
-            None => Ok(World::of_tables(alloc, tables, domain, problem, init.value)?),
+            None => Ok(World::of_tables(alloc, tables, domain, problem, numbered)?),
         }
     }
 
     /// The world of a domain and a problem that have no static fault, by the tables of their names
-    /// and the atoms that are true at the start.
+    /// and what was checked as it got its numbers.
     ///
     /// # Errors
     ///
@@ -313,18 +268,21 @@ impl<'s> World<'s> {
         tables: Tables<'s>,
         domain: &DomainText<'s>,
         problem: &ProblemText<'s>,
-        init: Vec<Atom>,
+        numbered: Numbered<'s>,
     ) -> Result<World<'s>, Memory>
         requires known { known_by tables
             ≡ known_in (domain_view domain.now) (problem_view problem.now) }
         requires sound { IsStatic (domain_view domain.now) (problem_view problem.now) }
-        requires parameters { HaveParameters (problem_view problem.now).htn tables }
-        requires init { map atom_view init.items
-            ≡ added (known_by tables) (parameters []) (problem_view problem.now).init }
+        requires numbered { AreNumbered (known_by tables) (domain_view domain.now)
+            (problem_view problem.now) numbered }
+        requires methods { AreFoundIn (known_by tables) (domain_view domain.now)
+            (found_in numbered) }
+        requires top { AreFoundAt (known_by tables) (problem_view problem.now)
+            (found_in numbered) }
         ensures { IfOk result
             (λ w. world_view w ≡ world_of (domain_view domain.now) (problem_view problem.now)) }
     {
-        let parts = parts_in(alloc, &tables, domain, problem, init)?;
+        let parts = parts_in(alloc, &tables, domain, problem, numbered)?;
         let places = places_of(alloc, domain)?;
         Ok(World::of_parts(tables, parts, places))
     }
@@ -352,9 +310,9 @@ impl<'s> World<'s> {
             hints: tables.hints,
             typing: parts.kinds.typing,
             predicates: parts.kinds.predicates,
-            tasks: parts.sections.tasks,
-            methods: parts.sections.methods,
-            actions: parts.sections.actions,
+            tasks: parts.tasks,
+            methods: parts.methods,
+            actions: parts.actions,
             init: parts.start.init,
             goal: parts.start.goal,
             top: parts.start.top,

@@ -1,32 +1,30 @@
 //! The first static fault of a domain and a problem.
 
-ghost use Rattle.std.specs.Prelude.{◌≡◌, [], Some, IfOk, MatchOption};
+ghost use Rattle.std.specs.Prelude.{◌≡◌, Some, IfOk, MatchOption};
 ghost use Rattle.hv_syntax.specs.DomainViews.{domain_view};
 ghost use Rattle.hv_syntax.specs.ProblemViews.{problem_view};
 ghost use Rattle.hv_world.specs.Known.{known_in};
-ghost use Rattle.hv_world.specs.declared.fault.Side.TheVariants as sides;
-ghost use Rattle.hv_world.specs.Faults.{least};
-ghost use Rattle.hv_world.specs.Scopes.{parameters};
-ghost use Rattle.hv_world.specs.StaticRules.{IsStatic, first_fault, literals_faults};
-ghost use Rattle.hv_world.specs.inside.Tables.{known_by, HavePlaces, HaveParameters};
+ghost use Rattle.hv_world.specs.StaticRules.{IsStatic, first_fault};
+ghost use Rattle.hv_world.specs.inside.Numbered.{AreFoundIn, AreFoundAt};
+ghost use Rattle.hv_world.specs.inside.Tables.{known_by, HavePlaces};
 
-mod effects;
-mod formulas;
-mod networks;
+pub(crate) mod effects;
+pub(crate) mod formulas;
 mod sections;
 pub(crate) mod terms;
 mod texts;
-mod types;
+pub(crate) mod types;
 
 use crate::check::texts::{domain_fault, problem_fault};
 use crate::fault::StaticFault;
+use crate::numbered::Found;
 use crate::tables::Tables;
 use hv_syntax::{DomainText, ProblemText};
 use hv_text::Memory;
 use std::alloc::Global;
 
 /// The static fault that stands first in a domain, and where the domain has none the one that
-/// stands first in its problem, where this is the first of the initial state.
+/// stands first in its problem, where these were found as parts of both got their numbers.
 ///
 /// # Errors
 ///
@@ -36,21 +34,19 @@ pub(crate) fn first_fault<'s>(
     tables: &Tables<'s>,
     domain: &DomainText<'s>,
     problem: &ProblemText<'s>,
-    literal: Option<StaticFault>,
+    found: Found,
 ) -> Result<Option<StaticFault>, Memory>
     requires known { known_by tables.now
         ≡ known_in (domain_view domain.now) (problem_view problem.now) }
     requires places { HavePlaces (domain_view domain.now) tables.now }
-    requires parameters { HaveParameters (problem_view problem.now).htn tables.now }
-    requires literal { literal
-        ≡ least (literals_faults (known_by tables.now) sides.Problem (parameters [])
-        (problem_view problem.now).init) }
+    requires domain { AreFoundIn (known_by tables.now) (domain_view domain.now) found }
+    requires problem { AreFoundAt (known_by tables.now) (problem_view problem.now) found }
     ensures { IfOk result
         (λ o. MatchOption o (IsStatic (domain_view domain.now) (problem_view problem.now))
         (λ f. first_fault (domain_view domain.now) (problem_view problem.now) ≡ Some f)) }
 {
-    if let Some(fault) = domain_fault(alloc, tables, domain)? {
+    if let Some(fault) = domain_fault(alloc, tables, domain, found)? {
         return Ok(Some(fault));
     }
-    problem_fault(alloc, tables, problem, literal)
+    Ok(problem_fault(alloc, tables, problem, found))
 }

@@ -1,26 +1,21 @@
-//! Faults of sections.
+//! Faults of tasks and of goals.
 
 ghost use Rattle.std.specs.Prelude.{◌≡◌, [], map, option_map, IfOk};
 ghost use Rattle.std.specs.List.{flat_map};
-ghost use Rattle.hv_syntax.specs.Views.{literal_view, formula_view};
-ghost use Rattle.hv_syntax.specs.DeclarationViews.{task_view, method_view, action_view};
-ghost use Rattle.hv_syntax.specs.ProblemViews.{htn_view};
+ghost use Rattle.hv_syntax.specs.Views.{formula_view};
+ghost use Rattle.hv_syntax.specs.DeclarationViews.{task_view};
 ghost use Rattle.hv_world.specs.declared.fault.Side.TheVariants as sides;
-ghost use Rattle.hv_world.specs.Scopes.{parameters};
 ghost use Rattle.hv_world.specs.Faults.{least};
-ghost use Rattle.hv_world.specs.StaticRules.{variable_faults, method_faults, action_faults, htn_faults, goal_faults, literals_faults};
-ghost use Rattle.hv_world.specs.inside.Tables.{known_by, HaveParameters};
+ghost use Rattle.hv_world.specs.StaticRules.{variable_faults, goal_faults};
+ghost use Rattle.hv_world.specs.inside.Tables.{known_by};
 
-use crate::check::effects::effect_fault;
 use crate::check::formulas::formula_fault;
-use crate::check::networks::network_fault;
-use crate::check::terms::task_fault;
 use crate::check::types::parameter_fault;
 use crate::fault::{Side, StaticFault, earlier};
 use crate::names::Names;
 use crate::scope::Scope;
 use crate::tables::Tables;
-use hv_syntax::{ActionText, FormulaText, HtnText, LiteralText, MethodText, TaskText};
+use hv_syntax::{FormulaText, TaskText};
 use hv_text::Memory;
 use std::alloc::Global;
 
@@ -37,51 +32,6 @@ fn compound_fault<'s>(
     let list = task.parameters();
     let names = Names::of_variables(alloc, list)?;
     Ok(parameter_fault(tables, &names, Side::Domain, list))
-}
-
-// The first fault of a method.
-fn method_fault<'s>(
-    alloc: Global,
-    tables: &Tables<'s>,
-    method: &MethodText<'s>,
-) -> Result<Option<StaticFault>, Memory>
-    ensures { IfOk result
-        (λ o. o ≡ least
-        (method_faults (known_by tables.now) sides.Domain (method_view method.now))) }
-{
-    let side = Side::Domain;
-    let list = method.parameters();
-    let names = Names::of_variables(alloc, list)?;
-    let scope = Scope::Parameters(&names, list.len());
-    let parameters = parameter_fault(tables, &names, side, list);
-    let task = task_fault(tables, &scope, side, method.task());
-    let precondition = formula_fault(tables, &scope, side, method.precondition());
-    let span = method.span();
-    let network = network_fault(alloc, tables, &scope, side, span, method.network())?;
-    let head = earlier(parameters, task);
-    let front = earlier(head, precondition);
-    Ok(earlier(front, network))
-}
-
-// The first fault of an action.
-fn action_fault<'s>(
-    alloc: Global,
-    tables: &Tables<'s>,
-    action: &ActionText<'s>,
-) -> Result<Option<StaticFault>, Memory>
-    ensures { IfOk result
-        (λ o. o ≡ least
-        (action_faults (known_by tables.now) sides.Domain (action_view action.now))) }
-{
-    let side = Side::Domain;
-    let list = action.parameters();
-    let names = Names::of_variables(alloc, list)?;
-    let scope = Scope::Parameters(&names, list.len());
-    let parameters = parameter_fault(tables, &names, side, list);
-    let precondition = formula_fault(tables, &scope, side, action.precondition());
-    let effect = effect_fault(tables, &scope, side, action.effect().items());
-    let head = earlier(parameters, precondition);
-    Ok(earlier(head, effect))
 }
 
 /// The first fault of the tasks that methods decompose.
@@ -105,74 +55,6 @@ pub(crate) fn compounds_fault<'s>(
         found = earlier(found, fault);
     }
     Ok(found)
-}
-
-/// The first fault of methods.
-///
-/// # Errors
-///
-/// `Memory` where a growth was refused.
-pub(crate) fn methods_fault<'s>(
-    alloc: Global,
-    tables: &Tables<'s>,
-    methods: &[MethodText<'s>],
-) -> Result<Option<StaticFault>, Memory>
-    ensures { IfOk result
-        (λ o. o ≡ least
-        (flat_map (method_faults (known_by tables.now) sides.Domain)
-        (map method_view methods.now))) }
-{
-    let mut found = None;
-    for method in methods {
-        let fault = method_fault(alloc, tables, method)?;
-        found = earlier(found, fault);
-    }
-    Ok(found)
-}
-
-/// The first fault of actions.
-///
-/// # Errors
-///
-/// `Memory` where a growth was refused.
-pub(crate) fn actions_fault<'s>(
-    alloc: Global,
-    tables: &Tables<'s>,
-    actions: &[ActionText<'s>],
-) -> Result<Option<StaticFault>, Memory>
-    ensures { IfOk result
-        (λ o. o ≡ least
-        (flat_map (action_faults (known_by tables.now) sides.Domain)
-        (map action_view actions.now))) }
-{
-    let mut found = None;
-    for action in actions {
-        let fault = action_fault(alloc, tables, action)?;
-        found = earlier(found, fault);
-    }
-    Ok(found)
-}
-
-/// The first fault of the initial network.
-///
-/// # Errors
-///
-/// `Memory` where a growth was refused.
-pub(crate) fn htn_fault<'s>(
-    alloc: Global,
-    tables: &Tables<'s>,
-    htn: &HtnText<'s>,
-) -> Result<Option<StaticFault>, Memory>
-    requires { HaveParameters (htn_view htn.now) tables.now }
-    ensures { IfOk result
-        (λ o. o ≡ least (htn_faults (known_by tables.now) sides.Problem (htn_view htn.now))) }
-{
-    let side = Side::Problem;
-    let list = htn.parameters();
-    let scope = Scope::Parameters(&tables.parameters, list.len());
-    let parameters = parameter_fault(tables, &tables.parameters, side, list);
-    let network = network_fault(alloc, tables, &scope, side, htn.span(), htn.network())?;
-    Ok(earlier(parameters, network))
 }
 
 /// The first fault of a goal: no variable is bound around it.

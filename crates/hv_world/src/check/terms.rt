@@ -4,11 +4,10 @@ ghost use Rattle.std.specs.Prelude.{◌≡◌, ◌++◌, length, map};
 ghost use Rattle.hv_text.specs.Names.{text_of};
 ghost use Rattle.hv_syntax.specs.Views.{word_view, term_view, atom_view};
 ghost use Rattle.hv_world.specs.Faults.{least};
-ghost use Rattle.hv_world.specs.StaticRules.{head_faults, signature_arity, declared_arity, arity_of_task, term_faults, terms_faults, atom_faults, task_faults};
+ghost use Rattle.hv_world.specs.StaticRules.{head_faults, signature_arity, term_faults, terms_faults, atom_faults};
 ghost use Rattle.hv_world.specs.inside.Tables.{known_by, scope_view};
 
 use crate::fault::{Side, StaticFault, StaticKind, earlier, fault_if};
-use crate::id::TaskName;
 use crate::scope::Scope;
 use crate::tables::Tables;
 use hv_syntax::{AtomText, Placed, TermText};
@@ -103,29 +102,8 @@ fn predicate_arity<'s>(tables: &Tables<'s>, name: Name<'s>) -> Option<usize>
     }
 }
 
-/// How many terms a task or an action takes.
-pub(crate) fn declared_arity<'s>(tables: &Tables<'s>, name: Name<'s>) -> Option<usize>
-    ensures { result ≡ declared_arity ((known_by tables.now).task (text_of name.entry)) }
-{
-    match tables.task(name) {
-        Some(declared) => Some(declared.arity),
-        None => None,
-    }
-}
-
-// How many terms a task takes, but not an action.
-fn task_arity<'s>(tables: &Tables<'s>, name: Name<'s>) -> Option<usize>
-    ensures { result ≡ arity_of_task ((known_by tables.now).task (text_of name.entry)) }
-{
-    let declared = tables.task(name)?;
-    match declared.what {
-        TaskName::Compound(_) => Some(declared.arity),
-        TaskName::Primitive(_) => None,
-    }
-}
-
-/// The first fault of a name that takes this number of terms where it is known, and of its terms.
-pub(crate) fn application_fault<'s>(
+// The first fault of a name that takes this number of terms where it is known, and of its terms.
+fn application_fault<'s>(
     tables: &Tables<'s>,
     scope: &Scope<'_, 's>,
     side: Side,
@@ -158,20 +136,4 @@ pub(crate) fn atom_fault<'s>(
     let arity = predicate_arity(tables, atom.symbol().name());
     let kind = StaticKind::UnknownPredicate;
     application_fault(tables, scope, side, kind, arity, atom)
-}
-
-/// The first fault of the task that a method is for.
-pub(crate) fn task_fault<'s>(
-    tables: &Tables<'s>,
-    scope: &Scope<'_, 's>,
-    side: Side,
-    task: &AtomText<'s>,
-) -> Option<StaticFault>
-    ensures { result
-        ≡ least (task_faults (known_by tables.now) side (scope_view scope.now)
-        (atom_view task.now)) }
-{
-    let arity = task_arity(tables, task.symbol().name());
-    let kind = StaticKind::UnknownTask;
-    application_fault(tables, scope, side, kind, arity, task)
 }

@@ -1,6 +1,6 @@
 //! Faults of a domain and of a problem.
 
-ghost use Rattle.std.specs.Prelude.{◌≡◌, [], map, IfOk};
+ghost use Rattle.std.specs.Prelude.{◌≡◌, map, IfOk};
 ghost use Rattle.hv_syntax.specs.Views.{word_view};
 ghost use Rattle.hv_syntax.specs.DomainViews.{domain_view};
 ghost use Rattle.hv_syntax.specs.ProblemViews.{problem_view};
@@ -8,16 +8,15 @@ ghost use Rattle.hv_world.specs.declared.fault.StaticKind.TheVariants as kinds;
 ghost use Rattle.hv_world.specs.declared.fault.Side.TheVariants as sides;
 ghost use Rattle.hv_world.specs.Names.{repeated};
 ghost use Rattle.hv_world.specs.Faults.{faults_at, least};
-ghost use Rattle.hv_world.specs.Scopes.{parameters};
-ghost use Rattle.hv_world.specs.StaticRules.{duplicate_faults, domain_faults_by, problem_faults_by, literals_faults};
-ghost use Rattle.hv_world.specs.inside.Tables.{known_by, HavePlaces, HaveParameters};
+ghost use Rattle.hv_world.specs.StaticRules.{duplicate_faults, domain_faults_by, problem_faults_by};
+ghost use Rattle.hv_world.specs.inside.Tables.{known_by, HavePlaces};
+ghost use Rattle.hv_world.specs.inside.Numbered.{AreFoundIn, AreFoundAt};
 
-use crate::check::sections::{
-    actions_fault, compounds_fault, goal_fault, htn_fault, methods_fault,
-};
+use crate::check::sections::{compounds_fault, goal_fault};
 use crate::check::types::typed_fault;
 use crate::fault::{Side, StaticFault, StaticKind, earlier};
 use crate::names::{Names, repeated_word};
+use crate::numbered::Found;
 use crate::tables::Tables;
 use crate::tables::words::{declared_words, method_words, predicate_words};
 use hv_syntax::{DomainText, Placed, ProblemText};
@@ -46,7 +45,7 @@ fn duplicate_fault<'s>(
     Ok(earlier(front, task))
 }
 
-/// The first fault of a domain.
+/// The first fault of a domain, whose methods and actions have these.
 ///
 /// # Errors
 ///
@@ -55,45 +54,36 @@ pub(crate) fn domain_fault<'s>(
     alloc: Global,
     tables: &Tables<'s>,
     domain: &DomainText<'s>,
+    found: Found,
 ) -> Result<Option<StaticFault>, Memory>
-    requires { HavePlaces (domain_view domain.now) tables.now }
+    requires places { HavePlaces (domain_view domain.now) tables.now }
+    requires found { AreFoundIn (known_by tables.now) (domain_view domain.now) found }
     ensures { IfOk result
         (λ o. o ≡ least (domain_faults_by (known_by tables.now) (domain_view domain.now))) }
 {
     let duplicate = duplicate_fault(alloc, tables, domain)?;
     let constant = typed_fault(tables, Side::Domain, domain.constants());
     let task = compounds_fault(alloc, tables, domain.tasks())?;
-    let method = methods_fault(alloc, tables, domain.methods())?;
-    let action = actions_fault(alloc, tables, domain.actions())?;
     let names = earlier(duplicate, constant);
     let tasks = earlier(names, task);
-    let methods = earlier(tasks, method);
-    Ok(earlier(methods, action))
+    let methods = earlier(tasks, found.methods);
+    Ok(earlier(methods, found.actions))
 }
 
-/// The first fault of a problem, by the names that these tables have, where this is the first of
-/// its initial state.
-///
-/// # Errors
-///
-/// `Memory` where a growth was refused.
+/// The first fault of a problem, by the names that these tables have, whose initial network and
+/// initial state have these.
 pub(crate) fn problem_fault<'s>(
     alloc: Global,
     tables: &Tables<'s>,
     problem: &ProblemText<'s>,
-    literal: Option<StaticFault>,
-) -> Result<Option<StaticFault>, Memory>
-    requires parameters { HaveParameters (problem_view problem.now).htn tables.now }
-    requires literal { literal
-        ≡ least (literals_faults (known_by tables.now) sides.Problem (parameters [])
-        (problem_view problem.now).init) }
-    ensures { IfOk result
-        (λ o. o ≡ least (problem_faults_by (known_by tables.now) (problem_view problem.now))) }
+    found: Found,
+) -> Option<StaticFault>
+    requires { AreFoundAt (known_by tables.now) (problem_view problem.now) found }
+    ensures { result ≡ least (problem_faults_by (known_by tables.now) (problem_view problem.now)) }
 {
     let object = typed_fault(tables, Side::Problem, problem.objects());
-    let htn = htn_fault(alloc, tables, problem.htn())?;
     let goal = goal_fault(alloc, tables, problem.goal());
-    let front = earlier(object, htn);
-    let state = earlier(front, literal);
-    Ok(earlier(state, goal))
+    let front = earlier(object, found.top);
+    let state = earlier(front, found.init);
+    earlier(state, goal)
 }

@@ -1,14 +1,14 @@
 //! What a domain and a problem list, over numbers.
 
-ghost use Rattle.std.specs.Prelude.{◌≡◌, ◌++◌, [], length, map, option_map, All, IfOk, OnOk};
+ghost use Rattle.std.specs.Prelude.{◌≡◌, ◌++◌, [], None, length, map, option_map, IfOk, OnOk};
+ghost use Rattle.std.specs.List.{flat_map};
 ghost use Rattle.hv_text.specs.Names.{text_of};
 ghost use Rattle.hv_syntax.specs.Views.{typed_view, formula_view as said_formula, literal_view as said_literal};
 ghost use Rattle.hv_syntax.specs.DeclarationViews.{predicate_view as said_predicate, task_view as said_task, method_view as said_method, action_view as said_action};
-ghost use Rattle.hv_world.specs.Networks.{written_by, IsArrangeable};
 ghost use Rattle.hv_world.specs.Scopes.{parameters};
 ghost use Rattle.hv_world.specs.declared.fault.Side.TheVariants as sides;
 ghost use Rattle.hv_world.specs.Faults.{least};
-ghost use Rattle.hv_world.specs.StaticRules.{literals_faults};
+ghost use Rattle.hv_world.specs.StaticRules.{method_faults, action_faults, literals_faults};
 ghost use Rattle.hv_world.specs.inside.Tables.{known_by};
 ghost use Rattle.hv_world.specs.Views.{atom_view, formula_view};
 ghost use Rattle.hv_world.specs.MethodViews.{method_view};
@@ -16,12 +16,13 @@ ghost use Rattle.hv_world.specs.SectionViews.{task_view, action_view};
 ghost use Rattle.hv_world.specs.Worlds.{type_pair, object_pair, either_pairs, eithers_pairs, added, formula_in, method_in, task_by, action_in};
 
 use crate::action::Action;
-use crate::fault::Side;
+use crate::checked::Checked;
+use crate::fault::{Side, earlier};
 use crate::formula::{Atom, Formula};
 use crate::id::{ObjectId, TypeId};
 use crate::intern::formulas::formula_in;
-use crate::intern::literals::{Checked, checked_literals};
-use crate::intern::sections::{action_in, method_in, task_by};
+use crate::intern::literals::checked_literals;
+use crate::intern::sections::{checked_action, checked_method, task_by};
 use crate::intern::terms::type_of;
 use crate::method::Method;
 use crate::names::Names;
@@ -137,39 +138,69 @@ pub(crate) fn tasks_in<'s>(
     Ok(numbered)
 }
 
-/// The methods, as written.
-pub(crate) fn methods_in<'s>(
+/// The methods, as written, and their first fault. All are there unless one has a fault.
+///
+/// # Errors
+///
+/// `Memory` where a growth was refused.
+pub(crate) fn checked_methods<'s>(
     alloc: Global,
     tables: &Tables<'s>,
     methods: &[MethodText<'s>],
-) -> Result<Vec<Method<'s>>, Memory>
-    requires { All (λ m. IsArrangeable (written_by (said_method m).network)) methods.now }
-    ensures { IfOk result
-        (λ v. map method_view v.items
+) -> Result<Checked<Vec<Method<'s>>>, Memory>
+    ensures value { IfOk result
+        (λ c. c.fault ≡ None → map method_view c.value.items
         ≡ map (method_in (known_by tables.now)) (map said_method methods.now)) }
+    ensures fault { IfOk result
+        (λ c. c.fault
+        ≡ least (flat_map (method_faults (known_by tables.now) sides.Domain)
+        (map said_method methods.now))) }
 {
     let mut numbered = Vec::new(alloc);
+    let mut found = None;
     for method in methods {
-        numbered.push(method_in(alloc, tables, method)?)?;
+        let checked = checked_method(alloc, tables, method)?;
+        found = earlier(found, checked.fault);
+        let value = checked.value;
+        if let Some(method) = value {
+            numbered.push(method)?;
+        }
     }
-    Ok(numbered)
+    Ok(Checked {
+        value: numbered,
+        fault: found,
+    })
 }
 
-/// The actions, as written.
-pub(crate) fn actions_in<'s>(
+/// The actions, as written, and their first fault.
+///
+/// # Errors
+///
+/// `Memory` where a growth was refused.
+pub(crate) fn checked_actions<'s>(
     alloc: Global,
     tables: &Tables<'s>,
     actions: &[ActionText<'s>],
-) -> Result<Vec<Action<'s>>, Memory>
-    ensures { IfOk result
-        (λ v. map action_view v.items
+) -> Result<Checked<Vec<Action<'s>>>, Memory>
+    ensures value { IfOk result
+        (λ c. map action_view c.value.items
         ≡ map (action_in (known_by tables.now)) (map said_action actions.now)) }
+    ensures fault { IfOk result
+        (λ c. c.fault
+        ≡ least (flat_map (action_faults (known_by tables.now) sides.Domain)
+        (map said_action actions.now))) }
 {
     let mut numbered = Vec::new(alloc);
+    let mut found = None;
     for action in actions {
-        numbered.push(action_in(alloc, tables, action)?)?;
+        let checked = checked_action(alloc, tables, action)?;
+        found = earlier(found, checked.fault);
+        numbered.push(checked.value)?;
     }
-    Ok(numbered)
+    Ok(Checked {
+        value: numbered,
+        fault: found,
+    })
 }
 
 /// The atoms that an initial state makes true, and its first fault.

@@ -5,9 +5,14 @@ ghost use Rattle.hv_syntax.specs.Views.{typed_view, variable_view, term_view as 
 ghost use Rattle.hv_world.specs.inside.Tables.{known_by, scope_view};
 ghost use Rattle.hv_world.specs.Names.{names, number_in};
 ghost use Rattle.hv_world.specs.Eithers.{either_place};
+ghost use Rattle.hv_world.specs.Faults.{least};
+ghost use Rattle.hv_world.specs.StaticRules.{term_faults, terms_faults};
 ghost use Rattle.hv_world.specs.Views.{type_number, term_view, atom_view};
 ghost use Rattle.hv_world.specs.Worlds.{type_of, either_number, number_of_type, variable_type, types_of, term_in, terms_in, atom_in, number_of};
 
+use crate::check::terms::term_fault;
+use crate::checked::Checked;
+use crate::fault::{Side, StaticKind, earlier, fault_if};
 use crate::formula::{Atom, Term};
 use crate::id::{ObjectId, PredicateId, TypeId};
 use crate::scope::Scope;
@@ -120,6 +125,78 @@ pub(crate) fn terms_in<'s>(
         numbered.push(term_in(tables, scope, *term)?)?;
     }
     Ok(numbered)
+}
+
+/// A term and its fault.
+///
+/// # Errors
+///
+/// `Memory` where no number can say how many variables are in scope.
+pub(crate) fn checked_term<'s>(
+    tables: &Tables<'s>,
+    scope: &Scope<'_, 's>,
+    side: Side,
+    term: TermText<'s>,
+) -> Result<Checked<Term>, Memory>
+    ensures value { IfOk result
+        (λ c. term_view c.value
+        ≡ term_in (known_by tables.now) (scope_view scope.now) (said_term term.entry)) }
+    ensures fault { IfOk result
+        (λ c. c.fault
+        ≡ least (term_faults (known_by tables.now) side (scope_view scope.now)
+        (said_term term.entry))) }
+{
+    match term {
+        TermText::Constant(word) => {
+            let found = tables.object(word.name());
+            let is_known = found.is_some();
+            let number = match found {
+                Some(number) => number,
+                None => tables.objects.len(),
+            };
+            Ok(Checked {
+                value: Term::Object(ObjectId(number)),
+                fault: fault_if(!is_known, StaticKind::UnknownObject, side, word),
+            })
+        }
+        TermText::Variable(_) => Ok(Checked {
+            value: term_in(tables, scope, term)?,
+            fault: term_fault(tables, scope, side, term),
+        }),
+    }
+}
+
+/// Terms and their first fault.
+///
+/// # Errors
+///
+/// `Memory` where a growth was refused.
+pub(crate) fn checked_terms<'s>(
+    alloc: Global,
+    tables: &Tables<'s>,
+    scope: &Scope<'_, 's>,
+    side: Side,
+    terms: &[TermText<'s>],
+) -> Result<Checked<Vec<Term>>, Memory>
+    ensures value { IfOk result
+        (λ c. map term_view c.value.items
+        ≡ terms_in (known_by tables.now) (scope_view scope.now) (map said_term terms.now)) }
+    ensures fault { IfOk result
+        (λ c. c.fault
+        ≡ least (terms_faults (known_by tables.now) side (scope_view scope.now)
+        (map said_term terms.now))) }
+{
+    let mut numbered = Vec::with_capacity(alloc, terms.len())?;
+    let mut found = None;
+    for term in terms {
+        let checked = checked_term(tables, scope, side, *term)?;
+        found = earlier(found, checked.fault);
+        numbered.push(checked.value)?;
+    }
+    Ok(Checked {
+        value: numbered,
+        fault: found,
+    })
 }
 
 // The number of a predicate.

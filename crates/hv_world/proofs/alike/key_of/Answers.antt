@@ -1,7 +1,7 @@
 use Rattle.std.proofs.Common.{◌≡◌, Bool, true, false, List, length, map, Option, Some, None, option_map, sym, ap, ◌∙◌, subst}
 use Rattle.std.specs.Option.{option_copied}
 use Rattle.std.specs.HashMap.{get}
-use Rattle.hv_world.proofs.AlikeLemmas.{fixed_objects_same, fixed_has, none_at_end, lookup_same, name_test}
+use Rattle.hv_world.proofs.AlikeLemmas.{fixed_objects_same, fixed_has, none_at_end}
 use Rattle.hv_world.specs.Alike.{key_with, is_fixed, fixed_objects}
 use Rattle.hv_world.specs.inside.Kept.{RowSays, is_name, is_marked}
 use Rattle.hv_world.specs.Views.{name_view, term_view, subtask_view}
@@ -13,10 +13,9 @@ returns c = λ ss says there.
     let name = c.args.subtask.now.name in
     let xs = map term_view c.args.subtask.now.terms.items in
     let P : Option (List Bool) → Type 0 = RowSays ss (name_view name) in
-    let known : get is_name c.args.rows.now name ≡ option_copied c.get.result =
-    sym (c.get.ensures.value ∙ lookup_same _ (is_name name) (name_test name) c.args.rows.now.entries) in
-    let row : P (option_map (λ v. v.items) (option_copied c.get.result)) = subst (λ o. P (option_map (λ v. v.items) o)) known (says name) in
-    elim c.match-get.branch [
+    let known : get is_name c.args.rows.now name ≡ option_copied c.marks_of.result = sym c.marks_of.ensures in
+    let row : P (option_map (λ v. v.items) (option_copied c.marks_of.result)) = subst (λ o. P (option_map (λ v. v.items) o)) known (says name) in
+    elim c.match-marks_of.branch [
       | in-Some+in_ok-objects-in-Some w ↦
           let fixed : P (Some w.in-Some.marks.now.items) = subst (λ o. P (option_map (λ v. v.items) (option_copied o))) w.in-Some.is row in
           let marks = w.in-Some.marks.now.items in

@@ -16,7 +16,7 @@ loop-position-preserved c =
     let rest = fixed_objects f (k + 1) (map object (map object_number (drop (k + 1) ids))) in
     elim c.if-is_marked.branch [
       | then-is_marked+in_ok-push w ↦
-          ap (λ v. v.items ++ rest) w.objects-is ∙ ap (λ l. l ++ rest) w.in_ok-push.ensures.items ∙ append_assoc old (_ ∷ []) rest
+          ap (λ v. v.items ++ rest) w.objects-is ∙ ap (λ l. l ++ rest) w.in_ok-push.ensures.ok ∙ append_assoc old (_ ∷ []) rest
           ∙ ap (λ l. old ++ l) (sym (id_kept f ids k _ c.loop-position-test.true (sym c.is_marked.ensures ∙ w.if-is_marked.true))) ∙ c.loop-position.invariant
       | else-is_marked w ↦
           ap (λ v. v.items ++ rest) w.objects-is ∙ ap (λ l. old ++ l) (sym (id_passed f ids k c.loop-position-test.true (sym c.is_marked.ensures ∙ w.if-is_marked.false))) ∙ c.loop-position.invariant

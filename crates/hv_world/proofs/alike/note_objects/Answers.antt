@@ -17,28 +17,28 @@ returns c = λ ss says n.
     let old = c.args.rows.now in
     let new = c.insert.new.self in
     let P : Option (List Bool) → Type 0 = RowSays ss (name_view name) in
-    let known : get is_name old name ≡ option_copied c.get.result = sym (c.get.ensures.value ∙ lookup_same _ (is_name name) (name_test name) old.entries) in
-    let row : P (option_map (λ v. v.items) (option_copied c.get.result)) = subst (λ o. P (option_map (λ v. v.items) o)) known (says name) in
-    let after : RowSays (ss ++ s ∷ []) (name_view name) (Some c.match-get.row.items) =
-    elim c.match-get.branch [
+    let known : get is_name old name ≡ option_copied c.marks_of.result = sym c.marks_of.ensures in
+    let row : P (option_map (λ v. v.items) (option_copied c.marks_of.result)) = subst (λ o. P (option_map (λ v. v.items) o)) known (says name) in
+    let after : RowSays (ss ++ s ∷ []) (name_view name) (Some c.match-marks_of.row.items) =
+    elim c.match-marks_of.branch [
       | in-Some+else-are_kept+in_ok-row-in-Some w ↦
           let marks = w.in-Some.marks.now.items in
           let fixed : P (Some marks) = subst (λ o. P (option_map (λ v. v.items) (option_copied o))) w.in-Some.is row in
-          let items : c.match-get.row.items ≡ kept_marks xs 0 marks =
+          let items : c.match-marks_of.row.items ≡ kept_marks xs 0 marks =
           ap (λ v. v.items) w.row-is ∙ w.in_ok-row-in-Some.ensures
           ∙ ap (λ l. kept_marks (map term_view w.deref-in-Some-3.result.now) 0 l) w.deref-in-Some-2.ensures.value
           ∙ ap (λ l. kept_marks (map term_view l) 0 marks) w.deref-in-Some-3.ensures.value in
-          row_kept ss s (name_view name) marks c.match-get.row.items (same_itself (name_view name)) fixed (λ k. ap (λ l. is_marked l k) items ∙ kept_are xs marks k)
+          row_kept ss s (name_view name) marks c.match-marks_of.row.items (same_itself (name_view name)) fixed (λ k. ap (λ l. is_marked l k) items ∙ kept_are xs marks k)
       | in-None+in_ok-row-in-None w ↦
           let all : P None = subst (λ o. P (option_map (λ v. v.items) (option_copied o))) w.in-None.is row in
-          let items : c.match-get.row.items ≡ map is_object xs =
+          let items : c.match-marks_of.row.items ≡ map is_object xs =
           ap (λ v. v.items) w.row-is ∙ w.in_ok-row-in-None.ensures ∙ ap (λ l. map is_object (map term_view l)) w.deref-in-None.ensures.value in
-          row_made ss s (name_view name) c.match-get.row.items (same_itself (name_view name)) all (λ k. ap (λ l. is_marked l k) items ∙ marked_objects_are xs k)
+          row_made ss s (name_view name) c.match-marks_of.row.items (same_itself (name_view name)) all (λ k. ap (λ l. is_marked l k) items ∙ marked_objects_are xs k)
     ] in
-    let there : get is_name new n ≡ cond (is_name name n) (Some c.match-get.row) (get is_name old n) =
+    let there : get is_name new n ≡ cond (is_name name n) (Some c.match-marks_of.row) (get is_name old n) =
     sym (lookup_same _ (is_name n) (name_test n) new.entries) ∙ c.in_ok-insert.ensures.updates.0 n
-    ∙ ap (λ b. cond b (Some c.match-get.row) (get eq-value.it old n)) (name_test name n) ∙ ap (λ o. cond (is_name name n) (Some c.match-get.row) o) (lookup_same _ (is_name n) (name_test n) old.entries) in
-    subst (λ o. RowSays (ss ++ s ∷ []) (name_view n) (option_map (λ v. v.items) o)) (sym there) (row_after (λ v. v.items) ss s (name_view n) c.match-get.row (get is_name old n) after (says n))
+    ∙ ap (λ b. cond b (Some c.match-marks_of.row) (get eq-value.it old n)) (name_test name n) ∙ ap (λ o. cond (is_name name n) (Some c.match-marks_of.row) o) (lookup_same _ (is_name n) (name_test n) old.entries) in
+    subst (λ o. RowSays (ss ++ s ∷ []) (name_view n) (option_map (λ v. v.items) o)) (sym there) (row_after (λ v. v.items) ss s (name_view n) c.match-marks_of.row (get is_name old n) after (says n))
 
 pub returns-then-are_kept : goal.returns-then-are_kept
 returns-then-are_kept c = λ ss says n.
@@ -48,7 +48,7 @@ returns-then-are_kept c = λ ss says n.
     let old = c.args.rows.now in
     let row = c.in-Some.marks.now in
     let P : Option (List Bool) → Type 0 = RowSays ss (name_view name) in
-    let known : get is_name old name ≡ Some row = sym (ap option_copied (sym c.in-Some.is) ∙ c.get.ensures.value ∙ lookup_same _ (is_name name) (name_test name) old.entries) in
+    let known : get is_name old name ≡ Some row = sym (ap option_copied (sym c.in-Some.is) ∙ c.marks_of.ensures) in
     let fixed : P (Some row.items) = subst (λ o. P (option_map (λ v. v.items) o)) known (says name) in
     let kept : kept_marks xs 0 row.items ≡ row.items =
     subst (λ l. kept_marks xs 0 l ≡ l) c.deref.ensures.value

@@ -1,13 +1,21 @@
-use Rattle.std.proofs.Common.{refl, sym, subst}
+use Rattle.std.proofs.Common.{◌≡◌, [], None, refl, ap, sym, subst, ◌∙◌, map, option_map}
+use Rattle.std.specs.Prelude.{MatchOption, ◌≢◌}
+use Rattle.std.specs.List.{flat_map}
 use Rattle.hv_syntax.specs.DomainViews.{domain_view}
 use Rattle.hv_syntax.specs.ProblemViews.{problem_view}
 use Rattle.hv_world.specs.declared.build.Parts.{Parts}
+use Rattle.hv_world.specs.declared.build.Start.{Start}
+use Rattle.hv_world.specs.declared.fault.Side.TheVariants as sides
+use Rattle.hv_world.specs.Faults.{least}
+use Rattle.hv_world.specs.MethodViews.{method_view}
+use Rattle.hv_world.specs.Scopes.{parameters}
+use Rattle.hv_world.specs.StaticRules.{method_faults, htn_faults}
 use Rattle.hv_world.specs.inside.Parts.{world_of_parts}
 use Rattle.hv_world.specs.inside.Tables.{known_by}
 use Rattle.hv_world.specs.Types.{IsInRange}
-use Rattle.hv_world.specs.Worlds.{typing_by, world_by}
+use Rattle.hv_world.specs.Worlds.{typing_by, world_by, task_by, formula_in, top_in}
 use Rattle.hv_world.proofs.BuildLemmas.{world_is}
-use Rattle.hv_world.proofs.StaticLemmas.{methods_arrangeable, top_arrangeable, typing_in_range}
+use Rattle.hv_world.proofs.StaticLemmas.{methods_sound, top_sound, typing_in_range}
 use Rattle.hv_world.proofs.build.parts_in.Goals as goal
 
 pub kinds_in-requires : goal.kinds_in-requires
@@ -16,19 +24,27 @@ kinds_in-requires c =
     let p = problem_view c.args.problem.now in
     subst (λ k. IsInRange (typing_by k d p)) (sym c.requires.known) (typing_in_range d p c.requires.sound)
 
-pub sections_in-requires : goal.sections_in-requires
-sections_in-requires c = methods_arrangeable (domain_view c.args.domain.now) (problem_view c.args.problem.now) c.requires.sound
-
-pub start_in-requires : goal.start_in-requires
-start_in-requires c =
-    record { arrangeable = top_arrangeable (domain_view c.args.domain.now) (problem_view c.args.problem.now) c.requires.sound; parameters = c.requires.parameters; init = c.requires.init }
+pub unreachable-requires : goal.unreachable-requires
+unreachable-requires c =
+    let d = domain_view c.args.domain.now in
+    let p = problem_view c.args.problem.now in
+    let k = known_by c.args.tables.now in
+    let top = c.args.numbered.top in
+    let none : top.fault ≡ None = c.requires.top.top ∙ ap least (ap (λ x. htn_faults x sides.Problem p.htn) c.requires.known ∙ top_sound d p c.requires.sound) in
+    subst (λ o. MatchOption o (top.fault ≢ None) (λ m. method_view m ≡ top_in k p.htn)) c.in_default.is c.requires.numbered.top none
 
 pub returns : goal.returns
 returns c =
     let d = domain_view c.args.domain.now in
     let p = problem_view c.args.problem.now in
-    let made : Parts = record { kinds = c.in_ok-kinds.kinds; sections = c.in_ok-sections.sections; start = c.in_ok-start.start } in
-    let sections = c.in_ok-sections.ensures in
-    let start = c.in_ok-start.ensures in
-    world_is (world_of_parts c.args.tables.now made) (world_by (known_by c.args.tables.now) d p) refl refl
-    c.in_ok-kinds.ensures.typing c.in_ok-kinds.ensures.predicates sections.tasks sections.methods sections.actions start.init start.goal start.top
+    let k = known_by c.args.tables.now in
+    let numbered = c.args.numbered in
+    let start : Start = record { init = numbered.init.value; goal = c.in_ok-goal.goal; top = c.in-Some.top } in
+    let made : Parts = record { kinds = c.in_ok-kinds.kinds; tasks = c.in_ok-tasks.tasks; methods = numbered.methods.value; actions = numbered.actions.value; start = start } in
+    let sound : numbered.methods.fault ≡ None =
+    c.requires.methods.methods ∙ ap least (ap (λ x. flat_map (method_faults x sides.Domain) d.methods) c.requires.known ∙ methods_sound d p c.requires.sound) in
+    let top : method_view c.in-Some.top ≡ top_in k p.htn =
+    subst (λ o. MatchOption o (numbered.top.fault ≢ None) (λ m. method_view m ≡ top_in k p.htn)) c.in-Some.is c.requires.numbered.top in
+    world_is (world_of_parts c.args.tables.now made) (world_by k d p) refl refl c.in_ok-kinds.ensures.typing c.in_ok-kinds.ensures.predicates
+    (c.in_ok-tasks.ensures ∙ ap (map (task_by k)) c.tasks.ensures) (c.requires.numbered.methods sound) c.requires.numbered.actions c.requires.numbered.init
+    (c.in_ok-goal.ensures ∙ ap (option_map (formula_in k (parameters []))) c.goal.ensures) top

@@ -6,7 +6,7 @@ use Rattle.hv_world.specs.Bindings.{object_number}
 use Rattle.hv_world.specs.Values.{object}
 use Rattle.hv_world.specs.inside.Kept.{RowSays, is_name, is_marked, counts_in}
 use Rattle.hv_world.specs.Views.{name_view}
-use Rattle.hv_world.proofs.AlikeLemmas.{fixed_objects_same, lookup_same, name_test}
+use Rattle.hv_world.proofs.AlikeLemmas.{fixed_objects_same}
 use Rattle.hv_world.proofs.ClassLemmas.{found_in, unnamed}
 use Rattle.hv_world.proofs.alike.Classes.find.Goals as goal
 
@@ -16,8 +16,8 @@ returns c = λ ss are.
     let n = name_view name in
     let self = c.args.self.now in
     let P : Option (List Bool) → Type 0 = RowSays ss n in
-    let known : get is_name self.fixed name ≡ option_copied c.get.result = sym (c.get.ensures.value ∙ lookup_same _ (is_name name) (name_test name) self.fixed.entries) in
-    let row : P (option_map (λ v. v.items) (option_copied c.get.result)) = subst (λ o. P (option_map (λ v. v.items) o)) known (are.fixed name) in
+    let known : get is_name self.fixed name ≡ option_copied c.marks_of.result = sym c.marks_of.ensures in
+    let row : P (option_map (λ v. v.items) (option_copied c.marks_of.result)) = subst (λ o. P (option_map (λ v. v.items) o)) known (are.fixed name) in
     let marks = c.in-Some.marks.now.items in
     let fixed : P (Some marks) = subst (λ o. P (option_map (λ v. v.items) (option_copied o))) c.in-Some.is row in
     let ids = map object (map object_number c.args.ids.now) in
@@ -29,7 +29,7 @@ pub returns-in_default : goal.returns-in_default
 returns-in_default c = λ ss are.
     let name = c.args.name in
     let P : Option (List Bool) → Type 0 = RowSays ss (name_view name) in
-    let known : get is_name c.args.self.now.fixed name ≡ option_copied c.get.result = sym (c.get.ensures.value ∙ lookup_same _ (is_name name) (name_test name) c.args.self.now.fixed.entries) in
-    let row : P (option_map (λ v. v.items) (option_copied c.get.result)) = subst (λ o. P (option_map (λ v. v.items) o)) known (are.fixed name) in
+    let known : get is_name c.args.self.now.fixed name ≡ option_copied c.marks_of.result = sym c.marks_of.ensures in
+    let row : P (option_map (λ v. v.items) (option_copied c.marks_of.result)) = subst (λ o. P (option_map (λ v. v.items) o)) known (are.fixed name) in
     let all : P None = subst (λ o. P (option_map (λ v. v.items) (option_copied o))) c.in_default.is row in
     sym (unnamed ss (name_view name) (map object_number c.args.ids.now) all)

@@ -27,5 +27,5 @@ returns c =
     (c.earlier-names.ensures
     ∙ least-both duplicates constants _ _ c.in_ok-duplicate.ensures (c.typed_fault-constant.ensures ∙ ap (λ vs. least (typed_faults k s vs)) c.constants.ensures))
     (c.in_ok-task.ensures ∙ ap (λ ts. least (flat_map (λ t. variable_faults k s t.parameters) ts)) c.tasks.ensures))
-    (c.in_ok-method.ensures ∙ ap (λ ms. least (flat_map (method_faults k s) ms)) c.methods.ensures))
-    (c.in_ok-action.ensures ∙ ap (λ as'. least (flat_map (action_faults k s) as')) c.actions.ensures)
+    c.requires.found.methods)
+    c.requires.found.actions

@@ -1,4 +1,4 @@
-use Rattle.std.proofs.Common.{◌++◌, ap, ◌∙◌}
+use Rattle.std.proofs.Common.{◌++◌, [], ap, ◌∙◌}
 use Rattle.hv_syntax.specs.ProblemViews.{problem_view}
 use Rattle.hv_world.specs.declared.fault.Side.TheVariants as sides
 use Rattle.hv_world.specs.Scopes.{parameters}
@@ -7,7 +7,6 @@ use Rattle.hv_world.specs.StaticRules.{typed_faults, htn_faults, literals_faults
 use Rattle.hv_world.specs.inside.Tables.{known_by}
 use Rattle.hv_world.proofs.FaultLemmas.{least-both}
 use Rattle.hv_world.proofs.check.texts.problem_fault.Goals as goal
-use Rattle.std.proofs.Common.{[]}
 
 pub returns : goal.returns
 returns c =
@@ -21,8 +20,5 @@ returns c =
     ∙ least-both (objects ++ htn ++ init) (goal_faults k s problem.goal) _ _
     (c.earlier-state.ensures
     ∙ least-both (objects ++ htn) init _ _
-    (c.earlier-front.ensures
-    ∙ least-both objects htn _ _ (c.typed_fault-object.ensures ∙ ap (λ vs. least (typed_faults k s vs)) c.objects.ensures)
-    (c.in_ok-htn.ensures ∙ ap (λ h. least (htn_faults k s h)) c.htn.ensures))
-    c.requires.literal)
+    (c.earlier-front.ensures ∙ least-both objects htn _ _ (c.typed_fault-object.ensures ∙ ap (λ vs. least (typed_faults k s vs)) c.objects.ensures) c.requires.top) c.requires.init)
     (c.goal_fault-goal.ensures ∙ ap (λ g. least (goal_faults k s g)) c.goal.ensures)

@@ -14,9 +14,9 @@ returns-in_err-fault-clause-err c =
     let p = err_from_is_err_and r.result r.ensures.1 in
     rw p.1 (inl p.2)
 
-pub returns-in_err-init-clause-err : goal.returns-in_err-init-clause-err
-returns-in_err-init-clause-err c =
-    let r = c.from_residual-in_err-init in
+pub returns-in_err-numbered-clause-err : goal.returns-in_err-numbered-clause-err
+returns-in_err-numbered-clause-err c =
+    let r = c.from_residual-in_err-numbered in
     let p = err_from_is_err_and r.result r.ensures.1 in
     rw p.1 (inl p.2)
 
