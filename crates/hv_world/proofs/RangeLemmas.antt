@@ -9,7 +9,7 @@ use Rattle.std.proofs.lemmas.List.Kept.{AllPairs-from_increasing}
 use Rattle.hv_lists.specs.Lists.{Once}
 use Rattle.hv_lists.proofs.Options.{same_some, not_some}
 use Rattle.hv_lists.proofs.Numbers.{below_next}
-use Rattle.hv_lists.proofs.Places.{stands_at, contained_at, map_end, push_front, push_last, below_pushed}
+use Rattle.hv_lists.proofs.Places.{stands_at, map_end, push_front, push_last, below_pushed}
 use Rattle.hv_world.specs.Types.{AreBelow, object_numbers}
 use Rattle.hv_world.specs.Ranges.{range_view}
 use Rattle.hv_world.specs.declared.id.ObjectId.{ObjectId}
@@ -103,6 +103,13 @@ range_once r = by r.part refl
     by None e = once_from (range_view r) (AllPairs-from_increasing (range_view r) (r.told.0 e))
     by (Some p) e = placed_once (range_view r) p.places.now p.start (r.told.1 p e)
 
+-- an object that stands at a place is in the list
+pub at_place : (objects : List ObjectId) (object place : ℕ) (other : ObjectId) → place < length objects → other ≡ get_or objects place other → nat_eq other.0 object ≡ true
+    → Contains (object_numbers objects) object
+at_place objects object place other lt is same =
+    let long : length (object_numbers objects) ≡ length objects = length-map objects (λ (x : ObjectId). x.0) in
+    (place, omega (arith, lt, long), get_or-map (λ (x : ObjectId). x.0) objects place other object lt ∙ ap (λ (x : ObjectId). x.0) (sym is) ∙ eqb-true other.0 object same)
+
 -- an object that is looked for by its place
 pub in_part : (objects : List ObjectId) (part : Part) (object place index : ℕ) (other : ObjectId) → HasPlaces (object_numbers objects) part → slice_get part.places.now object ≡ Some place → place ≡ part.start + index
     → index < length objects → other ≡ get_or objects index other → (nat_eq other.0 object ≡ true) ↔ Contains (object_numbers objects) object
@@ -118,7 +125,7 @@ in_part objects part object place index other has at split lt is = (to, from)
     here = get_or-map (λ (x : ObjectId). x.0) objects index other 0 lt ∙ ap (λ (x : ObjectId). x.0) (sym is)
 
     to : nat_eq other.0 object ≡ true → Contains os object
-    to e = contained_at os index object (omega (arith, lt, long)) (here ∙ eqb-true other.0 object e)
+    to e = at_place objects object index other lt is e
 
     from : Contains os object → nat_eq other.0 object ≡ true
     from m =

@@ -25,11 +25,24 @@ pub struct Range<'a> {
     pub(crate) ghost told: { IsTold (object_numbers objects.now) part },
 }
 
+// Whether an object stands at the place of its number, as each does in the list of the widest type.
+fn is_at_its_number(objects: &[ObjectId], object: usize) -> bool
+    ensures { IsTrue result → Contains (object_numbers objects.now) object }
+{
+    match objects.get(object) {
+        Some(there) => there.0 == object,
+        None => false,
+    }
+}
+
 // Whether an object is in an ascending list.
 fn is_among(objects: &[ObjectId], object: usize) -> bool
     requires { IsStrictlyIncreasing (object_numbers objects.now) }
     ensures { IsTrue result ↔ Contains (object_numbers objects.now) object }
 {
+    if is_at_its_number(objects, object) {
+        return true;
+    }
     objects.binary_search_by_key(&object, |o| o.0).is_ok()
 }
 
