@@ -1,6 +1,6 @@
 //! Faults of tasks and of goals.
 
-ghost use Rattle.std.specs.Prelude.{◌≡◌, [], map, option_map, IfOk};
+ghost use Rattle.std.specs.Prelude.{◌≡◌, map, option_map, IfOk};
 ghost use Rattle.std.specs.List.{flat_map};
 ghost use Rattle.hv_syntax.specs.Views.{formula_view};
 ghost use Rattle.hv_syntax.specs.DeclarationViews.{task_view};

@@ -1,13 +1,11 @@
 //! Faults of a domain and of a problem.
 
-ghost use Rattle.std.specs.Prelude.{◌≡◌, map, IfOk};
-ghost use Rattle.hv_syntax.specs.Views.{word_view};
+ghost use Rattle.std.specs.Prelude.{◌≡◌, IfOk};
 ghost use Rattle.hv_syntax.specs.DomainViews.{domain_view};
 ghost use Rattle.hv_syntax.specs.ProblemViews.{problem_view};
 ghost use Rattle.hv_world.specs.declared.fault.StaticKind.TheVariants as kinds;
 ghost use Rattle.hv_world.specs.declared.fault.Side.TheVariants as sides;
-ghost use Rattle.hv_world.specs.Names.{repeated};
-ghost use Rattle.hv_world.specs.Faults.{faults_at, least};
+ghost use Rattle.hv_world.specs.Faults.{least};
 ghost use Rattle.hv_world.specs.StaticRules.{duplicate_faults, domain_faults_by, problem_faults_by};
 ghost use Rattle.hv_world.specs.inside.Tables.{known_by, HavePlaces};
 ghost use Rattle.hv_world.specs.inside.Numbered.{AreFoundIn, AreFoundAt};

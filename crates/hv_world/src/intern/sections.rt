@@ -1,6 +1,6 @@
 //! Tasks, and methods, actions and the initial network with their first faults, over numbers.
 
-ghost use Rattle.std.specs.Prelude.{◌≡◌, ◌≢◌, None, map, IfOk, MatchOption};
+ghost use Rattle.std.specs.Prelude.{◌≡◌, ◌≢◌, None, IfOk, MatchOption};
 ghost use Rattle.hv_syntax.specs.Values as text;
 ghost use Rattle.hv_syntax.specs.DeclarationViews.{task_view as said_task, method_view as said_method, action_view as said_action};
 ghost use Rattle.hv_syntax.specs.ProblemViews.{htn_view as said_htn};

@@ -1,5 +1,4 @@
-use Rattle.std.proofs.Common.{◌≡◌, length}
-use Rattle.std.proofs.lemmas.Result.{IfOk-weaker}
+use Rattle.std.proofs.Common.{length}
 use Rattle.hv_syntax.specs.NetworkViews.{network_view}
 use Rattle.hv_world.specs.Networks.{written_by}
 use Rattle.hv_world.specs.Orders.{written}
