@@ -1,5 +1,5 @@
 -- Where there is no static fault, the numbers of a world are those of what it has.
-use Rattle.std.proofs.Common.{◌≡◌, ℕ, suc, ◌+◌, ◌<◌, Bool, true, false, ◌||◌, List, [], ◌∷◌, length, Option, Some, None, option_map, bytes_eq, codes, if◌then◌else◌, All, refl, ap, sym, subst, ◌∙◌, arith}
+use Rattle.std.proofs.Common.{◌≡◌, ℕ, suc, ◌+◌, ◌<◌, Bool, true, false, ◌||◌, List, [], ◌∷◌, length, Option, Some, None, is_some, option_map, bytes_eq, codes, if◌then◌else◌, All, refl, ap, sym, subst, ◌∙◌, arith}
 use Rattle.std.specs.List.{slice_get}
 use Rattle.std.proofs.lemmas.List.{length-map}
 use Rattle.std.proofs.lemmas.List.Elements.{All-weaker, All-map}
@@ -13,7 +13,7 @@ use Rattle.hv_world.specs.declared.fault.StaticKind.TheVariants as kinds
 use Rattle.hv_world.specs.declared.fault.Side.{Side}
 use Rattle.hv_world.specs.Names.{is_among, names, place_in, number_or}
 use Rattle.hv_world.specs.Known.{Known, Signature, signature, signature_at, known_in, variables, predicate_words}
-use Rattle.hv_world.specs.Scopes.{Scope, outer, inside, parameters, size, variable_in, is_some, is_bound}
+use Rattle.hv_world.specs.Scopes.{Scope, outer, inside, parameters, size, variable_in, is_bound}
 use Rattle.hv_world.specs.StaticRules.{types_faults, head_faults, signature_arity, variable_types_faults, term_faults, terms_faults, atom_faults, formula_faults, all_formula_faults, effect_faults, item_faults}
 use Rattle.hv_world.specs.Worlds.{World, world_of, either_number, number_of_type, variable_type, types_of, term_in, terms_in, atom_in, formula_in, formulas_in, effect_in, effects_in, number_of}
 use Rattle.hv_world.specs.Values.{Formula, Effects}

@@ -1,14 +1,13 @@
 -- The first faults of formulas, and of the parts of sections.
-use Rattle.std.proofs.Common.{◌≡◌, ℕ, suc, ◌+◌, ◌<◌, Bool, true, false, not, ◌||◌, List, [], ◌∷◌, map, length, drop, get_or, Option, Some, None, option_map, bytes_eq, if◌then◌else◌, refl, ap, sym, subst, ◌∙◌, rules}
+use Rattle.std.proofs.Common.{◌≡◌, ℕ, suc, ◌+◌, Bool, true, false, not, ◌||◌, List, [], ◌∷◌, map, length, Option, Some, None, is_some, option_map, bytes_eq, if◌then◌else◌, refl, ap, sym, subst, ◌∙◌, rules}
 use Rattle.std.specs.Prelude.{MatchOption}
 use Rattle.hv_text.specs.declared.span.Span.{Span}
-use Rattle.std.proofs.lemmas.List.{drop_more, length-map}
+use Rattle.std.proofs.lemmas.List.{length-map}
 use Rattle.std.specs.Global.{Box}
 use Rattle.hv_syntax.specs.declared.formula.FormulaText.{FormulaText, Imply, the_lemmas}
 use Rattle.hv_syntax.specs.declared.variable.VariableText.{VariableText}
-use Rattle.hv_syntax.specs.declared.effect.ItemText.{ItemText}
-use Rattle.hv_syntax.specs.Values.{WordAt, Variable, Pair, Network, formulas_of, imply, effect}
-use Rattle.hv_syntax.specs.Views.{variable_view, formula_view, item_view}
+use Rattle.hv_syntax.specs.Values.{WordAt, Variable, Pair, Network, imply}
+use Rattle.hv_syntax.specs.Views.{variable_view, formula_view}
 use Rattle.hv_world.specs.declared.fault.Side.{Side}
 use Rattle.hv_world.specs.declared.fault.StaticFault.{StaticFault}
 use Rattle.hv_world.specs.Known.{Known, variables}
@@ -19,49 +18,31 @@ use Rattle.hv_world.specs.declared.fault.Side.TheVariants as sides
 use Rattle.hv_world.specs.Names.{is_among, place_in, repeated}
 use Rattle.hv_world.specs.Networks.{written_by}
 use Rattle.hv_world.specs.Cycles.{is_cyclic}
-use Rattle.hv_world.specs.Scopes.{Scope, outer, parameters, is_some}
+use Rattle.hv_world.specs.Scopes.{Scope, outer, inside, parameters, size, variable_in, is_bound}
 use Rattle.hv_world.specs.Faults.{fault_on, fault_if, faults_at, earlier, least, IsFirst}
-use Rattle.hv_world.specs.StaticRules.{at_word_if, formula_faults, all_formula_faults, item_faults, effect_faults, pair_faults, label_faults, order_faults}
-use Rattle.hv_world.proofs.FaultLemmas.{earlier_assoc, least-append, least-both, least-if, least_first}
+use Rattle.hv_world.specs.StaticRules.{at_word_if, formula_faults, pair_faults, label_faults, order_faults}
+use Rattle.hv_world.proofs.FaultLemmas.{least-both, least-if, least_first}
 
 pub view-Imply : (b c : Box FormulaText) → formula_view (Imply b c) ≡ imply (formula_view b.value) (formula_view c.value)
 view-Imply b c = search (rules, the_lemmas)
 
 module _ (k : Known) (s : Side) (scope : Scope) where
-  abbrev in_formulas : List FormulaText → Option StaticFault
-  in_formulas fs = least (all_formula_faults k s scope (formulas_of (map formula_view fs)))
-
-  pub formulas_next : (fs : List FormulaText) (i : ℕ) (f : FormulaText) (found this next all : Option StaticFault) → i < length fs → f ≡ get_or fs i f
-      → this ≡ least (formula_faults k s scope (formula_view f)) → next ≡ earlier found this → earlier found (in_formulas (drop i fs)) ≡ all
-      → earlier next (in_formulas (drop (i + 1) fs)) ≡ all
-  formulas_next fs i f found this next all lt is this_is next_is so_far =
-      let split : drop i fs ≡ f ∷ drop (i + 1) fs = drop_more fs i f lt ∙ ap (λ y. y ∷ drop (i + 1) fs) (sym is) in
-      let rest = all_formula_faults k s scope (formulas_of (map formula_view (drop (i + 1) fs))) in
-      ap (λ a. earlier a (least rest)) (next_is ∙ ap (earlier found) this_is)
-      ∙ earlier_assoc found (least (formula_faults k s scope (formula_view f))) (least rest)
-      ∙ ap (earlier found) (sym (least-append (formula_faults k s scope (formula_view f)) rest))
-      ∙ ap (λ ys. earlier found (in_formulas ys)) (sym split) ∙ so_far
-
-  abbrev in_items : List ItemText → Option StaticFault
-  in_items xs = least (effect_faults k s scope (effect (map item_view xs)))
-
-  pub items_next : (xs : List ItemText) (i : ℕ) (x : ItemText) (found this next all : Option StaticFault) → i < length xs → x ≡ get_or xs i x
-      → this ≡ least (item_faults k s scope (item_view x)) → next ≡ earlier found this → earlier found (in_items (drop i xs)) ≡ all
-      → earlier next (in_items (drop (i + 1) xs)) ≡ all
-  items_next xs i x found this next all lt is this_is next_is so_far =
-      let split : drop i xs ≡ x ∷ drop (i + 1) xs = drop_more xs i x lt ∙ ap (λ y. y ∷ drop (i + 1) xs) (sym is) in
-      let rest = effect_faults k s scope (effect (map item_view (drop (i + 1) xs))) in
-      ap (λ a. earlier a (least rest)) (next_is ∙ ap (earlier found) this_is)
-      ∙ earlier_assoc found (least (item_faults k s scope (item_view x))) (least rest)
-      ∙ ap (earlier found) (sym (least-append (item_faults k s scope (item_view x)) rest))
-      ∙ ap (λ ys. earlier found (in_items ys)) (sym split) ∙ so_far
-
   pub imply_fault : (f : FormulaText) (b c : Box FormulaText) (g h : FormulaText) (x y : Option StaticFault) → f ≡ Imply b c → g ≡ b.value → h ≡ c.value
       → x ≡ least (formula_faults k s scope (formula_view g)) → y ≡ least (formula_faults k s scope (formula_view h))
       → earlier x y ≡ least (formula_faults k s scope (formula_view f))
   imply_fault f b c g h x y is left right x_is y_is =
       least-both (formula_faults k s scope (formula_view b.value)) (formula_faults k s scope (formula_view c.value)) _ _ (x_is ∙ ap (λ e. least (formula_faults k s scope (formula_view e))) left) (y_is ∙ ap (λ e. least (formula_faults k s scope (formula_view e))) right)
       ∙ ap (λ e. least (formula_faults k s scope e)) (sym (view-Imply b c)) ∙ ap (λ e. least (formula_faults k s scope (formula_view e))) (sym is)
+
+-- a variable has a number just where it is in scope
+pub bound_is : (s : Scope) (n : List ℕ) → is_some (variable_in s n) ≡ is_bound s n
+bound_is (outer k number) n = refl
+bound_is (inside s ns) n = either (place_in ns n) (bound_is s n)
+  where
+    either : (o : Option ℕ) → is_some (variable_in s n) ≡ is_bound s n
+        → is_some (elim o [ None ↦ variable_in s n | Some i ↦ Some (size s + i) ]) ≡ (is_some o || is_bound s n)
+    either None rest = rest
+    either (Some i) rest = refl
 
 -- a name has a place just where it is among names
 pub has_place : (ns : List (List ℕ)) (q : List ℕ) → is_some (place_in ns q) ≡ is_among ns q

@@ -1,10 +1,13 @@
 -- Lists that are changed member by member.
 use Rattle.std.proofs.Common.{◌≡◌, ℕ, ◌+◌, ◌<◌, ◌≤◌, List, [], ◌∷◌, ◌++◌, length, map, drop, get_or, Option, All, refl, ap, sym, subst, ◌∙◌}
+use Rattle.std.specs.List.{flat_map}
 use Rattle.std.proofs.lemmas.List.{map-append, append-nil, append_assoc, drop_more, drop_all}
 use Rattle.std.proofs.lemmas.List.Elements.{All-get_or}
 use Rattle.hv_syntax.specs.Values as text
 use Rattle.hv_world.specs.Values.{Subtask, Formula, formulas_of, more_formulas, effects_of, more_effects}
+use Rattle.hv_world.specs.declared.fault.Side.{Side}
 use Rattle.hv_world.specs.Scopes.{Scope}
+use Rattle.hv_world.specs.StaticRules.{formula_faults, all_formula_faults, item_faults, effect_faults}
 use Rattle.hv_world.specs.Known.{Known}
 use Rattle.hv_world.specs.Worlds.{Network, method, formula_in, formulas_in, effect_in, effects_in}
 
@@ -32,6 +35,16 @@ each_formula_in k s (f ∷ fs) = ap (more_formulas (formula_in k s f)) (each_for
 pub each_effect_in : (k : Known) (s : Scope) (is : List text.Item) → effects_of (map (effect_in k s) is) ≡ effects_in k s (text.effect is)
 each_effect_in k s [] = refl
 each_effect_in k s (i ∷ is) = ap (more_effects (effect_in k s i)) (each_effect_in k s is)
+
+-- their faults
+module _ (k : Known) (side : Side) (s : Scope) where
+  pub each_formula_fault : (fs : List text.Formula) → flat_map (formula_faults k side s) fs ≡ all_formula_faults k side s (text.formulas_of fs)
+  each_formula_fault [] = refl
+  each_formula_fault (f ∷ fs) = ap (λ gs. formula_faults k side s f ++ gs) (each_formula_fault fs)
+
+  pub each_effect_fault : (is : List text.Item) → flat_map (item_faults k side s) is ≡ effect_faults k side s (text.effect is)
+  each_effect_fault [] = refl
+  each_effect_fault (i ∷ is) = ap (λ gs. item_faults k side s i ++ gs) (each_effect_fault is)
 
 -- methods of the same parts
 pub method_is : {n m : Option (List ℕ)} {ts us : List ℕ} {x y : Option Subtask} {f g : Formula} {w v : Network} → n ≡ m → ts ≡ us → x ≡ y → f ≡ g → w ≡ v → method n ts x f w ≡ method m us y g v

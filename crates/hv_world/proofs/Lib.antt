@@ -2,6 +2,7 @@ mod AlikeLemmas
 pub mod AlikeLaws
 mod ClassLemmas
 pub mod CheckLemmas
+pub mod CheckedLemmas
 pub mod CycleLemmas
 pub mod FaultLemmas
 pub mod InternLemmas

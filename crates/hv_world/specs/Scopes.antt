@@ -1,5 +1,5 @@
 -- The variables in scope.
-use Rattle.std.specs.Prelude.{ℕ, ◌+◌, Bool, true, false, ◌||◌, List, length, Option, Some, None}
+use Rattle.std.specs.Prelude.{ℕ, ◌+◌, Bool, ◌||◌, List, length, Option, Some, None, is_some}
 use Rattle.hv_world.specs.Names.{place_in}
 
 -- the parameters of a section, by how many there are and the number of each, or the variables of a
@@ -21,10 +21,6 @@ abbrev pub variable_in : Scope → List ℕ → Option ℕ
 variable_in (outer k number) n = number n
 variable_in (inside s ns) n =
     elim (place_in ns n) [ None ↦ variable_in s n | Some i ↦ Some (size s + i) ]
-
-abbrev pub is_some : Option ℕ → Bool
-is_some None = false
-is_some (Some i) = true
 
 -- a variable is in scope
 abbrev pub is_bound : Scope → List ℕ → Bool

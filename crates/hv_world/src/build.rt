@@ -8,7 +8,7 @@ ghost use Rattle.hv_syntax.specs.ProblemViews.{problem_view};
 ghost use Rattle.hv_world.specs.Known.{known_in, predicate_words};
 ghost use Rattle.hv_world.specs.Names.{names, place_in};
 ghost use Rattle.hv_world.specs.inside.Tables.{known_by, places_by};
-ghost use Rattle.hv_world.specs.inside.Numbered.{found_in, AreNumbered, AreFoundIn, AreFoundAt};
+ghost use Rattle.hv_world.specs.inside.Numbered.{IsOfDomain, IsOfProblem};
 ghost use Rattle.hv_world.specs.Types.{IsInRange};
 ghost use Rattle.hv_world.specs.Faults.{memory_fault};
 ghost use Rattle.hv_world.specs.StaticRules.{IsStatic, first_fault};
@@ -21,9 +21,7 @@ use crate::action::Action;
 use crate::check::first_fault;
 use crate::fault::StaticFault;
 use crate::formula::{Atom, Formula};
-use crate::intern::lists::{
-    add_eithers_pairs, add_object_pairs, goal_in, predicate_names, tasks_in, type_pairs,
-};
+use crate::intern::lists::{add_eithers_pairs, add_object_pairs, predicate_names, type_pairs};
 use crate::method::Method;
 use crate::names::Names;
 use crate::numbered::Numbered;
@@ -162,34 +160,31 @@ fn parts_in<'s>(
     requires known { known_by tables.now
         ≡ known_in (domain_view domain.now) (problem_view problem.now) }
     requires sound { IsStatic (domain_view domain.now) (problem_view problem.now) }
-    requires numbered { AreNumbered (known_by tables.now) (domain_view domain.now)
-        (problem_view problem.now) numbered }
-    requires methods { AreFoundIn (known_by tables.now) (domain_view domain.now)
-        (found_in numbered) }
-    requires top { AreFoundAt (known_by tables.now) (problem_view problem.now) (found_in numbered) }
+    requires domain { IsOfDomain (known_by tables.now) (domain_view domain.now) numbered }
+    requires problem { IsOfProblem (known_by tables.now) (problem_view problem.now) numbered }
     ensures { IfOk result
         (λ p. world_of_parts tables.now p
         ≡ world_by (known_by tables.now) (domain_view domain.now) (problem_view problem.now)) }
 {
     let kinds = kinds_in(alloc, tables, domain, problem)?;
-    let tasks = tasks_in(alloc, tables, domain.tasks())?;
-    let goal = goal_in(alloc, tables, problem.goal())?;
     let Numbered {
+        tasks,
         methods,
         actions,
         top,
         init,
+        goal,
     } = numbered;
     let value = top.value;
     let Some(top) = value else { unreachable!() };
     let start = Start {
         init: init.value,
-        goal,
+        goal: goal.value,
         top,
     };
     Ok(Parts {
         kinds,
-        tasks,
+        tasks: tasks.value,
         methods: methods.value,
         actions: actions.value,
         start,
@@ -251,7 +246,7 @@ impl<'s> World<'s> {
     {
         let tables = Tables::of(alloc, domain, problem)?;
         let numbered = Numbered::of(alloc, &tables, domain, problem)?;
-        match first_fault(alloc, &tables, domain, problem, numbered.found())? {
+        match first_fault(alloc, &tables, domain, problem, &numbered)? {
             Some(fault) => Err(fault),
             None => Ok(World::of_tables(alloc, tables, domain, problem, numbered)?),
         }
@@ -273,12 +268,8 @@ impl<'s> World<'s> {
         requires known { known_by tables
             ≡ known_in (domain_view domain.now) (problem_view problem.now) }
         requires sound { IsStatic (domain_view domain.now) (problem_view problem.now) }
-        requires numbered { AreNumbered (known_by tables) (domain_view domain.now)
-            (problem_view problem.now) numbered }
-        requires methods { AreFoundIn (known_by tables) (domain_view domain.now)
-            (found_in numbered) }
-        requires top { AreFoundAt (known_by tables) (problem_view problem.now)
-            (found_in numbered) }
+        requires domain { IsOfDomain (known_by tables) (domain_view domain.now) numbered }
+        requires problem { IsOfProblem (known_by tables) (problem_view problem.now) numbered }
         ensures { IfOk result
             (λ w. world_view w ≡ world_of (domain_view domain.now) (problem_view problem.now)) }
     {

@@ -1,30 +1,30 @@
 //! The labels of a network.
 
-ghost use Rattle.std.specs.Prelude.{◌≡◌, ℕ, List, not, map, IfOk};
+ghost use Rattle.std.specs.Prelude.{◌≡◌, ℕ, List, not, map, is_some, IfOk};
 ghost use Rattle.std.specs.List.{flat_map};
-ghost use Rattle.hv_text.specs.Names.{text_of};
+ghost use Rattle.hv_syntax.specs.Values.{Subtask};
 ghost use Rattle.hv_syntax.specs.Views.{word_view};
 ghost use Rattle.hv_syntax.specs.NetworkViews.{subtask_view, pair_view, network_view};
-ghost use Rattle.hv_world.specs.Names.{place_in};
-ghost use Rattle.hv_world.specs.Known.{Known};
-ghost use Rattle.hv_world.specs.Scopes.{is_some};
-ghost use Rattle.hv_world.specs.Networks.{labels, written_by};
+ghost use Rattle.hv_world.specs.Names.{number_or, place_in};
+ghost use Rattle.hv_world.specs.Known.{Known, at_place};
+ghost use Rattle.hv_world.specs.Networks.{labels, label_names, labelled, numbered_pair, written_by};
 ghost use Rattle.hv_world.specs.Faults.{least, fault_if};
 ghost use Rattle.hv_world.specs.declared.fault.StaticKind.TheVariants as kinds;
 ghost use Rattle.hv_world.specs.StaticRules.{pair_faults, label_faults};
 ghost use Rattle.hv_world.specs.inside.Tables.{places_by};
 ghost use Rattle.hv_world.specs.inside.LabelViews.{numbers_by, holders, AreLabels};
 
-use crate::fault::{Side, StaticFault, StaticKind, earlier, fault_if};
+use crate::checked::Checked;
+use crate::fault::{Side, StaticKind, earlier, fault_if};
 use crate::names::{Names, repeated_word};
 use hv_syntax::{NetworkText, PairText, Placed, SubtaskText};
-use hv_text::{Memory, Name};
+use hv_text::Memory;
 use std::alloc::Global;
 
-/// Which subtask has which label: the labels as they are written, the place of each among them,
-/// beside it the number of the subtask that has it, and how many subtasks there are.
+// Which subtask has which label: the labels as they are written, the place of each among them,
+// beside it the number of the subtask that has it, and how many subtasks there are.
 #[derive(Drop)]
-pub(crate) struct Labels<'s> {
+struct Labels<'s> {
     words: Vec<Placed<'s>>,
     places: Names<'s>,
     holders: Vec<usize>,
@@ -57,38 +57,9 @@ fn holders(alloc: Global, subtasks: &[SubtaskText<'_>]) -> Result<Vec<usize>, Me
     Ok(numbers)
 }
 
-// The fault of a word that is no label.
-fn unknown_label<'s>(labels: &Names<'s>, side: Side, word: Placed<'s>) -> Option<StaticFault>
-    ensures { result ≡ fault_if (not
-        (is_some (places_by labels.now (word_view word.entry).text))) kinds.UnknownLabel side
-        (word_view word.entry) }
-{
-    let is_known = labels.has(word.name());
-    fault_if(!is_known, StaticKind::UnknownLabel, side, word)
-}
-
-// The first word of pairs that is none of the names of a table.
-fn unknown_labels<'s>(labels: &Names<'s>, side: Side, pairs: &[PairText<'s>]) -> Option<StaticFault>
-    ensures { (k : Known) (ls : List (List ℕ)) → places_by labels.now ≡ place_in ls
-        → result ≡ least (flat_map (pair_faults k side ls) (map pair_view pairs.now)) }
-{
-    let mut found = None;
-    for pair in pairs {
-        let before = unknown_label(labels, side, pair.earlier());
-        let after = unknown_label(labels, side, pair.later());
-        let fault = earlier(before, after);
-        found = earlier(found, fault);
-    }
-    found
-}
-
 impl<'s> Labels<'s> {
-    /// The labels of a network.
-    ///
-    /// # Errors
-    ///
-    /// `Memory` where a growth was refused.
-    pub(crate) fn of(alloc: Global, network: &NetworkText<'s>) -> Result<Labels<'s>, Memory>
+    // The labels of a network.
+    fn of(alloc: Global, network: &NetworkText<'s>) -> Result<Labels<'s>, Memory>
         ensures { IfOk result (AreLabels (network_view network.now)) }
     {
         let subtasks = network.subtasks();
@@ -103,23 +74,28 @@ impl<'s> Labels<'s> {
         })
     }
 
-    /// The first fault of the labels of a network: one that stands twice, or a word of a pair that
-    /// is none.
-    pub(crate) fn fault(&self, side: Side, network: &NetworkText<'s>) -> Option<StaticFault>
-        requires { AreLabels (network_view network.now) self.now }
-        ensures { (k : Known) → result ≡ least (label_faults k side (network_view network.now)) }
+    // The number of the first subtask that has a label; for a label that none has, its fault and the
+    // number behind the last.
+    fn checked_number(&self, side: Side, word: Placed<'s>) -> Checked<usize>
+        ensures value { result.value ≡ numbers_by self.now (word_view word.entry).text }
+        ensures fault { result.fault
+            ≡ fault_if (not (is_some (places_by self.now.places (word_view word.entry).text)))
+            kinds.UnknownLabel side (word_view word.entry) }
     {
-        let repeated = repeated_word(&self.places, &self.words, StaticKind::DuplicateLabel, side);
-        let unknown = unknown_labels(&self.places, side, network.pairs());
-        earlier(repeated, unknown)
+        let found = self.places.place(word.name());
+        let is_label = found.is_some();
+        Checked {
+            value: self.number_at(found),
+            fault: fault_if(!is_label, StaticKind::UnknownLabel, side, word),
+        }
     }
 
-    // The number of the first subtask that has a label; for a label that none has, the number
-    // behind the last.
-    fn number(&self, label: Name<'s>) -> usize
-        ensures { result ≡ numbers_by self.now (text_of label.entry) }
+    // The number of the subtask whose label stands at a place among the labels; without a place, the
+    // number behind the last.
+    fn number_at(&self, place: Option<usize>) -> usize
+        ensures { result ≡ number_or self.now.count (at_place self.now.holders.items place) }
     {
-        match self.places.place(label) {
+        match place {
             Some(place) => match self.holders.get(place) {
                 Some(number) => *number,
                 None => self.count,
@@ -128,28 +104,69 @@ impl<'s> Labels<'s> {
         }
     }
 
-    /// The pairs of the network's ordering with the numbers of the subtasks in place of their
-    /// labels, as written; for a label that no subtask has, the number behind the last.
-    ///
-    /// # Errors
-    ///
-    /// `Memory` where a growth was refused.
-    pub(crate) fn numbered_pairs(
+    // The numbers of the two subtasks of a pair, and the first fault of its words.
+    fn checked_pair(&self, side: Side, pair: PairText<'s>) -> Checked<(usize, usize)>
+        ensures value { (xs : List Subtask) → numbers_by self.now ≡ labelled xs
+            → result.value ≡ numbered_pair xs (pair_view pair.entry) }
+        ensures fault { (k : Known) (ls : List (List ℕ))
+            → places_by self.now.places ≡ place_in ls
+            → result.fault ≡ least (pair_faults k side ls (pair_view pair.entry)) }
+    {
+        let before = self.checked_number(side, pair.earlier());
+        let after = self.checked_number(side, pair.later());
+        let fault = earlier(before.fault, after.fault);
+        Checked {
+            value: (before.value, after.value),
+            fault,
+        }
+    }
+
+    // The pairs of a network, as written, and the first fault of their words.
+    fn numbered_pairs(
         &self,
         alloc: Global,
+        side: Side,
         network: &NetworkText<'s>,
-    ) -> Result<Vec<(usize, usize)>, Memory>
+    ) -> Result<Checked<Vec<(usize, usize)>>, Memory>
         requires { AreLabels (network_view network.now) self.now }
-        ensures { IfOk result (λ v. v.items ≡ (written_by (network_view network.now)).pairs) }
+        ensures value { IfOk result
+            (λ c. c.value.items ≡ (written_by (network_view network.now)).pairs) }
+        ensures fault { IfOk result
+            (λ c. (k : Known) → c.fault
+            ≡ least (flat_map (pair_faults k side (label_names (network_view network.now).subtasks))
+            (network_view network.now).pairs)) }
     {
-        let mut pairs = Vec::new(alloc);
+        let mut pairs = Checked::with_capacity(alloc, network.pairs().len())?;
         for pair in network.pairs() {
-            let before = pair.earlier().name();
-            let after = pair.later().name();
-            let earlier = self.number(before);
-            let later = self.number(after);
-            pairs.push((earlier, later))?;
+            pairs.push(self.checked_pair(side, *pair))?;
         }
         Ok(pairs)
     }
+}
+
+/// The pairs of a network's ordering with the numbers of the subtasks in place of their labels, as
+/// written, and the first fault of its labels: one that stands twice, or a word of a pair that is
+/// none. For a label that no subtask has, the number behind the last.
+///
+/// # Errors
+///
+/// `Memory` where a growth was refused.
+pub(crate) fn checked_pairs<'s>(
+    alloc: Global,
+    side: Side,
+    network: &NetworkText<'s>,
+) -> Result<Checked<Vec<(usize, usize)>>, Memory>
+    ensures value { IfOk result
+        (λ c. c.value.items ≡ (written_by (network_view network.now)).pairs) }
+    ensures fault { IfOk result
+        (λ c. (k : Known) → c.fault ≡ least (label_faults k side (network_view network.now))) }
+{
+    let labels = Labels::of(alloc, network)?;
+    let kind = StaticKind::DuplicateLabel;
+    let repeated = repeated_word(&labels.places, &labels.words, kind, side);
+    let pairs = labels.numbered_pairs(alloc, side, network)?;
+    Ok(Checked {
+        value: pairs.value,
+        fault: earlier(repeated, pairs.fault),
+    })
 }

@@ -5,7 +5,6 @@ ghost use Rattle.hv_text.specs.Names.{text_of};
 ghost use Rattle.hv_syntax.specs.Views.{word_view, variable_view};
 ghost use Rattle.hv_world.specs.Names.{names, place_in, repeated};
 ghost use Rattle.hv_world.specs.Known.{variables, typed_words};
-ghost use Rattle.hv_world.specs.Scopes.{is_some};
 ghost use Rattle.hv_world.specs.Faults.{faults_at, least};
 ghost use Rattle.hv_world.specs.inside.Seeds.{start_from};
 ghost use Rattle.hv_world.specs.inside.Tables.{places_by, seed_of, with_place};
@@ -132,13 +131,6 @@ impl<'s> Names<'s> {
             Some(place) => Some(*place),
             None => None,
         }
-    }
-
-    /// Whether a name stands among them.
-    pub(crate) fn has(&self, name: Name<'s>) -> bool
-        ensures { result ≡ is_some (places_by self.now (text_of name.entry)) }
-    {
-        self.place(name).is_some()
     }
 }
 

@@ -1,42 +1,38 @@
-//! What is checked as it gets its numbers: the methods and actions of a domain, and the initial
-//! network and the initial state of its problem.
+//! What is checked as it gets its numbers: the tasks, methods and actions of a domain, and the
+//! initial network, the initial state and the goal of its problem.
 
-ghost use Rattle.std.specs.Prelude.{◌≡◌, IfOk};
+ghost use Rattle.std.specs.Prelude.{IfOk};
 ghost use Rattle.hv_syntax.specs.DomainViews.{domain_view};
 ghost use Rattle.hv_syntax.specs.ProblemViews.{problem_view};
-ghost use Rattle.hv_world.specs.inside.Numbered.{found_in, AreNumbered, AreFoundIn, AreFoundAt};
+ghost use Rattle.hv_world.specs.inside.Numbered.{IsOfDomain, IsOfProblem};
 ghost use Rattle.hv_world.specs.inside.Tables.{known_by, HaveParameters};
 
 use crate::action::Action;
 use crate::checked::Checked;
-use crate::fault::StaticFault;
-use crate::formula::Atom;
-use crate::intern::lists::{checked_actions, checked_methods, init_in};
+use crate::formula::{Atom, Formula};
+use crate::intern::lists::{
+    checked_actions, checked_compounds, checked_goal, checked_init, checked_methods,
+};
 use crate::intern::sections::checked_top;
 use crate::method::Method;
 use crate::tables::Tables;
+use crate::task::Task;
 use hv_syntax::{DomainText, ProblemText};
 use hv_text::Memory;
 use std::alloc::Global;
 
-/// The first faults of these parts.
-#[derive(Clone, Copy)]
-pub(crate) struct Found {
-    pub methods: Option<StaticFault>,
-    pub actions: Option<StaticFault>,
-    pub top: Option<StaticFault>,
-    pub init: Option<StaticFault>,
-}
-
 /// These parts over numbers, each with its first fault.
 #[derive(Drop)]
 pub(crate) struct Numbered<'s> {
+    /// The tasks that methods decompose.
+    pub tasks: Checked<Vec<Task<'s>>>,
     pub methods: Checked<Vec<Method<'s>>>,
     pub actions: Checked<Vec<Action<'s>>>,
     /// The initial network, as a method.
     pub top: Checked<Option<Method<'s>>>,
     /// The atoms that are true at the start.
     pub init: Checked<Vec<Atom>>,
+    pub goal: Checked<Option<Formula>>,
 }
 
 impl<'s> Numbered<'s> {
@@ -52,35 +48,23 @@ impl<'s> Numbered<'s> {
         problem: &ProblemText<'s>,
     ) -> Result<Numbered<'s>, Memory>
         requires { HaveParameters (problem_view problem.now).htn tables.now }
-        ensures parts { IfOk result
-            (AreNumbered (known_by tables.now) (domain_view domain.now)
-            (problem_view problem.now)) }
-        ensures domain { IfOk result
-            (λ n. AreFoundIn (known_by tables.now) (domain_view domain.now) (found_in n)) }
+        ensures domain { IfOk result (IsOfDomain (known_by tables.now) (domain_view domain.now)) }
         ensures problem { IfOk result
-            (λ n. AreFoundAt (known_by tables.now) (problem_view problem.now) (found_in n)) }
+            (IsOfProblem (known_by tables.now) (problem_view problem.now)) }
     {
+        let tasks = checked_compounds(alloc, tables, domain.tasks())?;
         let methods = checked_methods(alloc, tables, domain.methods())?;
         let actions = checked_actions(alloc, tables, domain.actions())?;
         let top = checked_top(alloc, tables, problem.htn())?;
-        let init = init_in(alloc, tables, problem.init())?;
+        let init = checked_init(alloc, tables, problem.init())?;
+        let goal = checked_goal(alloc, tables, problem.goal())?;
         Ok(Numbered {
+            tasks,
             methods,
             actions,
             top,
             init,
+            goal,
         })
-    }
-
-    /// Their faults.
-    pub(crate) fn found(&self) -> Found
-        ensures { result ≡ found_in self.now }
-    {
-        Found {
-            methods: self.methods.fault,
-            actions: self.actions.fault,
-            top: self.top.fault,
-            init: self.init.fault,
-        }
     }
 }

@@ -2,7 +2,7 @@
 
 ghost use Rattle.std.specs.Prelude.{◌≡◌, ◌+◌, Some, IfSome, IfOk};
 ghost use Rattle.hv_text.specs.Names.{text_of};
-ghost use Rattle.hv_world.specs.Scopes.{size, variable_in, is_bound};
+ghost use Rattle.hv_world.specs.Scopes.{size, variable_in};
 ghost use Rattle.hv_world.specs.Names.{number_or};
 ghost use Rattle.hv_world.specs.inside.Tables.{scope_view};
 
@@ -19,18 +19,6 @@ pub(crate) enum Scope<'a, 's> {
 }
 
 impl<'a, 's> Scope<'a, 's> {
-    /// Whether a variable is in scope.
-    pub(crate) fn binds(&self, name: Name<'s>) -> bool
-        ensures { result ≡ is_bound (scope_view self.now) (text_of name.entry) }
-    {
-        match *self {
-            Scope::Parameters(names, _) => names.place(name).is_some(),
-            Scope::Inside(outer, variables) => {
-                place_among(variables, name).is_some() || outer.binds(name)
-            }
-        }
-    }
-
     /// How many variables are in scope, where a number can say so.
     pub(crate) fn size(&self) -> Option<usize>
         ensures { IfSome result (λ n. n ≡ size (scope_view self.now)) }
@@ -41,25 +29,28 @@ impl<'a, 's> Scope<'a, 's> {
         }
     }
 
-    /// The number of a variable; one of the innermost quantifier hides one of its name further out.
-    /// For one that is not in scope, the number behind the last.
+    /// The number of a variable that was found in scope; of one that was not, the number behind the
+    /// last.
     ///
     /// # Errors
     ///
-    /// `Memory` where no number can say how many variables are in scope: they fill all memory.
-    pub(crate) fn variable(&self, name: Name<'s>) -> Result<usize, Memory>
-        ensures { IfOk result
-            (λ v. v ≡ number_or (size (scope_view self.now))
-            (variable_in (scope_view self.now) (text_of name.entry))) }
+    /// `Memory` where no number can say how many variables are in scope.
+    pub(crate) fn number_of(&self, found: Option<usize>) -> Result<usize, Memory>
+        ensures { IfOk result (λ v. v ≡ number_or (size (scope_view self.now)) found) }
     {
-        match self.place(name)? {
+        match found {
             Some(number) => Ok(number),
             None => self.size().ok_or(Memory),
         }
     }
 
-    // The number of a variable that is in scope.
-    fn place(&self, name: Name<'s>) -> Result<Option<usize>, Memory>
+    /// The number of a variable that is in scope; one of the innermost quantifier hides one of its
+    /// name further out.
+    ///
+    /// # Errors
+    ///
+    /// `Memory` where no number can say how many variables are in scope.
+    pub(crate) fn place(&self, name: Name<'s>) -> Result<Option<usize>, Memory>
         ensures { IfOk result (λ o. o ≡ variable_in (scope_view self.now) (text_of name.entry)) }
     {
         match *self {

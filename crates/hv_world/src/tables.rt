@@ -174,8 +174,8 @@ impl<'s> Tables<'s> {
         self.type_at(name).is_some()
     }
 
-    // The number of a type, where it is declared.
-    fn type_at(&self, name: Name<'s>) -> Option<usize>
+    /// The number of a type, where it is declared.
+    pub(crate) fn type_at(&self, name: Name<'s>) -> Option<usize>
         ensures place { result ≡ place_in (known_by self.now).types (text_of name.entry) }
         ensures known { is_some result ≡ is_among (known_by self.now).types (text_of name.entry) }
     {
@@ -224,13 +224,6 @@ impl<'s> Tables<'s> {
             Some(number) => Ok(number),
             None => Err(Memory),
         }
-    }
-
-    /// Whether a constant or an object is declared.
-    pub(crate) fn is_object(&self, name: Name<'s>) -> bool
-        ensures { result ≡ is_among (known_by self.now).objects (text_of name.entry) }
-    {
-        self.object(name).is_some()
     }
 
     /// The number of a constant or an object, where it is declared.

@@ -8,13 +8,12 @@ ghost use Rattle.hv_world.specs.declared.fault.Side.TheVariants as sides;
 ghost use Rattle.hv_world.specs.Faults.{least};
 ghost use Rattle.hv_world.specs.StaticRules.{duplicate_faults, domain_faults_by, problem_faults_by};
 ghost use Rattle.hv_world.specs.inside.Tables.{known_by, HavePlaces};
-ghost use Rattle.hv_world.specs.inside.Numbered.{AreFoundIn, AreFoundAt};
+ghost use Rattle.hv_world.specs.inside.Numbered.{IsOfDomain, IsOfProblem};
 
-use crate::check::sections::{compounds_fault, goal_fault};
 use crate::check::types::typed_fault;
 use crate::fault::{Side, StaticFault, StaticKind, earlier};
 use crate::names::{Names, repeated_word};
-use crate::numbered::Found;
+use crate::numbered::Numbered;
 use crate::tables::Tables;
 use crate::tables::words::{declared_words, method_words, predicate_words};
 use hv_syntax::{DomainText, Placed, ProblemText};
@@ -43,7 +42,7 @@ fn duplicate_fault<'s>(
     Ok(earlier(front, task))
 }
 
-/// The first fault of a domain, whose methods and actions have these.
+/// The first fault of a domain, whose tasks, methods and actions are these.
 ///
 /// # Errors
 ///
@@ -52,36 +51,33 @@ pub(crate) fn domain_fault<'s>(
     alloc: Global,
     tables: &Tables<'s>,
     domain: &DomainText<'s>,
-    found: Found,
+    numbered: &Numbered<'s>,
 ) -> Result<Option<StaticFault>, Memory>
     requires places { HavePlaces (domain_view domain.now) tables.now }
-    requires found { AreFoundIn (known_by tables.now) (domain_view domain.now) found }
+    requires numbered { IsOfDomain (known_by tables.now) (domain_view domain.now) numbered.now }
     ensures { IfOk result
         (λ o. o ≡ least (domain_faults_by (known_by tables.now) (domain_view domain.now))) }
 {
     let duplicate = duplicate_fault(alloc, tables, domain)?;
     let constant = typed_fault(tables, Side::Domain, domain.constants());
-    let task = compounds_fault(alloc, tables, domain.tasks())?;
     let names = earlier(duplicate, constant);
-    let tasks = earlier(names, task);
-    let methods = earlier(tasks, found.methods);
-    Ok(earlier(methods, found.actions))
+    let tasks = earlier(names, numbered.tasks.fault);
+    let methods = earlier(tasks, numbered.methods.fault);
+    Ok(earlier(methods, numbered.actions.fault))
 }
 
-/// The first fault of a problem, by the names that these tables have, whose initial network and
-/// initial state have these.
+/// The first fault of a problem, by the names that these tables have, whose initial network,
+/// initial state and goal are these.
 pub(crate) fn problem_fault<'s>(
-    alloc: Global,
     tables: &Tables<'s>,
     problem: &ProblemText<'s>,
-    found: Found,
+    numbered: &Numbered<'s>,
 ) -> Option<StaticFault>
-    requires { AreFoundAt (known_by tables.now) (problem_view problem.now) found }
+    requires { IsOfProblem (known_by tables.now) (problem_view problem.now) numbered.now }
     ensures { result ≡ least (problem_faults_by (known_by tables.now) (problem_view problem.now)) }
 {
     let object = typed_fault(tables, Side::Problem, problem.objects());
-    let goal = goal_fault(alloc, tables, problem.goal());
-    let front = earlier(object, found.top);
-    let state = earlier(front, found.init);
-    earlier(state, goal)
+    let front = earlier(object, numbered.top.fault);
+    let state = earlier(front, numbered.init.fault);
+    earlier(state, numbered.goal.fault)
 }

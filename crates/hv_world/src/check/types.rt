@@ -1,17 +1,14 @@
 //! Faults of typed lists.
 
 ghost use Rattle.std.specs.Prelude.{◌≡◌, map};
-ghost use Rattle.hv_syntax.specs.Views.{word_view, type_view, typed_view, variable_view};
-ghost use Rattle.hv_world.specs.Names.{place_in};
-ghost use Rattle.hv_world.specs.Known.{variables};
+ghost use Rattle.hv_syntax.specs.Views.{word_view, type_view, typed_view};
 ghost use Rattle.hv_world.specs.Faults.{least};
-ghost use Rattle.hv_world.specs.StaticRules.{type_word_faults, type_faults, typed_faults, types_faults, variable_types_faults, variable_faults};
-ghost use Rattle.hv_world.specs.inside.Tables.{known_by, places_by};
+ghost use Rattle.hv_world.specs.StaticRules.{type_word_faults, type_faults, typed_faults};
+ghost use Rattle.hv_world.specs.inside.Tables.{known_by};
 
 use crate::fault::{Side, StaticFault, StaticKind, earlier, fault_if};
-use crate::names::{Names, repeated_parameter, repeated_variable};
 use crate::tables::Tables;
-use hv_syntax::{Placed, TypeText, TypedText, VariableText};
+use hv_syntax::{Placed, TypeText, TypedText};
 
 // The fault of the name of a type.
 fn type_word_fault<'s>(tables: &Tables<'s>, side: Side, word: Placed<'s>) -> Option<StaticFault>
@@ -45,63 +42,4 @@ pub(crate) fn typed_fault<'s>(
         found = earlier(found, fault);
     }
     found
-}
-
-// The first fault among the names of a type.
-fn types_fault<'s>(tables: &Tables<'s>, side: Side, words: &[Placed<'s>]) -> Option<StaticFault>
-    ensures { result ≡ least (types_faults (known_by tables.now) side (map word_view words.now)) }
-{
-    let mut found = None;
-    for word in words {
-        let fault = type_word_fault(tables, side, *word);
-        found = earlier(found, fault);
-    }
-    found
-}
-
-// The first fault among the types of variables.
-fn variable_types_fault<'s>(
-    tables: &Tables<'s>,
-    side: Side,
-    list: &[VariableText<'s>],
-) -> Option<StaticFault>
-    ensures { result
-        ≡ least (variable_types_faults (known_by tables.now) side (map variable_view list.now)) }
-{
-    let mut found = None;
-    for variable in list {
-        let fault = types_fault(tables, side, variable.types());
-        found = earlier(found, fault);
-    }
-    found
-}
-
-/// The first fault of the variables of a quantifier or an effect.
-pub(crate) fn variable_fault<'s>(
-    tables: &Tables<'s>,
-    side: Side,
-    list: &[VariableText<'s>],
-) -> Option<StaticFault>
-    ensures { result
-        ≡ least (variable_faults (known_by tables.now) side (map variable_view list.now)) }
-{
-    let unknown = variable_types_fault(tables, side, list);
-    let repeated = repeated_variable(list, StaticKind::DuplicateVariable, side);
-    earlier(unknown, repeated)
-}
-
-/// The first fault of a list of parameters, of whose names this is the table.
-pub(crate) fn parameter_fault<'s>(
-    tables: &Tables<'s>,
-    names: &Names<'s>,
-    side: Side,
-    list: &[VariableText<'s>],
-) -> Option<StaticFault>
-    requires { places_by names.now ≡ place_in (variables (map variable_view list.now)) }
-    ensures { result
-        ≡ least (variable_faults (known_by tables.now) side (map variable_view list.now)) }
-{
-    let unknown = variable_types_fault(tables, side, list);
-    let repeated = repeated_parameter(names, list, StaticKind::DuplicateVariable, side);
-    earlier(unknown, repeated)
 }

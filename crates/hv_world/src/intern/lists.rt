@@ -8,7 +8,7 @@ ghost use Rattle.hv_syntax.specs.DeclarationViews.{predicate_view as said_predic
 ghost use Rattle.hv_world.specs.Scopes.{parameters};
 ghost use Rattle.hv_world.specs.declared.fault.Side.TheVariants as sides;
 ghost use Rattle.hv_world.specs.Faults.{least};
-ghost use Rattle.hv_world.specs.StaticRules.{method_faults, action_faults, literals_faults};
+ghost use Rattle.hv_world.specs.StaticRules.{variable_faults, method_faults, action_faults, literals_faults, goal_faults};
 ghost use Rattle.hv_world.specs.inside.Tables.{known_by};
 ghost use Rattle.hv_world.specs.Views.{atom_view, formula_view};
 ghost use Rattle.hv_world.specs.MethodViews.{method_view};
@@ -20,10 +20,10 @@ use crate::checked::Checked;
 use crate::fault::{Side, earlier};
 use crate::formula::{Atom, Formula};
 use crate::id::{ObjectId, TypeId};
-use crate::intern::formulas::formula_in;
+use crate::intern::formulas::checked_formula;
 use crate::intern::literals::checked_literals;
-use crate::intern::sections::{checked_action, checked_method, task_by};
-use crate::intern::terms::type_of;
+use crate::intern::sections::{checked_action, checked_compound, checked_method};
+use crate::intern::types::type_of;
 use crate::method::Method;
 use crate::names::Names;
 use crate::scope::Scope;
@@ -121,19 +121,27 @@ pub(crate) fn predicate_names<'s>(
     Ok(names)
 }
 
-/// The tasks, as written.
-pub(crate) fn tasks_in<'s>(
+/// The tasks that methods decompose, as written, and their first fault.
+///
+/// # Errors
+///
+/// `Memory` where a growth was refused.
+pub(crate) fn checked_compounds<'s>(
     alloc: Global,
     tables: &Tables<'s>,
     tasks: &[TaskText<'s>],
-) -> Result<Vec<Task<'s>>, Memory>
-    ensures { IfOk result
-        (λ v. map task_view v.items
+) -> Result<Checked<Vec<Task<'s>>>, Memory>
+    ensures value { IfOk result
+        (λ c. map task_view c.value.items
         ≡ map (task_by (known_by tables.now)) (map said_task tasks.now)) }
+    ensures fault { IfOk result
+        (λ c. c.fault
+        ≡ least (flat_map (λ t. variable_faults (known_by tables.now) sides.Domain t.parameters)
+        (map said_task tasks.now))) }
 {
-    let mut numbered = Vec::new(alloc);
+    let mut numbered = Checked::with_capacity(alloc, tasks.len())?;
     for task in tasks {
-        numbered.push(task_by(alloc, tables, task)?)?;
+        numbered.push(checked_compound(alloc, tables, task)?)?;
     }
     Ok(numbered)
 }
@@ -190,21 +198,19 @@ pub(crate) fn checked_actions<'s>(
         ≡ least (flat_map (action_faults (known_by tables.now) sides.Domain)
         (map said_action actions.now))) }
 {
-    let mut numbered = Vec::new(alloc);
-    let mut found = None;
+    let mut numbered = Checked::with_capacity(alloc, actions.len())?;
     for action in actions {
-        let checked = checked_action(alloc, tables, action)?;
-        found = earlier(found, checked.fault);
-        numbered.push(checked.value)?;
+        numbered.push(checked_action(alloc, tables, action)?)?;
     }
-    Ok(Checked {
-        value: numbered,
-        fault: found,
-    })
+    Ok(numbered)
 }
 
 /// The atoms that an initial state makes true, and its first fault.
-pub(crate) fn init_in<'s>(
+///
+/// # Errors
+///
+/// `Memory` where a growth was refused.
+pub(crate) fn checked_init<'s>(
     alloc: Global,
     tables: &Tables<'s>,
     literals: &[LiteralText<'s>],
@@ -222,21 +228,30 @@ pub(crate) fn init_in<'s>(
     checked_literals(alloc, tables, &scope, Side::Problem, literals)
 }
 
-/// The goal, where there is one.
-pub(crate) fn goal_in<'s>(
+/// The goal, where there is one, and its first fault: no variable is bound around it.
+///
+/// # Errors
+///
+/// `Memory` where a growth was refused.
+pub(crate) fn checked_goal<'s>(
     alloc: Global,
     tables: &Tables<'s>,
     goal: Option<&FormulaText<'s>>,
-) -> Result<Option<Formula>, Memory>
-    ensures { IfOk result
-        (λ o. option_map formula_view o
+) -> Result<Checked<Option<Formula>>, Memory>
+    ensures value { IfOk result
+        (λ c. option_map formula_view c.value
         ≡ option_map (formula_in (known_by tables.now) (parameters []))
         (option_map (λ f. said_formula f.now) goal.entry)) }
+    ensures fault { IfOk result
+        (λ c. c.fault
+        ≡ least (goal_faults (known_by tables.now) sides.Problem
+        (option_map (λ f. said_formula f.now) goal.entry))) }
 {
     let Some(goal) = goal else {
-        return Ok(None);
+        return Ok(Checked::new(None, None));
     };
     let names = Names::none(alloc);
     let scope = Scope::Parameters(&names, 0);
-    Ok(Some(formula_in(alloc, tables, &scope, goal)?))
+    let goal = checked_formula(alloc, tables, &scope, Side::Problem, goal)?;
+    Ok(Checked::new(Some(goal.value), goal.fault))
 }

@@ -1,58 +1,22 @@
-//! The atoms that literals make true, and the first fault of literals. Large problems have most of
-//! their names there, so each is looked up once for both.
+//! The atoms that literals make true, and the first fault of literals.
 
 ghost use Rattle.std.specs.Prelude.{◌≡◌, map, IfOk};
-ghost use Rattle.hv_syntax.specs.Views.{atom_view as said_atom, literal_view as said_literal};
+ghost use Rattle.hv_syntax.specs.Views.{literal_view as said_literal};
 ghost use Rattle.hv_world.specs.Faults.{least};
-ghost use Rattle.hv_world.specs.StaticRules.{atom_faults, literals_faults};
+ghost use Rattle.hv_world.specs.StaticRules.{literals_faults};
 ghost use Rattle.hv_world.specs.Views.{atom_view};
-ghost use Rattle.hv_world.specs.Worlds.{atom_in, added};
+ghost use Rattle.hv_world.specs.Worlds.{added};
 ghost use Rattle.hv_world.specs.inside.Tables.{known_by, scope_view};
 
-use crate::check::terms::head_fault;
 use crate::checked::Checked;
-use crate::fault::{Side, StaticKind, earlier};
+use crate::fault::{Side, earlier};
 use crate::formula::Atom;
-use crate::id::PredicateId;
-use crate::intern::terms::checked_terms;
+use crate::intern::terms::checked_atom;
 use crate::scope::Scope;
 use crate::tables::Tables;
-use hv_syntax::{AtomText, LiteralText};
+use hv_syntax::LiteralText;
 use hv_text::Memory;
 use std::alloc::Global;
-
-// An atom and its first fault.
-fn checked_atom<'s>(
-    alloc: Global,
-    tables: &Tables<'s>,
-    scope: &Scope<'_, 's>,
-    side: Side,
-    atom: &AtomText<'s>,
-) -> Result<Checked<Atom>, Memory>
-    ensures value { IfOk result
-        (λ c. atom_view c.value
-        ≡ atom_in (known_by tables.now) (scope_view scope.now) (said_atom atom.now)) }
-    ensures fault { IfOk result
-        (λ c. c.fault
-        ≡ least (atom_faults (known_by tables.now) side (scope_view scope.now)
-        (said_atom atom.now))) }
-{
-    let symbol = atom.symbol();
-    let (predicate, arity) = match tables.predicate(symbol.name()) {
-        Some(signature) => (signature.predicate, Some(signature.arity)),
-        None => (PredicateId(0), None),
-    };
-    let kind = StaticKind::UnknownPredicate;
-    let head = head_fault(kind, side, symbol, arity, atom.terms().len());
-    let terms = checked_terms(alloc, tables, scope, side, atom.terms())?;
-    Ok(Checked {
-        value: Atom {
-            predicate,
-            terms: terms.value,
-        },
-        fault: earlier(head, terms.fault),
-    })
-}
 
 /// The atoms of those literals that are no negations, and the first fault of all.
 ///

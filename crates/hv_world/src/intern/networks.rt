@@ -11,17 +11,15 @@ ghost use Rattle.hv_world.specs.Networks.{written_by};
 ghost use Rattle.hv_world.specs.NetworkViews.{network_view};
 ghost use Rattle.hv_world.specs.StaticRules.{arity_of_task, task_faults, subtask_faults, subtasks_faults, term_faults, constraints_faults, order_faults, network_faults};
 ghost use Rattle.hv_world.specs.inside.Tables.{known_by, scope_view, declaration_view};
-ghost use Rattle.hv_world.specs.inside.LabelViews.{AreLabels};
 ghost use Rattle.hv_world.specs.Views.{subtask_view, constraint_view};
 ghost use Rattle.hv_world.specs.Worlds.{task_in, subtasks_in, constraint_in, constraints_in, network_in};
 
-use crate::check::terms::head_fault;
 use crate::checked::Checked;
 use crate::fault::{Side, StaticFault, StaticKind, earlier};
 use crate::formula::{Constraint, Subtask};
 use crate::id::{TaskId, TaskName};
-use crate::intern::terms::{checked_term, checked_terms};
-use crate::labels::Labels;
+use crate::intern::terms::{checked_application, checked_equality};
+use crate::labels::checked_pairs;
 use crate::network::Network;
 use crate::order::Order;
 use crate::scope::Scope;
@@ -60,20 +58,18 @@ pub(crate) fn checked_task<'s>(
         ≡ least (task_faults (known_by tables.now) side (scope_view scope.now)
         (said_atom task.now))) }
 {
-    let symbol = task.symbol();
-    let (name, arity) = match tables.task(symbol.name()) {
+    let (name, arity) = match tables.task(task.symbol().name()) {
         Some(declared) => (declared.what, task_arity(&declared)),
         None => (TaskName::Compound(TaskId(0)), None),
     };
     let kind = StaticKind::UnknownTask;
-    let head = head_fault(kind, side, symbol, arity, task.terms().len());
-    let terms = checked_terms(alloc, tables, scope, side, task.terms())?;
+    let terms = checked_application(alloc, tables, scope, side, kind, arity, task)?;
     Ok(Checked {
         value: Subtask {
             name,
             terms: terms.value,
         },
-        fault: earlier(head, terms.fault),
+        fault: terms.fault,
     })
 }
 
@@ -94,20 +90,18 @@ fn checked_subtask<'s>(
         (said_subtask subtask.now))) }
 {
     let task = subtask.task();
-    let symbol = task.symbol();
-    let (name, arity) = match tables.task(symbol.name()) {
+    let (name, arity) = match tables.task(task.symbol().name()) {
         Some(declared) => (declared.what, Some(declared.arity)),
         None => (TaskName::Compound(TaskId(0)), None),
     };
     let kind = StaticKind::UnknownTask;
-    let head = head_fault(kind, side, symbol, arity, task.terms().len());
-    let terms = checked_terms(alloc, tables, scope, side, task.terms())?;
+    let terms = checked_application(alloc, tables, scope, side, kind, arity, task)?;
     Ok(Checked {
         value: Subtask {
             name,
             terms: terms.value,
         },
-        fault: earlier(head, terms.fault),
+        fault: terms.fault,
     })
 }
 
@@ -128,17 +122,11 @@ fn checked_subtasks<'s>(
         ≡ least (subtasks_faults (known_by tables.now) side (scope_view scope.now)
         (map said_subtask subtasks.now))) }
 {
-    let mut numbered = Vec::with_capacity(alloc, subtasks.len())?;
-    let mut found = None;
+    let mut numbered = Checked::with_capacity(alloc, subtasks.len())?;
     for subtask in subtasks {
-        let checked = checked_subtask(alloc, tables, scope, side, subtask)?;
-        found = earlier(found, checked.fault);
-        numbered.push(checked.value)?;
+        numbered.push(checked_subtask(alloc, tables, scope, side, subtask)?)?;
     }
-    Ok(Checked {
-        value: numbered,
-        fault: found,
-    })
+    Ok(numbered)
 }
 
 // A constraint, and its first fault.
@@ -159,16 +147,14 @@ fn checked_constraint<'s>(
         ++ term_faults (known_by tables.now) side (scope_view scope.now)
         (said_constraint constraint.entry).right)) }
 {
-    let left = checked_term(tables, scope, side, constraint.left())?;
-    let right = checked_term(tables, scope, side, constraint.right())?;
-    Ok(Checked {
-        value: Constraint {
-            is_equal: constraint.is_equal(),
-            left: left.value,
-            right: right.value,
-        },
-        fault: earlier(left.fault, right.fault),
-    })
+    let both = checked_equality(tables, scope, side, constraint.left(), constraint.right())?;
+    let (left, right) = both.value;
+    let constraint = Constraint {
+        is_equal: constraint.is_equal(),
+        left,
+        right,
+    };
+    Ok(Checked::new(constraint, both.fault))
 }
 
 // The constraints of a network, and their first fault.
@@ -188,27 +174,22 @@ fn checked_constraints<'s>(
         ≡ least (constraints_faults (known_by tables.now) side (scope_view scope.now)
         (map said_constraint constraints.now))) }
 {
-    let mut numbered = Vec::new(alloc);
-    let mut found = None;
+    let mut numbered = Checked::with_capacity(alloc, constraints.len())?;
     for constraint in constraints {
-        let checked = checked_constraint(tables, scope, side, *constraint)?;
-        found = earlier(found, checked.fault);
-        numbered.push(checked.value)?;
+        numbered.push(checked_constraint(tables, scope, side, *constraint)?)?;
     }
-    Ok(Checked {
-        value: numbered,
-        fault: found,
-    })
+    Ok(numbered)
 }
 
-// The order of a network whose pairs name subtasks; none where a subtask comes before itself.
-fn order_of<'s>(
+// The order of a network of which these are the pairs, each of two subtasks; none where a subtask
+// comes before itself.
+fn order_of(
     alloc: Global,
-    labels: &Labels<'s>,
-    network: &NetworkText<'s>,
+    network: &NetworkText<'_>,
+    pairs: Vec<(usize, usize)>,
 ) -> Result<Option<Order>, Memory>
-    requires labels { AreLabels (said_network network.now) labels.now }
-    requires pairs { All
+    requires pairs { pairs.items ≡ (written_by (said_network network.now)).pairs }
+    requires within { All
         (λ p. (p.0 < (written_by (said_network network.now)).len)
         × (p.1 < (written_by (said_network network.now)).len))
         (written_by (said_network network.now)).pairs }
@@ -217,7 +198,6 @@ fn order_of<'s>(
         (λ order. (order ≡ written_by (said_network network.now))
         × (is_cyclic (written_by (said_network network.now)) ≡ false))) }
 {
-    let pairs = labels.numbered_pairs(alloc, network)?;
     let order = Order::new(alloc, network.subtasks().len(), network.is_ordered(), pairs)?;
     Ok(order)
 }
@@ -237,15 +217,16 @@ fn checked_order(
         (λ c. (k : Known)
         → c.fault ≡ least (order_faults k side span (said_network network.now))) }
 {
-    let labels = Labels::of(alloc, network)?;
-    if let Some(fault) = labels.fault(side, network) {
+    let pairs = checked_pairs(alloc, side, network)?;
+    let found = pairs.fault;
+    if let Some(fault) = found {
         return Ok(Checked {
             value: None,
             fault: Some(fault),
         });
     }
     let kind = StaticKind::CyclicOrdering;
-    match order_of(alloc, &labels, network)? {
+    match order_of(alloc, network, pairs.value)? {
         Some(order) => Ok(Checked {
             value: Some(order),
             fault: None,

@@ -1,138 +1,69 @@
-//! Terms, atoms and types over numbers.
+//! Terms and atoms over numbers, each with its first fault.
 
-ghost use Rattle.std.specs.Prelude.{◌≡◌, map, codes, IfOk};
-ghost use Rattle.hv_syntax.specs.Views.{typed_view, variable_view, term_view as said_term, atom_view as said_atom, word_view};
-ghost use Rattle.hv_world.specs.inside.Tables.{known_by, scope_view};
-ghost use Rattle.hv_world.specs.Names.{names, number_in};
-ghost use Rattle.hv_world.specs.Eithers.{either_place};
+ghost use Rattle.std.specs.Prelude.{◌≡◌, ◌++◌, length, map, IfOk};
+ghost use Rattle.hv_syntax.specs.Values.{constant, variable};
+ghost use Rattle.hv_syntax.specs.Views.{word_view, term_view as said_term, atom_view as said_atom};
 ghost use Rattle.hv_world.specs.Faults.{least};
-ghost use Rattle.hv_world.specs.StaticRules.{term_faults, terms_faults};
-ghost use Rattle.hv_world.specs.Views.{type_number, term_view, atom_view};
-ghost use Rattle.hv_world.specs.Worlds.{type_of, either_number, number_of_type, variable_type, types_of, term_in, terms_in, atom_in, number_of};
+ghost use Rattle.hv_world.specs.Known.{Known};
+ghost use Rattle.hv_world.specs.Scopes as scopes;
+ghost use Rattle.hv_world.specs.StaticRules.{head_faults, term_faults, terms_faults, atom_faults};
+ghost use Rattle.hv_world.specs.Views.{term_view, atom_view};
+ghost use Rattle.hv_world.specs.Worlds.{term_in, terms_in, atom_in};
+ghost use Rattle.hv_world.specs.inside.Tables.{known_by, scope_view};
 
-use crate::check::terms::term_fault;
 use crate::checked::Checked;
-use crate::fault::{Side, StaticKind, earlier, fault_if};
+use crate::fault::{Side, StaticFault, StaticKind, earlier, fault_if};
 use crate::formula::{Atom, Term};
-use crate::id::{ObjectId, PredicateId, TypeId};
+use crate::id::{ObjectId, PredicateId};
 use crate::scope::Scope;
 use crate::tables::Tables;
-use crate::tables::gather::names_of;
-use hv_syntax::{AtomText, Placed, TermText, TypeText, TypedText, VariableText};
-use hv_text::{Memory, Name};
+use hv_syntax::{AtomText, Placed, TermText};
+use hv_text::Memory;
 use std::alloc::Global;
 
-// The number of the type `object`.
-fn object_type(tables: &Tables<'_>) -> usize
-    ensures { result ≡ number_in (known_by tables.now).types (codes "object") }
+// The object that a word names, and the fault of one that is none.
+fn checked_object<'s>(tables: &Tables<'s>, side: Side, word: Placed<'s>) -> Checked<Term>
+    ensures value { (s : scopes.Scope) → term_view result.value
+        ≡ term_in (known_by tables.now) s (constant (word_view word.entry)) }
+    ensures fault { (s : scopes.Scope) → result.fault
+        ≡ least (term_faults (known_by tables.now) side s (constant (word_view word.entry))) }
 {
-    match Name::new(b"object") {
-        Some(name) => tables.type_number(name),
-        None => unreachable!(),
+    let found = tables.object(word.name());
+    let is_known = found.is_some();
+    let number = match found {
+        Some(number) => number,
+        None => tables.objects.len(),
+    };
+    Checked {
+        value: Term::Object(ObjectId(number)),
+        fault: fault_if(!is_known, StaticKind::UnknownObject, side, word),
     }
 }
 
-/// The number of the type of a name.
-pub(crate) fn type_of<'s>(tables: &Tables<'s>, typed: TypedText<'s>) -> TypeId
-    ensures { type_number result ≡ type_of (known_by tables.now) (typed_view typed.entry) }
-{
-    match typed.of() {
-        TypeText::Object => TypeId(object_type(tables)),
-        TypeText::Named(word) => TypeId(tables.type_number(word.name())),
-    }
-}
-
-// The number of the type that several names make; of `object` where they make none.
-fn either_of<'s>(alloc: Global, tables: &Tables<'s>, words: &[Placed<'s>]) -> Result<TypeId, Memory>
-    ensures { IfOk result
-        (λ t. type_number t
-        ≡ either_number (known_by tables.now)
-        (either_place (known_by tables.now).eithers (names (map word_view words.now)))) }
-{
-    let list = names_of(alloc, words)?;
-    match tables.either_place(&list) {
-        Some(place) => Ok(TypeId(tables.number_past(place)?)),
-        None => Ok(TypeId(0)),
-    }
-}
-
-// The number of the type of a variable.
-fn variable_type<'s>(
-    alloc: Global,
-    tables: &Tables<'s>,
-    variable: &VariableText<'s>,
-) -> Result<TypeId, Memory>
-    ensures { IfOk result
-        (λ t. type_number t ≡ variable_type (known_by tables.now) (variable_view variable.now)) }
-{
-    match variable.types() {
-        [] => Ok(TypeId(0)),
-        [word] => Ok(TypeId(tables.type_number(word.name()))),
-        words => either_of(alloc, tables, words),
-    }
-}
-
-/// The numbers of the types of variables.
-pub(crate) fn types_of<'s>(
-    alloc: Global,
-    tables: &Tables<'s>,
-    list: &[VariableText<'s>],
-) -> Result<Vec<TypeId>, Memory>
-    ensures { IfOk result
-        (λ v. map type_number v.items
-        ≡ types_of (known_by tables.now) (map variable_view list.now)) }
-{
-    let mut types = Vec::new(alloc);
-    for variable in list {
-        types.push(variable_type(alloc, tables, variable)?)?;
-    }
-    Ok(types)
-}
-
-/// A term over numbers.
-///
-/// # Errors
-///
-/// `Memory` where no number can say how many variables are in scope.
-pub(crate) fn term_in<'s>(
-    tables: &Tables<'s>,
+// The variable that a word names, and the fault of one that is not in scope.
+fn checked_variable<'s>(
     scope: &Scope<'_, 's>,
-    term: TermText<'s>,
-) -> Result<Term, Memory>
-    ensures { IfOk result
-        (λ x. term_view x
-        ≡ term_in (known_by tables.now) (scope_view scope.now) (said_term term.entry)) }
+    side: Side,
+    word: Placed<'s>,
+) -> Result<Checked<Term>, Memory>
+    ensures value { IfOk result
+        (λ c. (k : Known) → term_view c.value
+        ≡ term_in k (scope_view scope.now) (variable (word_view word.entry))) }
+    ensures fault { IfOk result
+        (λ c. (k : Known) → c.fault
+        ≡ least (term_faults k side (scope_view scope.now) (variable (word_view word.entry)))) }
 {
-    match term {
-        TermText::Constant(word) => Ok(Term::Object(ObjectId(tables.object_number(word.name())))),
-        TermText::Variable(word) => Ok(Term::Variable(scope.variable(word.name())?)),
-    }
+    let found = scope.place(word.name())?;
+    let is_bound = found.is_some();
+    let number = scope.number_of(found)?;
+    Ok(Checked {
+        value: Term::Variable(number),
+        fault: fault_if(!is_bound, StaticKind::UnboundVariable, side, word),
+    })
 }
 
-/// Terms over numbers.
-pub(crate) fn terms_in<'s>(
-    alloc: Global,
-    tables: &Tables<'s>,
-    scope: &Scope<'_, 's>,
-    terms: &[TermText<'s>],
-) -> Result<Vec<Term>, Memory>
-    ensures { IfOk result
-        (λ v. map term_view v.items
-        ≡ terms_in (known_by tables.now) (scope_view scope.now) (map said_term terms.now)) }
-{
-    let mut numbered = Vec::with_capacity(alloc, terms.len())?;
-    for term in terms {
-        numbered.push(term_in(tables, scope, *term)?)?;
-    }
-    Ok(numbered)
-}
-
-/// A term and its fault.
-///
-/// # Errors
-///
-/// `Memory` where no number can say how many variables are in scope.
-pub(crate) fn checked_term<'s>(
+// A term and its fault.
+fn checked_term<'s>(
     tables: &Tables<'s>,
     scope: &Scope<'_, 's>,
     side: Side,
@@ -147,31 +78,46 @@ pub(crate) fn checked_term<'s>(
         (said_term term.entry))) }
 {
     match term {
-        TermText::Constant(word) => {
-            let found = tables.object(word.name());
-            let is_known = found.is_some();
-            let number = match found {
-                Some(number) => number,
-                None => tables.objects.len(),
-            };
-            Ok(Checked {
-                value: Term::Object(ObjectId(number)),
-                fault: fault_if(!is_known, StaticKind::UnknownObject, side, word),
-            })
-        }
-        TermText::Variable(_) => Ok(Checked {
-            value: term_in(tables, scope, term)?,
-            fault: term_fault(tables, scope, side, term),
-        }),
+        TermText::Constant(word) => Ok(checked_object(tables, side, word)),
+        TermText::Variable(word) => checked_variable(scope, side, word),
     }
 }
 
-/// Terms and their first fault.
+/// Two terms that are compared, and their first fault.
 ///
 /// # Errors
 ///
-/// `Memory` where a growth was refused.
-pub(crate) fn checked_terms<'s>(
+/// `Memory` where no number can say how many variables are in scope.
+pub(crate) fn checked_equality<'s>(
+    tables: &Tables<'s>,
+    scope: &Scope<'_, 's>,
+    side: Side,
+    left: TermText<'s>,
+    right: TermText<'s>,
+) -> Result<Checked<(Term, Term)>, Memory>
+    ensures left { IfOk result
+        (λ c. term_view c.value.0
+        ≡ term_in (known_by tables.now) (scope_view scope.now) (said_term left.entry)) }
+    ensures right { IfOk result
+        (λ c. term_view c.value.1
+        ≡ term_in (known_by tables.now) (scope_view scope.now) (said_term right.entry)) }
+    ensures fault { IfOk result
+        (λ c. c.fault
+        ≡ least (term_faults (known_by tables.now) side (scope_view scope.now)
+        (said_term left.entry)
+        ++ term_faults (known_by tables.now) side (scope_view scope.now)
+        (said_term right.entry))) }
+{
+    let left = checked_term(tables, scope, side, left)?;
+    let right = checked_term(tables, scope, side, right)?;
+    Ok(Checked {
+        value: (left.value, right.value),
+        fault: earlier(left.fault, right.fault),
+    })
+}
+
+// Terms and their first fault.
+fn checked_terms<'s>(
     alloc: Global,
     tables: &Tables<'s>,
     scope: &Scope<'_, 's>,
@@ -186,41 +132,96 @@ pub(crate) fn checked_terms<'s>(
         ≡ least (terms_faults (known_by tables.now) side (scope_view scope.now)
         (map said_term terms.now))) }
 {
-    let mut numbered = Vec::with_capacity(alloc, terms.len())?;
-    let mut found = None;
+    let mut numbered = Checked::with_capacity(alloc, terms.len())?;
     for term in terms {
-        let checked = checked_term(tables, scope, side, *term)?;
-        found = earlier(found, checked.fault);
-        numbered.push(checked.value)?;
+        numbered.push(checked_term(tables, scope, side, *term)?)?;
     }
-    Ok(Checked {
-        value: numbered,
-        fault: found,
-    })
+    Ok(numbered)
 }
 
-// The number of a predicate.
-fn predicate_of<'s>(tables: &Tables<'s>, symbol: Placed<'s>) -> PredicateId
-    ensures { result.0 ≡ number_of ((known_by tables.now).predicate (word_view symbol.entry).text) }
+// The fault of a name that takes this number of terms where it is known, and has that number.
+fn head_fault(
+    kind: StaticKind,
+    side: Side,
+    word: Placed<'_>,
+    arity: Option<usize>,
+    count: usize,
+) -> Option<StaticFault>
+    ensures { result ≡ least (head_faults kind side (word_view word.entry) arity count) }
 {
-    match tables.predicate(symbol.name()) {
-        Some(signature) => signature.predicate,
-        None => PredicateId(0),
+    match arity {
+        None => fault_if(true, kind, side, word),
+        Some(arity) => {
+            let is_met = arity == count;
+            fault_if(!is_met, StaticKind::Arity, side, word)
+        }
     }
 }
 
-/// An atom over numbers.
-pub(crate) fn atom_in<'s>(
+/// The terms of a name that takes this number of terms where it is known, and the first fault of
+/// both.
+///
+/// # Errors
+///
+/// `Memory` where a growth was refused.
+pub(crate) fn checked_application<'s>(
     alloc: Global,
     tables: &Tables<'s>,
     scope: &Scope<'_, 's>,
+    side: Side,
+    kind: StaticKind,
+    arity: Option<usize>,
     atom: &AtomText<'s>,
-) -> Result<Atom, Memory>
-    ensures { IfOk result
-        (λ a. atom_view a
-        ≡ atom_in (known_by tables.now) (scope_view scope.now) (said_atom atom.now)) }
+) -> Result<Checked<Vec<Term>>, Memory>
+    ensures value { IfOk result
+        (λ c. map term_view c.value.items
+        ≡ terms_in (known_by tables.now) (scope_view scope.now) (said_atom atom.now).terms) }
+    ensures fault { IfOk result
+        (λ c. c.fault
+        ≡ least (head_faults kind side (said_atom atom.now).symbol arity
+        (length (said_atom atom.now).terms)
+        ++ terms_faults (known_by tables.now) side (scope_view scope.now)
+        (said_atom atom.now).terms)) }
 {
-    let predicate = predicate_of(tables, atom.symbol());
-    let terms = terms_in(alloc, tables, scope, atom.terms())?;
-    Ok(Atom { predicate, terms })
+    let head = head_fault(kind, side, atom.symbol(), arity, atom.terms().len());
+    let terms = checked_terms(alloc, tables, scope, side, atom.terms())?;
+    Ok(Checked {
+        value: terms.value,
+        fault: earlier(head, terms.fault),
+    })
+}
+
+/// An atom and its first fault.
+///
+/// # Errors
+///
+/// `Memory` where a growth was refused.
+pub(crate) fn checked_atom<'s>(
+    alloc: Global,
+    tables: &Tables<'s>,
+    scope: &Scope<'_, 's>,
+    side: Side,
+    atom: &AtomText<'s>,
+) -> Result<Checked<Atom>, Memory>
+    ensures value { IfOk result
+        (λ c. atom_view c.value
+        ≡ atom_in (known_by tables.now) (scope_view scope.now) (said_atom atom.now)) }
+    ensures fault { IfOk result
+        (λ c. c.fault
+        ≡ least (atom_faults (known_by tables.now) side (scope_view scope.now)
+        (said_atom atom.now))) }
+{
+    let (predicate, arity) = match tables.predicate(atom.symbol().name()) {
+        Some(signature) => (signature.predicate, Some(signature.arity)),
+        None => (PredicateId(0), None),
+    };
+    let kind = StaticKind::UnknownPredicate;
+    let terms = checked_application(alloc, tables, scope, side, kind, arity, atom)?;
+    Ok(Checked {
+        value: Atom {
+            predicate,
+            terms: terms.value,
+        },
+        fault: terms.fault,
+    })
 }

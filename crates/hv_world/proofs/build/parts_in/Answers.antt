@@ -1,4 +1,4 @@
-use Rattle.std.proofs.Common.{◌≡◌, [], None, refl, ap, sym, subst, ◌∙◌, map, option_map}
+use Rattle.std.proofs.Common.{◌≡◌, None, refl, ap, sym, subst, ◌∙◌}
 use Rattle.std.specs.Prelude.{MatchOption, ◌≢◌}
 use Rattle.std.specs.List.{flat_map}
 use Rattle.hv_syntax.specs.DomainViews.{domain_view}
@@ -8,12 +8,11 @@ use Rattle.hv_world.specs.declared.build.Start.{Start}
 use Rattle.hv_world.specs.declared.fault.Side.TheVariants as sides
 use Rattle.hv_world.specs.Faults.{least}
 use Rattle.hv_world.specs.MethodViews.{method_view}
-use Rattle.hv_world.specs.Scopes.{parameters}
 use Rattle.hv_world.specs.StaticRules.{method_faults, htn_faults}
 use Rattle.hv_world.specs.inside.Parts.{world_of_parts}
 use Rattle.hv_world.specs.inside.Tables.{known_by}
 use Rattle.hv_world.specs.Types.{IsInRange}
-use Rattle.hv_world.specs.Worlds.{typing_by, world_by, task_by, formula_in, top_in}
+use Rattle.hv_world.specs.Worlds.{typing_by, world_by, top_in}
 use Rattle.hv_world.proofs.BuildLemmas.{world_is}
 use Rattle.hv_world.proofs.StaticLemmas.{methods_sound, top_sound, typing_in_range}
 use Rattle.hv_world.proofs.build.parts_in.Goals as goal
@@ -30,8 +29,8 @@ unreachable-requires c =
     let p = problem_view c.args.problem.now in
     let k = known_by c.args.tables.now in
     let top = c.args.numbered.top in
-    let none : top.fault ≡ None = c.requires.top.top ∙ ap least (ap (λ x. htn_faults x sides.Problem p.htn) c.requires.known ∙ top_sound d p c.requires.sound) in
-    subst (λ o. MatchOption o (top.fault ≢ None) (λ m. method_view m ≡ top_in k p.htn)) c.in_default.is c.requires.numbered.top none
+    let none : top.fault ≡ None = c.requires.problem.top_fault ∙ ap least (ap (λ x. htn_faults x sides.Problem p.htn) c.requires.known ∙ top_sound d p c.requires.sound) in
+    subst (λ o. MatchOption o (top.fault ≢ None) (λ m. method_view m ≡ top_in k p.htn)) c.in_default.is c.requires.problem.top none
 
 pub returns : goal.returns
 returns c =
@@ -39,12 +38,12 @@ returns c =
     let p = problem_view c.args.problem.now in
     let k = known_by c.args.tables.now in
     let numbered = c.args.numbered in
-    let start : Start = record { init = numbered.init.value; goal = c.in_ok-goal.goal; top = c.in-Some.top } in
-    let made : Parts = record { kinds = c.in_ok-kinds.kinds; tasks = c.in_ok-tasks.tasks; methods = numbered.methods.value; actions = numbered.actions.value; start = start } in
+    let start : Start = record { init = numbered.init.value; goal = numbered.goal.value; top = c.in-Some.top } in
+    let made : Parts = record { kinds = c.in_ok-kinds.kinds; tasks = numbered.tasks.value; methods = numbered.methods.value; actions = numbered.actions.value; start = start } in
     let sound : numbered.methods.fault ≡ None =
-    c.requires.methods.methods ∙ ap least (ap (λ x. flat_map (method_faults x sides.Domain) d.methods) c.requires.known ∙ methods_sound d p c.requires.sound) in
+    c.requires.domain.methods_fault ∙ ap least (ap (λ x. flat_map (method_faults x sides.Domain) d.methods) c.requires.known ∙ methods_sound d p c.requires.sound) in
     let top : method_view c.in-Some.top ≡ top_in k p.htn =
-    subst (λ o. MatchOption o (numbered.top.fault ≢ None) (λ m. method_view m ≡ top_in k p.htn)) c.in-Some.is c.requires.numbered.top in
+    subst (λ o. MatchOption o (numbered.top.fault ≢ None) (λ m. method_view m ≡ top_in k p.htn)) c.in-Some.is c.requires.problem.top in
     world_is (world_of_parts c.args.tables.now made) (world_by k d p) refl refl c.in_ok-kinds.ensures.typing c.in_ok-kinds.ensures.predicates
-    (c.in_ok-tasks.ensures ∙ ap (map (task_by k)) c.tasks.ensures) (c.requires.numbered.methods sound) c.requires.numbered.actions c.requires.numbered.init
-    (c.in_ok-goal.ensures ∙ ap (option_map (formula_in k (parameters []))) c.goal.ensures) top
+    c.requires.domain.tasks (c.requires.domain.methods sound) c.requires.domain.actions c.requires.problem.init
+    c.requires.problem.goal top

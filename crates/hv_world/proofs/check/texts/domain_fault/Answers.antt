@@ -26,6 +26,6 @@ returns c =
     ∙ least-both (duplicates ++ constants) tasks _ _
     (c.earlier-names.ensures
     ∙ least-both duplicates constants _ _ c.in_ok-duplicate.ensures (c.typed_fault-constant.ensures ∙ ap (λ vs. least (typed_faults k s vs)) c.constants.ensures))
-    (c.in_ok-task.ensures ∙ ap (λ ts. least (flat_map (λ t. variable_faults k s t.parameters) ts)) c.tasks.ensures))
-    c.requires.found.methods)
-    c.requires.found.actions
+    c.requires.numbered.tasks_fault)
+    c.requires.numbered.methods_fault)
+    c.requires.numbered.actions_fault

@@ -20,5 +20,5 @@ returns c =
     ∙ least-both (objects ++ htn ++ init) (goal_faults k s problem.goal) _ _
     (c.earlier-state.ensures
     ∙ least-both (objects ++ htn) init _ _
-    (c.earlier-front.ensures ∙ least-both objects htn _ _ (c.typed_fault-object.ensures ∙ ap (λ vs. least (typed_faults k s vs)) c.objects.ensures) c.requires.top) c.requires.init)
-    (c.goal_fault-goal.ensures ∙ ap (λ g. least (goal_faults k s g)) c.goal.ensures)
+    (c.earlier-front.ensures ∙ least-both objects htn _ _ (c.typed_fault-object.ensures ∙ ap (λ vs. least (typed_faults k s vs)) c.objects.ensures) c.requires.top_fault) c.requires.init_fault)
+    c.requires.goal_fault

@@ -5,17 +5,13 @@ use Rattle.hv_world.specs.SectionViews.{action_view}
 use Rattle.hv_world.specs.StaticRules.{action_faults}
 use Rattle.hv_world.specs.Worlds.{action_in}
 use Rattle.hv_world.specs.inside.Tables.{known_by}
-use Rattle.hv_world.proofs.FaultLemmas.{faults_next}
-use Rattle.hv_world.proofs.LiteralLemmas.{value_more}
+use Rattle.hv_world.proofs.CheckedLemmas.{one_more}
 use Rattle.hv_world.proofs.intern.lists.checked_actions.Goals as goal
 
 pub loop-action-preserved : goal.loop-action-preserved
 loop-action-preserved c =
     let l = c.loop-action in
     let a = c.args in
-    let k = known_by a.tables.now in (
-      value_more a.actions.now l.action-index c.action-item.result (omega arith) c.action-item.is said_action (action_in k) action_view
-          l.numbered.items c.push.new.self.items c.in_ok-checked.checked.value _ l.invariant.0 c.in_ok-push.ensures.items c.in_ok-checked.ensures.value,
-      faults_next said_action (action_faults k sides.Domain) a.actions.now l.action-index c.action-item.result l.found c.in_ok-checked.checked.fault
-          c.earlier-found.result _ (omega arith) c.action-item.is c.in_ok-checked.ensures.fault c.earlier-found.ensures l.invariant.1,
-    )
+    let k = known_by a.tables.now in
+    one_more said_action (action_in k) action_view (action_faults k sides.Domain) a.actions.now l.action-index c.action-item.result l.numbered.value.items c.push.new.self.value.items c.in_ok-checked_action.field-0.value l.numbered.fault c.in_ok-checked_action.field-0.fault c.push.new.self.fault
+    l.invariant (omega arith) c.action-item.is c.in_ok-checked_action.ensures.value c.in_ok-checked_action.ensures.fault c.in_ok-push.ensures.value c.in_ok-push.ensures.fault

@@ -9,6 +9,6 @@ pub returns : goal.returns
 returns c =
     let network = network_view c.args.network.now in
     let subtasks = c.subtasks.result.now in
-    let pairs = c.in_ok-pairs.pairs.items in
+    let pairs = c.args.pairs.items in
     order_is (written (length subtasks) c.is_ordered.result pairs) (written_by network) c.in_ok-order.order
-    (written_is subtasks c.is_ordered.result pairs network c.subtasks.ensures c.is_ordered.ensures c.in_ok-pairs.ensures) c.requires.pairs c.in_ok-order.ensures
+    (written_is subtasks c.is_ordered.result pairs network c.subtasks.ensures c.is_ordered.ensures c.requires.pairs) c.requires.within c.in_ok-order.ensures

@@ -18,6 +18,7 @@ returns-clause-fault c =
     let bound = scope_is list.result.now action.parameters c.in_ok-names.names list.ensures c.in_ok-names.ensures.places in
     let scope = outer (length list.result.now) (places_by c.in_ok-names.names) in
     let effect = c.items.ensures ∙ c.effect.ensures in
-    of_action k s action scope bound _ _ _ _ _ (c.parameter_fault-own.ensures ∙ ap (λ vs. least (variable_faults k s vs)) list.ensures)
-    (c.formula_fault-precondition.ensures ∙ ap (λ f. least (formula_faults k s scope f)) c.precondition.ensures)
-    (c.effect_fault-effect.ensures ∙ ap (λ e. least (effect_faults k s scope e)) effect) c.earlier-head.ensures c.earlier-fault.ensures
+    c.new.ensures.fault
+    ∙ of_action k s action scope bound _ _ _ _ _ (c.in_ok-own.ensures.fault ∙ ap (λ vs. least (variable_faults k s vs)) list.ensures)
+    (c.in_ok-precondition.ensures.fault ∙ ap (λ f. least (formula_faults k s scope f)) c.precondition.ensures)
+    (c.in_ok-effect.ensures.fault ∙ ap (λ e. least (effect_faults k s scope e)) effect) c.earlier-head.ensures c.earlier-fault.ensures
