@@ -4,18 +4,18 @@
 sweep/flood.py PROGRAM
 
 Objects are named so that the hints of all of them fall into one place, and :init speaks of each. The same number of names that do not
-collide is judged beside them. Each is the best of five runs, in processor time. Four times as many names may take at most eight times
-as long, and names that collide at most four times as long as others. The status is 0 where it is so. Wants gcc."""
+collide is judged beside them. Valgrind counts the instructions of both. Four times as many names may take at most five times as many,
+and names that collide at most twice as many as others. The status is 0 where it is so. Wants gcc and valgrind."""
 
 import os
-import resource
+import re
 import subprocess
 import sys
 import tempfile
 
 COUNTS = (10_000, 40_000)
-MOST_GROWTH = 8
-MOST_TIMES = 4
+MOST_GROWTH = 5
+MOST_TIMES = 2
 
 # Prints so many names of seven letters whose hash, as src/hints.rt of hv_text has it, falls into the first of twice as many places.
 FINDER = r"""
@@ -64,8 +64,8 @@ def others(count):
     return ["".join(letters[number // 26**at % 26] for at in range(7)) for number in range(count)]
 
 
-def seconds(program, folder, names):
-    """The processor time of the best of five runs; None where the answer is another than it should be."""
+def instructions(program, folder, names):
+    """The instructions that a judgement takes; None where the answer is another than it should be."""
     texts = {
         "domain.hddl": "(define (domain flood) (:predicates (p ?x)) (:action stay))\n",
         "problem.hddl": "(define (problem flood) (:domain flood) (:objects %s)\n(:htn :subtasks (stay)) (:init %s))\n"
@@ -75,27 +75,26 @@ def seconds(program, folder, names):
     for name, text in texts.items():
         with open(f"{folder}/{name}", "w") as out:
             out.write(text)
-    taken = []
-    for _ in range(5):
-        before = resource.getrusage(resource.RUSAGE_CHILDREN).ru_utime
-        ran = subprocess.run([program, "judge", *texts], cwd=folder, capture_output=True)
-        taken.append(resource.getrusage(resource.RUSAGE_CHILDREN).ru_utime - before)
-        if (ran.returncode, ran.stdout) != (0, b"solves\n"):
-            return None
-    return min(taken)
+    command = ["valgrind", "--tool=callgrind", "--callgrind-out-file=/dev/null", program, "judge", *texts]
+    ran = subprocess.run(command, cwd=folder, capture_output=True, text=True)
+    counted = re.search(r"Collected : (\d+)", ran.stderr)
+    return int(counted.group(1)) if counted and (ran.returncode, ran.stdout) == (0, "solves\n") else None
 
 
 def main():
     program = os.path.abspath(sys.argv[1])
     with tempfile.TemporaryDirectory() as folder:
-        found = [(seconds(program, folder, colliding(folder, count)), seconds(program, folder, others(count))) for count in COUNTS]
+        found = [
+            (instructions(program, folder, colliding(folder, count)), instructions(program, folder, others(count)))
+            for count in COUNTS
+        ]
     if None in sum(found, ()):
         sys.exit("another answer than solves")
     for count, (flooded, usual) in zip(COUNTS, found):
-        print(f"{count} names: {flooded * 1000:.0f} ms where they collide, {usual * 1000:.0f} ms where they do not")
-    growth = found[1][0] / max(found[0][0], 0.004)
-    times = found[1][0] / max(found[1][1], 0.004)
-    print(f"{COUNTS[1] // COUNTS[0]} times as many that collide take {growth:.1f} times as long, {times:.1f} times as long as others")
+        print(f"{count} names: {flooded:,} instructions where they collide, {usual:,} where they do not")
+    growth = found[1][0] / found[0][0]
+    times = found[1][0] / found[1][1]
+    print(f"{COUNTS[1] // COUNTS[0]} times as many that collide take {growth:.1f} times as many, {times:.1f} times as many as others")
     sys.exit(growth > MOST_GROWTH or times > MOST_TIMES)
 
 
