@@ -37,8 +37,8 @@ impl Hash for TaskName {
 
     ghost respects_eq = { Prim.search (hashing, rules) };
 
-    // The number alone is fed, in one word: a task and an action of one number feed the same, and no
-    // third name does.
+    // The number alone is fed, in one word: a task and an action of one number feed the same, and
+    // no third name does.
     fn hash<H: Hasher>(&self, state: &mut H) {
         match self {
             TaskName::Compound(task) => state.write_usize(task.0),

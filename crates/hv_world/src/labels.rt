@@ -74,8 +74,8 @@ impl<'s> Labels<'s> {
         })
     }
 
-    // The number of the first subtask that has a label; for a label that none has, its fault and the
-    // number behind the last.
+    // The number of the first subtask that has a label; for a label that none has, its fault and
+    // the number behind the last.
     fn checked_number(&self, side: Side, word: Placed<'s>) -> Checked<usize>
         ensures value { result.value ≡ numbers_by self.now (word_view word.entry).text }
         ensures fault { result.fault
@@ -90,8 +90,8 @@ impl<'s> Labels<'s> {
         }
     }
 
-    // The number of the subtask whose label stands at a place among the labels; without a place, the
-    // number behind the last.
+    // The number of the subtask whose label stands at a place among the labels; without a place,
+    // the number behind the last.
     fn number_at(&self, place: Option<usize>) -> usize
         ensures { result ≡ number_or self.now.count (at_place self.now.holders.items place) }
     {

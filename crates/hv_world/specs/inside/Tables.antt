@@ -66,8 +66,8 @@ known_by t =
       task = λ n. at_place (map declaration_view t.tasks.list.items) (places_by t.tasks.places n);
     }
 
--- The tables have the places of the names that a domain declares: those of its predicates, and those
--- of its tasks and actions, which are listed as they stand in its text
+-- The tables have the places of the names that a domain declares: those of its predicates, and
+-- those of its tasks and actions, which are listed as they stand in its text
 pub record HavePlaces (d : Domain) (t : Tables) : Type 0 where
   pub predicates : places_by t.predicates.places ≡ place_in (names (predicate_words d.predicates))
   pub list : map declaration_view t.tasks.list.items ≡ declarations d

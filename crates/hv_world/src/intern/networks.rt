@@ -202,8 +202,8 @@ fn order_of(
     Ok(order)
 }
 
-// The order of a network, which is there unless it has a fault, and its first fault. That of a cycle
-// stands at the place of the network's section.
+// The order of a network, which is there unless it has a fault, and its first fault. That of a
+// cycle stands at the place of the network's section.
 fn checked_order(
     alloc: Global,
     side: Side,
