@@ -14,10 +14,10 @@ module _ {X Y V T : Type 0} (view : X → Y) (value : Y → V) (shown : T → V)
       (map shown ts ++ map value (map view (drop i xs)) ≡ map value (map view xs))
       × (earlier found (least (flat_map faults (map view (drop i xs)))) ≡ least (flat_map faults (map view xs)))
 
-  pub one_more : (i : ℕ) (x : X) (old new : List T) (t : T) (found this next : Option StaticFault) → AreChecked i old found
+  pub one_more : (i : ℕ) (x : X) (old : List T) (found : Option StaticFault) {new : List T} {t : T} {this next : Option StaticFault} → AreChecked i old found
       → i < length xs → x ≡ get_or xs i x → shown t ≡ value (view x) → this ≡ least (faults (view x)) → new ≡ old ++ t ∷ [] → next ≡ earlier found this
       → AreChecked (i + 1) new next
-  one_more i x old new t found this next so_far less is is_value is_fault pushed first =
+  one_more i x old found {new} {t} {this} {next} so_far less is is_value is_fault pushed first =
       (value_more xs i x less is view value shown old new t _ so_far.0 pushed is_value, faults_next view faults xs i x found this next _ less is is_fault first so_far.1)
 
   pub all_checked : (i : ℕ) (ts : List T) (found : Option StaticFault) → length xs ≤ i → AreChecked i ts found

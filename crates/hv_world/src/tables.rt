@@ -167,13 +167,6 @@ impl<'s> Tables<'s> {
         })
     }
 
-    /// Whether a type is declared.
-    pub(crate) fn is_type(&self, name: Name<'s>) -> bool
-        ensures { result ≡ is_among (known_by self.now).types (text_of name.entry) }
-    {
-        self.type_at(name).is_some()
-    }
-
     /// The number of a type, where it is declared.
     pub(crate) fn type_at(&self, name: Name<'s>) -> Option<usize>
         ensures place { result ≡ place_in (known_by self.now).types (text_of name.entry) }

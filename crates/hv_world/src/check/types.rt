@@ -1,22 +1,15 @@
 //! Faults of typed lists.
 
 ghost use Rattle.std.specs.Prelude.{◌≡◌, map};
-ghost use Rattle.hv_syntax.specs.Views.{word_view, type_view, typed_view};
+ghost use Rattle.hv_syntax.specs.Views.{type_view, typed_view};
 ghost use Rattle.hv_world.specs.Faults.{least};
-ghost use Rattle.hv_world.specs.StaticRules.{type_word_faults, type_faults, typed_faults};
+ghost use Rattle.hv_world.specs.StaticRules.{type_faults, typed_faults};
 ghost use Rattle.hv_world.specs.inside.Tables.{known_by};
 
-use crate::fault::{Side, StaticFault, StaticKind, earlier, fault_if};
+use crate::fault::{Side, StaticFault, earlier};
+use crate::intern::types::checked_type_word;
 use crate::tables::Tables;
-use hv_syntax::{Placed, TypeText, TypedText};
-
-// The fault of the name of a type.
-fn type_word_fault<'s>(tables: &Tables<'s>, side: Side, word: Placed<'s>) -> Option<StaticFault>
-    ensures { result ≡ least (type_word_faults (known_by tables.now) side (word_view word.entry)) }
-{
-    let is_known = tables.is_type(word.name());
-    fault_if(!is_known, StaticKind::UnknownType, side, word)
-}
+use hv_syntax::{TypeText, TypedText};
 
 // The fault of the type of a name.
 fn type_fault<'s>(tables: &Tables<'s>, side: Side, of: TypeText<'s>) -> Option<StaticFault>
@@ -24,7 +17,7 @@ fn type_fault<'s>(tables: &Tables<'s>, side: Side, of: TypeText<'s>) -> Option<S
 {
     match of {
         TypeText::Object => None,
-        TypeText::Named(word) => type_word_fault(tables, side, word),
+        TypeText::Named(word) => checked_type_word(tables, side, word).fault,
     }
 }
 

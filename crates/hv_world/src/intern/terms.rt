@@ -1,14 +1,15 @@
 //! Terms and atoms over numbers, each with its first fault.
 
-ghost use Rattle.std.specs.Prelude.{◌≡◌, ◌++◌, length, map, IfOk};
-ghost use Rattle.hv_syntax.specs.Values.{constant, variable};
+ghost use Rattle.std.specs.Prelude.{◌≡◌, ◌++◌, not, length, map, IfOk};
 ghost use Rattle.hv_syntax.specs.Views.{word_view, term_view as said_term, atom_view as said_atom};
-ghost use Rattle.hv_world.specs.Faults.{least};
-ghost use Rattle.hv_world.specs.Known.{Known};
-ghost use Rattle.hv_world.specs.Scopes as scopes;
+ghost use Rattle.hv_world.specs.Faults.{least, fault_if};
+ghost use Rattle.hv_world.specs.Names.{is_among, number_in, number_or};
+ghost use Rattle.hv_world.specs.Scopes.{size, variable_in, is_bound};
 ghost use Rattle.hv_world.specs.StaticRules.{head_faults, term_faults, terms_faults, atom_faults};
+ghost use Rattle.hv_world.specs.Values.{object, variable};
 ghost use Rattle.hv_world.specs.Views.{term_view, atom_view};
 ghost use Rattle.hv_world.specs.Worlds.{term_in, terms_in, atom_in};
+ghost use Rattle.hv_world.specs.declared.fault.StaticKind.TheVariants as kinds;
 ghost use Rattle.hv_world.specs.inside.Tables.{known_by, scope_view};
 
 use crate::checked::Checked;
@@ -23,10 +24,11 @@ use std::alloc::Global;
 
 // The object that a word names, and the fault of one that is none.
 fn checked_object<'s>(tables: &Tables<'s>, side: Side, word: Placed<'s>) -> Checked<Term>
-    ensures value { (s : scopes.Scope) → term_view result.value
-        ≡ term_in (known_by tables.now) s (constant (word_view word.entry)) }
-    ensures fault { (s : scopes.Scope) → result.fault
-        ≡ least (term_faults (known_by tables.now) side s (constant (word_view word.entry))) }
+    ensures value { term_view result.value
+        ≡ object (number_in (known_by tables.now).objects (word_view word.entry).text) }
+    ensures fault { result.fault
+        ≡ fault_if (not (is_among (known_by tables.now).objects (word_view word.entry).text))
+        kinds.UnknownObject side (word_view word.entry) }
 {
     let found = tables.object(word.name());
     let is_known = found.is_some();
@@ -47,11 +49,13 @@ fn checked_variable<'s>(
     word: Placed<'s>,
 ) -> Result<Checked<Term>, Memory>
     ensures value { IfOk result
-        (λ c. (k : Known) → term_view c.value
-        ≡ term_in k (scope_view scope.now) (variable (word_view word.entry))) }
+        (λ c. term_view c.value
+        ≡ variable (number_or (size (scope_view scope.now))
+        (variable_in (scope_view scope.now) (word_view word.entry).text))) }
     ensures fault { IfOk result
-        (λ c. (k : Known) → c.fault
-        ≡ least (term_faults k side (scope_view scope.now) (variable (word_view word.entry)))) }
+        (λ c. c.fault
+        ≡ fault_if (not (is_bound (scope_view scope.now) (word_view word.entry).text))
+        kinds.UnboundVariable side (word_view word.entry)) }
 {
     let found = scope.place(word.name())?;
     let is_bound = found.is_some();

@@ -55,8 +55,12 @@ fn either_of<'s>(alloc: Global, tables: &Tables<'s>, words: &[Placed<'s>]) -> Re
     }
 }
 
-// The type that a word names, and the fault of one that is not declared.
-fn checked_type_word<'s>(tables: &Tables<'s>, side: Side, word: Placed<'s>) -> Checked<TypeId>
+/// The type that a word names, and the fault of one that is not declared.
+pub(crate) fn checked_type_word<'s>(
+    tables: &Tables<'s>,
+    side: Side,
+    word: Placed<'s>,
+) -> Checked<TypeId>
     ensures value { type_number result.value
         ≡ number_in (known_by tables.now).types (word_view word.entry).text }
     ensures fault { result.fault
@@ -134,7 +138,7 @@ fn checked_types<'s>(
     Ok(types)
 }
 
-/// The types of the variables of a quantifier or an effect, and the first fault of both.
+/// The types of the variables of a quantifier or an effect, and the first fault of these.
 ///
 /// # Errors
 ///
@@ -160,7 +164,7 @@ pub(crate) fn checked_variables<'s>(
     })
 }
 
-/// The types of parameters, of whose names this is the table, and the first fault of both.
+/// The types of parameters, of whose names this is the table, and the first fault of these.
 ///
 /// # Errors
 ///

@@ -20,8 +20,7 @@ checked_effects-loop-item-preserved t c =
     let a = c.args in
     let k = known_by a.tables.now in
     let scope = scope_view a.scope.now in
-    one_more item_view (effect_in k scope) effect_view (item_faults k a.side scope) a.items.now l.item-index c.item-item.result l.numbered.value.items c.push.new.self.value.items c.in_ok-checked_effect.field-0.value l.numbered.fault c.in_ok-checked_effect.field-0.fault c.push.new.self.fault
-    l.invariant (omega arith) c.item-item.is c.in_ok-checked_effect.ensures.value c.in_ok-checked_effect.ensures.fault c.in_ok-push.ensures.value c.in_ok-push.ensures.fault
+    one_more item_view (effect_in k scope) effect_view (item_faults k a.side scope) a.items.now l.item-index c.item-item.result l.numbered.value.items l.numbered.fault l.invariant (omega arith) c.item-item.is c.in_ok-checked_effect.ensures.value c.in_ok-checked_effect.ensures.fault c.in_ok-push.ensures.value c.in_ok-push.ensures.fault
 
 pub checked_effects-returns-clause-value : goal.checked_effects-returns-clause-value
 checked_effects-returns-clause-value t c =

@@ -20,8 +20,7 @@ checked_formulas-loop-formula-preserved t c =
     let a = c.args in
     let k = known_by a.tables.now in
     let scope = scope_view a.scope.now in
-    one_more said_formula (formula_in k scope) formula_view (formula_faults k a.side scope) a.formulas.now l.formula-index c.formula-item.result l.numbered.value.items c.push.new.self.value.items c.in_ok-checked_formula.field-0.value l.numbered.fault c.in_ok-checked_formula.field-0.fault c.push.new.self.fault
-    l.invariant (omega arith) c.formula-item.is c.in_ok-checked_formula.ensures.value c.in_ok-checked_formula.ensures.fault c.in_ok-push.ensures.value c.in_ok-push.ensures.fault
+    one_more said_formula (formula_in k scope) formula_view (formula_faults k a.side scope) a.formulas.now l.formula-index c.formula-item.result l.numbered.value.items l.numbered.fault l.invariant (omega arith) c.formula-item.is c.in_ok-checked_formula.ensures.value c.in_ok-checked_formula.ensures.fault c.in_ok-push.ensures.value c.in_ok-push.ensures.fault
 
 pub checked_formulas-returns-clause-value : goal.checked_formulas-returns-clause-value
 checked_formulas-returns-clause-value t c =

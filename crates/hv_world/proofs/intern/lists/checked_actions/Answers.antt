@@ -13,5 +13,4 @@ loop-action-preserved c =
     let l = c.loop-action in
     let a = c.args in
     let k = known_by a.tables.now in
-    one_more said_action (action_in k) action_view (action_faults k sides.Domain) a.actions.now l.action-index c.action-item.result l.numbered.value.items c.push.new.self.value.items c.in_ok-checked_action.field-0.value l.numbered.fault c.in_ok-checked_action.field-0.fault c.push.new.self.fault
-    l.invariant (omega arith) c.action-item.is c.in_ok-checked_action.ensures.value c.in_ok-checked_action.ensures.fault c.in_ok-push.ensures.value c.in_ok-push.ensures.fault
+    one_more said_action (action_in k) action_view (action_faults k sides.Domain) a.actions.now l.action-index c.action-item.result l.numbered.value.items l.numbered.fault l.invariant (omega arith) c.action-item.is c.in_ok-checked_action.ensures.value c.in_ok-checked_action.ensures.fault c.in_ok-push.ensures.value c.in_ok-push.ensures.fault

@@ -13,5 +13,4 @@ loop-task-preserved c =
     let l = c.loop-task in
     let a = c.args in
     let k = known_by a.tables.now in
-    one_more said_task (task_by k) task_view (λ x. variable_faults k sides.Domain x.parameters) a.tasks.now l.task-index c.task-item.result l.numbered.value.items c.push.new.self.value.items c.in_ok-checked_compound.field-0.value l.numbered.fault c.in_ok-checked_compound.field-0.fault c.push.new.self.fault
-    l.invariant (omega arith) c.task-item.is c.in_ok-checked_compound.ensures.value c.in_ok-checked_compound.ensures.fault c.in_ok-push.ensures.value c.in_ok-push.ensures.fault
+    one_more said_task (task_by k) task_view (λ x. variable_faults k sides.Domain x.parameters) a.tasks.now l.task-index c.task-item.result l.numbered.value.items l.numbered.fault l.invariant (omega arith) c.task-item.is c.in_ok-checked_compound.ensures.value c.in_ok-checked_compound.ensures.fault c.in_ok-push.ensures.value c.in_ok-push.ensures.fault

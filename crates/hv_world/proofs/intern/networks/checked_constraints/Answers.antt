@@ -13,5 +13,4 @@ loop-constraint-preserved c =
     let a = c.args in
     let k = known_by a.tables.now in
     let scope = scope_view a.scope.now in
-    one_more said_constraint (constraint_in k scope) constraint_view (λ x. term_faults k a.side scope x.left ++ term_faults k a.side scope x.right) a.constraints.now l.constraint-index c.constraint-item.result l.numbered.value.items c.push.new.self.value.items c.in_ok-checked_constraint.field-0.value l.numbered.fault c.in_ok-checked_constraint.field-0.fault c.push.new.self.fault
-    l.invariant (omega arith) c.constraint-item.is c.in_ok-checked_constraint.ensures.value c.in_ok-checked_constraint.ensures.fault c.in_ok-push.ensures.value c.in_ok-push.ensures.fault
+    one_more said_constraint (constraint_in k scope) constraint_view (λ x. term_faults k a.side scope x.left ++ term_faults k a.side scope x.right) a.constraints.now l.constraint-index c.constraint-item.result l.numbered.value.items l.numbered.fault l.invariant (omega arith) c.constraint-item.is c.in_ok-checked_constraint.ensures.value c.in_ok-checked_constraint.ensures.fault c.in_ok-push.ensures.value c.in_ok-push.ensures.fault

@@ -12,5 +12,4 @@ loop-variable-preserved c =
     let l = c.loop-variable in
     let a = c.args in
     let k = known_by a.tables.now in
-    one_more variable_view (variable_type k) type_number (λ v. types_faults k a.side v.of) a.list.now l.variable-index c.variable-item.result l.types.value.items c.push.new.self.value.items c.in_ok-checked_type.field-0.value l.types.fault c.in_ok-checked_type.field-0.fault c.push.new.self.fault
-    l.invariant (omega arith) c.variable-item.is c.in_ok-checked_type.ensures.value c.in_ok-checked_type.ensures.fault c.in_ok-push.ensures.value c.in_ok-push.ensures.fault
+    one_more variable_view (variable_type k) type_number (λ v. types_faults k a.side v.of) a.list.now l.variable-index c.variable-item.result l.types.value.items l.types.fault l.invariant (omega arith) c.variable-item.is c.in_ok-checked_type.ensures.value c.in_ok-checked_type.ensures.fault c.in_ok-push.ensures.value c.in_ok-push.ensures.fault
