@@ -1,12 +1,14 @@
 #!/usr/bin/env python3
 """Makes random and malicious texts without end, and has two programs judge each of them.
 
-sweep/hostile.py PROGRAM OTHER [--seed N] [--first N] [--count N] [--longest SECONDS] [--jobs N] [--keep FOLDER]
+sweep/hostile.py PROGRAM OTHER [--every] [--seed N] [--first N] [--count N] [--longest SECONDS] [--jobs N] [--keep FOLDER]
 
 Each case spoils the texts of an example: bytes, words, sections, lines of the plan, ids near 2^64, nesting up to the limits, names
 in their thousands, quantifiers in one another. Both programs have the same command line. A case is kept, in a folder of its own,
 where the two write something else or end otherwise, where one ends by a signal, and where PROGRAM takes more than twenty times as
-long as OTHER and more than a second. The last line counts the cases of each kind. The same seed makes the same cases."""
+long as OTHER and more than a second. With --every its texts are printed anew too, and the certificates that PROGRAM writes for it and
+for an example are checked, half of them spoilt. The last line counts the cases of each kind, by commands with --every. The same seed
+makes the same cases."""
 
 import argparse
 import collections
@@ -15,6 +17,7 @@ import multiprocessing
 import os
 import random
 import re
+import shutil
 import signal
 import tempfile
 import time
@@ -203,13 +206,44 @@ class Watch:
         return "no end" if self.is_late else os.waitstatus_to_exitcode(status)
 
 
+def put(folder, texts):
+    """Writes texts down; answers their files."""
+    files = [f"{folder}/{name}" for name in NAMES]
+    for file, text in zip(files, texts):
+        with open(file, "wb") as out:
+            out.write(text)
+    return files
+
+
+def rechecked(program, chance, files):
+    """The words that check a certificate: as PROGRAM says it, or spoilt."""
+    (_, said), _ = end_of(program, ["judge", "--explain", *files], judge.folder, judge.watch)
+    texts = [said] * 3
+    if chance.random() < 0.5:
+        chance.choice((lines_spoiled, words_spoiled, words_spoiled, bytes_spoiled))(chance, texts)
+    file = f"{os.path.dirname(files[0])}/certificate.txt"
+    with open(file, "wb") as out:
+        out.write(next((text for text in texts if text != said), said))
+    return ["recheck", *files, file]
+
+
+def commands(arguments, chance, words, files, example):
+    """The words of each command to try on a case, and on an example as it is."""
+    yield ["judge", *words, *files]
+    if arguments.every:
+        yield from (["print-domain", files[0]], ["print-problem", files[1]], ["print-plan", files[2]])
+        yield rechecked(arguments.program, chance, files)
+        os.makedirs(f"{judge.folder}/example", exist_ok=True)
+        yield rechecked(arguments.program, chance, put(f"{judge.folder}/example", example))
+
+
 def end_of(program, words, folder, watch):
     """How a run ends, and how long it takes."""
     said = f"{folder}/said"
     outputs = [(os.POSIX_SPAWN_OPEN, 1, said, os.O_WRONLY | os.O_CREAT | os.O_TRUNC, 0o600)]
     outputs += [(os.POSIX_SPAWN_OPEN, 2, os.devnull, os.O_WRONLY, 0)]
     begun = time.monotonic()
-    status = watch.wait(os.posix_spawn(program, [program, "judge", *words], os.environ, file_actions=outputs))
+    status = watch.wait(os.posix_spawn(program, [program, *words], os.environ, file_actions=outputs))
     seconds = time.monotonic() - begun
     with open(said, "rb") as read:
         return (status, read.read()), seconds
@@ -236,35 +270,40 @@ def prepare(room, longest):
 
 
 def judge(task):
-    """Judges one case by both programs."""
+    """Tries the commands on one case by both programs: what each came to."""
     arguments, examples, number = task
     texts, words = make(arguments.seed, number, examples)
-    files = [f"{judge.folder}/{name}" for name in NAMES]
-    for file, text in zip(files, texts):
-        with open(file, "wb") as out:
-            out.write(text)
-    end, seconds = end_of(arguments.program, [*words, *files], judge.folder, judge.watch)
-    other, others = end_of(arguments.other, [*words, *files], judge.folder, judge.watch)
-    kind = kind_of(end, other, seconds, others, arguments.longest)
-    if kind.isupper():
-        keep(arguments.keep, number, texts, words, [f"{kind} {seconds:.2f} s {others:.2f} s", repr(end), repr(other)])
-    return number, kind
+    files, chance, kinds = put(judge.folder, texts), random.Random(f"{number} {arguments.seed}"), []
+    for command in commands(arguments, chance, words, files, chance.choice(examples)):
+        end, seconds = end_of(arguments.program, command, judge.folder, judge.watch)
+        other, others = end_of(arguments.other, command, judge.folder, judge.watch)
+        kind = kind_of(end, other, seconds, others, arguments.longest)
+        if kind.isupper():
+            keep(arguments.keep, number, command, [f"{kind} {seconds:.2f} s {others:.2f} s", repr(end), repr(other)])
+        kinds.append((f"{command[0]} " if arguments.every else "", kind))
+    return number, kinds
 
 
-def keep(folder, number, texts, words, said):
-    """Puts a case down, with what was said of it."""
-    os.makedirs(f"{folder}/{number}", exist_ok=True)
-    for name, text in zip(NAMES, texts):
-        with open(f"{folder}/{number}/{name}", "wb") as out:
-            out.write(text)
-    with open(f"{folder}/{number}/said", "w", encoding="utf-8") as out:
-        out.write("\n".join([" ".join(words), *said, ""]))
+def keep(folder, number, command, said):
+    """Puts the files of a command down, with what was said of it."""
+    place = f"{folder}/{number}-{command[0]}"
+    os.makedirs(place, exist_ok=True)
+    for word in command:
+        if os.path.isfile(word):
+            shutil.copy(word, place)
+    with open(f"{place}/said", "w", encoding="utf-8") as out:
+        out.write("\n".join([" ".join(os.path.basename(word) for word in command), *said, ""]))
+
+
+def tell(kinds):
+    print(*(f"{count} {command}{kind}" for (command, kind), count in sorted(kinds.items())), sep=", ", flush=True)
 
 
 def main():
     parser = argparse.ArgumentParser(description=__doc__, formatter_class=argparse.RawDescriptionHelpFormatter)
     parser.add_argument("program")
     parser.add_argument("other")
+    parser.add_argument("--every", action="store_true", help="every command, and not judge alone")
     parser.add_argument("--seed", type=int, default=1)
     parser.add_argument("--first", type=int, default=0, help="the number of the first case")
     parser.add_argument("--count", type=int, help="so many cases, and not without end")
@@ -278,14 +317,15 @@ def main():
     kinds = collections.Counter()
     memory = "/dev/shm" if os.path.isdir("/dev/shm") else None
     with tempfile.TemporaryDirectory(dir=memory) as room, multiprocessing.Pool(arguments.jobs, prepare, (room, arguments.longest)) as pool:
-        for number, kind in pool.imap_unordered(judge, ((arguments, examples, it) for it in numbers), chunksize=20):
-            kinds[kind] += 1
-            if kind.isupper():
-                print(f"case {number}: {kind}", flush=True)
-            if sum(kinds.values()) % 10000 == 0:
-                print(*(f"{count} {it}" for it, count in sorted(kinds.items())), sep=", ", flush=True)
-    print(*(f"{count} {it}" for it, count in sorted(kinds.items())), sep=", ")
-    raise SystemExit(any(it.isupper() for it in kinds))
+        for cases, (number, found) in enumerate(pool.imap_unordered(judge, ((arguments, examples, it) for it in numbers), chunksize=20), 1):
+            for command, kind in found:
+                kinds[command, kind] += 1
+                if kind.isupper():
+                    print(f"case {number}: {command}{kind}", flush=True)
+            if cases % 10000 == 0:
+                tell(kinds)
+    tell(kinds)
+    raise SystemExit(any(kind.isupper() for _, kind in kinds))
 
 
 if __name__ == "__main__":
