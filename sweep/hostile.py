@@ -7,8 +7,8 @@ Each case spoils the texts of an example: bytes, words, sections, lines of the p
 in their thousands, quantifiers in one another. Both programs have the same command line. A case is kept, in a folder of its own,
 where the two write something else or end otherwise, where one ends by a signal, and where PROGRAM takes more than twenty times as
 long as OTHER and more than a second. With --every its texts are printed anew too, and the certificates that PROGRAM writes for it and
-for an example are checked, half of them spoilt. The last line counts the cases of each kind, by commands with --every. The same seed
-makes the same cases."""
+for an example that is solved are checked, half of them spoilt. The last line counts what each command came to. The same seed makes the
+same cases."""
 
 import argparse
 import collections
@@ -19,6 +19,7 @@ import random
 import re
 import shutil
 import signal
+import subprocess
 import tempfile
 import time
 
@@ -38,6 +39,12 @@ def read_examples():
         files = [f"{entry.path}/{name}" for name in NAMES]
         if all(os.path.isfile(it) for it in files):
             yield [open(it, "rb").read() for it in files]
+
+
+def is_solved(program, texts):
+    """Whether a program says so of an example."""
+    with tempfile.TemporaryDirectory() as folder:
+        return subprocess.run([program, "judge", *put(folder, texts)], stdout=subprocess.DEVNULL).returncode == 0
 
 
 def bytes_spoiled(chance, texts):
@@ -218,6 +225,7 @@ def put(folder, texts):
 def rechecked(program, chance, files):
     """The words that check a certificate: as PROGRAM says it, or spoilt."""
     (_, said), _ = end_of(program, ["judge", "--explain", *files], judge.folder, judge.watch)
+    # a spoiler changes one of three texts, whichever it is
     texts = [said] * 3
     if chance.random() < 0.5:
         chance.choice((lines_spoiled, words_spoiled, words_spoiled, bytes_spoiled))(chance, texts)
@@ -227,14 +235,13 @@ def rechecked(program, chance, files):
     return ["recheck", *files, file]
 
 
-def commands(arguments, chance, words, files, example):
-    """The words of each command to try on a case, and on an example as it is."""
+def commands(arguments, chance, words, files):
+    """The words of each command to try on a case, and on an example that is solved."""
     yield ["judge", *words, *files]
     if arguments.every:
         yield from (["print-domain", files[0]], ["print-problem", files[1]], ["print-plan", files[2]])
         yield rechecked(arguments.program, chance, files)
-        os.makedirs(f"{judge.folder}/example", exist_ok=True)
-        yield rechecked(arguments.program, chance, put(f"{judge.folder}/example", example))
+        yield rechecked(arguments.program, chance, put(f"{judge.folder}/example", chance.choice(arguments.solved)))
 
 
 def end_of(program, words, folder, watch):
@@ -267,6 +274,7 @@ def kind_of(end, other, seconds, others, longest):
 def prepare(room, longest):
     """Gives a worker a folder of its own, and a watch."""
     judge.folder, judge.watch = tempfile.mkdtemp(dir=room), Watch(longest)
+    os.mkdir(f"{judge.folder}/example")
 
 
 def judge(task):
@@ -274,29 +282,30 @@ def judge(task):
     arguments, examples, number = task
     texts, words = make(arguments.seed, number, examples)
     files, chance, kinds = put(judge.folder, texts), random.Random(f"{number} {arguments.seed}"), []
-    for command in commands(arguments, chance, words, files, chance.choice(examples)):
+    for place, command in enumerate(commands(arguments, chance, words, files)):
         end, seconds = end_of(arguments.program, command, judge.folder, judge.watch)
         other, others = end_of(arguments.other, command, judge.folder, judge.watch)
         kind = kind_of(end, other, seconds, others, arguments.longest)
         if kind.isupper():
-            keep(arguments.keep, number, command, [f"{kind} {seconds:.2f} s {others:.2f} s", repr(end), repr(other)])
-        kinds.append((f"{command[0]} " if arguments.every else "", kind))
+            said = [f"{kind} {seconds:.2f} s {others:.2f} s", repr(end), repr(other)]
+            keep(f"{arguments.keep}/{number}-{place}-{command[0]}", command, said)
+        kinds.append((command[0], kind))
     return number, kinds
 
 
-def keep(folder, number, command, said):
+def keep(folder, command, said):
     """Puts the files of a command down, with what was said of it."""
-    place = f"{folder}/{number}-{command[0]}"
-    os.makedirs(place, exist_ok=True)
+    os.makedirs(folder, exist_ok=True)
     for word in command:
         if os.path.isfile(word):
-            shutil.copy(word, place)
-    with open(f"{place}/said", "w", encoding="utf-8") as out:
+            shutil.copy(word, folder)
+    with open(f"{folder}/said", "w", encoding="utf-8") as out:
         out.write("\n".join([" ".join(os.path.basename(word) for word in command), *said, ""]))
 
 
 def tell(kinds):
-    print(*(f"{count} {command}{kind}" for (command, kind), count in sorted(kinds.items())), sep=", ", flush=True)
+    """Prints how often each command came to what."""
+    print(*(f"{count} {command} {kind}" for (command, kind), count in sorted(kinds.items())), sep=", ", flush=True)
 
 
 def main():
@@ -313,6 +322,7 @@ def main():
     arguments = parser.parse_args()
     arguments.program, arguments.other = (os.path.abspath(it) for it in (arguments.program, arguments.other))
     examples = list(read_examples())
+    arguments.solved = [texts for texts in examples if is_solved(arguments.program, texts)]
     numbers = range(arguments.first, arguments.first + arguments.count) if arguments.count else itertools.count(arguments.first)
     kinds = collections.Counter()
     memory = "/dev/shm" if os.path.isdir("/dev/shm") else None
@@ -321,7 +331,7 @@ def main():
             for command, kind in found:
                 kinds[command, kind] += 1
                 if kind.isupper():
-                    print(f"case {number}: {command}{kind}", flush=True)
+                    print(f"case {number}: {command} {kind}", flush=True)
             if cases % 10000 == 0:
                 tell(kinds)
     tell(kinds)

@@ -1,9 +1,10 @@
 #!/usr/bin/env python3
 """Runs two programs with one command line in turn over plans of several kinds: beside.py PROGRAM OTHER [KIND:N[:COMMAND] ..]
 
-make_plan.py says which kinds there are. COMMAND is judge, where there is none, explain (judge --explain), recheck, print-problem or
-print-plan. A line of a table for each: the least wall time of seven runs and the peak of memory of PROGRAM, and how many times they are
-those of OTHER. A peak of 16 MB or less may be that of this script, from which a run begins. The status is 0 where all answers are one."""
+make_plan.py says which kinds there are. COMMAND is judge, where there is none, explain (judge --explain), recheck, print-domain,
+print-problem or print-plan. A line of a table for each: the least wall time of seven runs and the peak of memory of PROGRAM, and how
+many times they are those of OTHER. A peak of less than 20 MB may be that of this script, from which a run begins. The status is 0 where
+all answers are one."""
 import hashlib
 import os
 import pathlib
@@ -15,21 +16,23 @@ import time
 HERE = pathlib.Path(__file__).parent
 ROUNDS = 7
 INPUTS = (
-    "flat:100000 deliveries:100000 late:100000 children:100000 ordered:100000 terms:100000 steps:1000000 steps:1000000:explain"
-    " steps:1000000:recheck steps:1000000:print-plan chain:1000000 walk:100000 sought:10000 lamps:1000 types:30000 init:1000000"
-    " init:1000000:print-problem"
+    "flat:100000 flat:100000:print-domain deliveries:100000 late:100000 children:100000 ordered:100000 terms:100000 steps:1000000"
+    " steps:1000000:explain steps:1000000:recheck steps:1000000:print-plan chain:1000000 walk:100000 sought:10000 lamps:1000"
+    " types:30000 init:1000000 init:1000000:print-problem"
 ).split()
 NAMES = ("domain.hddl", "problem.hddl", "plan.txt")
 WORDS = {
     "judge": ("judge", *NAMES),
     "explain": ("judge", "--explain", *NAMES),
     "recheck": ("recheck", *NAMES, "certificate.txt"),
+    "print-domain": ("print-domain", "domain.hddl"),
     "print-problem": ("print-problem", "problem.hddl"),
     "print-plan": ("print-plan", "plan.txt"),
 }
 
 
 def digest(file):
+    """A sum over all of a file."""
     found = hashlib.sha256()
     for block in iter(lambda: file.read(1 << 16), b""):
         found.update(block)

@@ -13,12 +13,17 @@ terms: N subtasks of root in an order, of one name, told apart by their first ob
 init: N atoms of :init and one action.
 walk: N lines below one another, each with a precondition of atoms that come and go; one in ten binds a variable alone.
 sought: 1,000 nodes, each with a variable that its precondition alone binds, to one of N objects.
-lamps: 1,000 actions with quantifiers over N objects.
+lamps: 1,000 actions with quantifiers over N objects, in atoms that have the variable first and in such that have it last.
 types: N types in a chain, and N objects of the lowest.
 """
 import pathlib
 import random
 import sys
+
+
+def scattered(count, step=7919):
+    """The numbers below a count in an order of their own."""
+    return [(k * step + 13) % count for k in range(count)] if count % step else list(range(count))
 
 
 def flat(count):
@@ -32,7 +37,7 @@ def flat(count):
     subtasks = " ".join(f"(a{k})" for k in range(count))
     goal = f"(and (p{count % size}))"
     problem = f"(define (problem around)\n(:domain ring)\n(:htn :ordered-subtasks (and {subtasks}))\n(:init (p0))\n(:goal {goal}))\n"
-    ids = [(k * 7919 + 13) % count for k in range(count)] if count % 7919 else list(range(count))
+    ids = scattered(count)
     lines = "\n".join(f"{ids[k]} a{k}" for k in range(count))
     children = " ".join(str(k) for k in range(count))
     return domain, problem, f"==>\n{lines}\nroot {children}\n<==\n"
@@ -108,12 +113,8 @@ PAINT = """(define (domain paint)
 """
 
 
-def scattered(count, step=7919):
-    """The numbers below a count in an order of their own."""
-    return [(k * step + 13) % count for k in range(count)] if count % step else list(range(count))
-
-
 def walls(count, network):
+    """The problem of painting so many walls in a network, and its plan, with all lines in orders of their own."""
     names = " ".join(f"w{k}" for k in range(count))
     bare = " ".join(f"(bare w{k})" for k in range(count))
     problem = f"(define (problem walls)\n(:domain paint)\n(:objects {names} - wall)\n(:htn {network})\n(:init {bare})\n(:goal (forall (?w - wall) (painted ?w))))\n"
@@ -211,7 +212,7 @@ LAMPS = """(define (domain lamps)
 (:types lamp)
 (:predicates (lit ?a - lamp) (near ?a ?b - lamp))
 (:action light :parameters (?a - lamp)
- :precondition (and (exists (?b - lamp) (and (near ?a ?b) (lit ?b))) (forall (?b - lamp) (imply (near ?a ?b) (not (near ?b ?b)))))
+ :precondition (and (exists (?b - lamp) (and (near ?a ?b) (lit ?b))) (forall (?b - lamp) (or (not (near ?b ?a)) (not (near ?b ?b)))))
  :effect (lit ?a)))
 """
 
