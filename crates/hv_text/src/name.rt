@@ -120,7 +120,8 @@ impl<'s> Name<'s> {
     pub fn is(self, word: &[u8]) -> bool
         ensures { result ≡ bytes_eq (text_of self.entry) (lower word.now) }
     {
-        self.bytes == word || self.bytes.eq_ignore_ascii_case(word)
+        self.bytes.len() == word.len()
+            && (self.bytes == word || self.bytes.eq_ignore_ascii_case(word))
     }
 
     /// The word as it was written.
@@ -150,9 +151,11 @@ impl PartialEq for Name<'_> {
 
     ghost laws = { Prim.search (comparing, rules) };
 
-    // Most names are written alike each time, and bytes cost less to compare than letters.
+    // Most names are written alike each time, and bytes cost less to compare than letters; of names
+    // that differ most differ in length.
     fn eq(&self, other: &Self) -> bool {
-        self.bytes == other.bytes || self.bytes.eq_ignore_ascii_case(other.bytes)
+        self.bytes.len() == other.bytes.len()
+            && (self.bytes == other.bytes || self.bytes.eq_ignore_ascii_case(other.bytes))
     }
 }
 

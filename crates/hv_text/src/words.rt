@@ -36,15 +36,18 @@ pub struct Found<'s> {
     pub past: usize,
 }
 
+// Most bytes that are asked of begin a word.
 fn class_of(b: u8) -> Class
     ensures { result ≡ class_of b }
 {
+    if is_word_byte(b) {
+        return Class::Inner;
+    }
     match b {
         b'(' => Class::Left,
         b')' => Class::Right,
         b';' => Class::Semicolon,
         9..=13 | 32 => Class::Blank,
-        33..=126 => Class::Inner,
         _ => Class::Bad,
     }
 }
