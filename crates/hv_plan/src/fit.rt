@@ -21,7 +21,9 @@ ghost use Rattle.hv_plan.specs.PlanTrees.{IsActionOf};
 use crate::cause::CauseKind;
 use crate::plan::{ActionLine, DecompositionLine};
 use hv_text::{Memory, Name};
-use hv_world::{ActionId, Method, MethodId, ObjectId, TaskId, TaskName, TypeId, World};
+use hv_world::{
+    ActionId, GroundAction, Method, MethodId, ObjectId, TaskId, TaskName, TypeId, World,
+};
 
 /// Why nothing is found of a line.
 #[derive(Clone, Copy)]
@@ -58,10 +60,12 @@ pub(crate) struct Grounded {
     pub(crate) objects: Vec<ObjectId>,
 }
 
-// The objects of names, in a list that had others; None where one of the names is no object.
+// The objects of names, in a list that had others; None where one of the names is no object. Each is
+// looked at first behind the one that another line has there.
 fn objects_named<'s>(
     room: Vec<ObjectId>,
     world: &World<'s>,
+    others: &[ObjectId],
     names: &[Name<'s>],
 ) -> Result<Option<Vec<ObjectId>>, Memory>
     ensures { IfOk result (λ o. option_map (λ os. map object_number os.items) o
@@ -70,7 +74,8 @@ fn objects_named<'s>(
     let mut objects = room;
     objects.clear();
     for name in names {
-        let Some(object) = world.object_named(*name) else {
+        let other = others.get(objects.len()).copied();
+        let Some(object) = world.object_behind(other, *name) else {
             return Ok(None);
         };
         objects.push(object)?;
@@ -115,6 +120,7 @@ fn objects_fault(world: &World<'_>, name: TaskName, objects: &[ObjectId]) -> Opt
 fn fit_arguments<'s>(
     room: Vec<ObjectId>,
     world: &World<'s>,
+    others: &[ObjectId],
     name: TaskName,
     arguments: &[Name<'s>],
 ) -> Result<Vec<ObjectId>, LineFault>
@@ -124,7 +130,7 @@ fn fit_arguments<'s>(
         (IsLineFault (IsArgumentFault (world_view world.now) (name_view name)
         (map text_of arguments.now))) }
 {
-    let Some(objects) = objects_named(room, world, arguments)? else {
+    let Some(objects) = objects_named(room, world, others, arguments)? else {
         return Err(LineFault::Cause(CauseKind::UnknownObject));
     };
     match objects_fault(world, name, &objects) {
@@ -133,7 +139,16 @@ fn fit_arguments<'s>(
     }
 }
 
-/// The action of an action line, with the objects in a list that had others.
+// The number and the objects of an action, where there is one.
+fn parts_of<'a>(action: Option<GroundAction<'a>>) -> (Option<ActionId>, &'a [ObjectId]) {
+    match action {
+        Some(action) => (Some(action.action()), action.objects()),
+        None => (None, &[]),
+    }
+}
+
+/// The action of an action line, with the objects in a list that had others. Its names are looked at
+/// first behind those of another line.
 ///
 /// # Errors
 ///
@@ -142,16 +157,18 @@ fn fit_arguments<'s>(
 pub(crate) fn fit_action<'s>(
     room: Vec<ObjectId>,
     world: &World<'s>,
+    other: Option<GroundAction<'_>>,
     line: ActionLine<'_, 's>,
 ) -> Result<Grounded, LineFault>
     ensures { MatchResult result
         (λ g. IsActionOf (world_view world.now) (action_view line.entry) (grounded_view g))
         (IsLineFault (IsSmallest (world_view world.now) (action_entry (action_view line.entry)))) }
 {
-    let Some(name) = world.task_named(line.name) else {
+    let (before, others) = parts_of(other);
+    let Some(name) = world.task_behind(before, line.name) else {
         return Err(LineFault::Cause(CauseKind::UnknownTask));
     };
-    let objects = fit_arguments(room, world, name, line.arguments)?;
+    let objects = fit_arguments(room, world, others, name, line.arguments)?;
     match name {
         TaskName::Primitive(action) => Ok(Grounded { action, objects }),
         TaskName::Compound(_) => Err(LineFault::Cause(CauseKind::NotPrimitive)),
@@ -182,7 +199,8 @@ fn is_for(world: &World<'_>, method: MethodId, task: TaskId) -> bool
     }
 }
 
-/// What a decomposition line says, with the objects in a list that had others.
+/// What a decomposition line says, with the objects in a list that had others. Each is looked at
+/// first behind the one that another line has there.
 ///
 /// # Errors
 ///
@@ -191,6 +209,7 @@ fn is_for(world: &World<'_>, method: MethodId, task: TaskId) -> bool
 pub(crate) fn fit_line<'s>(
     room: Vec<ObjectId>,
     world: &World<'s>,
+    others: &[ObjectId],
     line: DecompositionLine<'_, 's>,
 ) -> Result<Decomposed, LineFault>
     ensures { MatchResult result
@@ -205,7 +224,7 @@ pub(crate) fn fit_line<'s>(
     let Some(method) = world.method_named(line.method) else {
         return Err(LineFault::Cause(CauseKind::UnknownMethod));
     };
-    let objects = fit_arguments(room, world, name, line.arguments)?;
+    let objects = fit_arguments(room, world, others, name, line.arguments)?;
     match name {
         TaskName::Compound(task) => {
             if is_for(world, method, task) {

@@ -132,6 +132,27 @@ impl<'s> Names<'s> {
             None => None,
         }
     }
+
+    /// Where a name stands first, if it is behind this place of another.
+    #[inline(always)]
+    pub(crate) fn behind(&self, other: usize, name: Name<'s>) -> Option<usize>
+        ensures { IfSome result (λ p. places_by self.now (text_of name.entry) ≡ Some p) }
+    {
+        self.place_at(other.saturating_add(1), name)
+    }
+
+    /// Where a name stands first. It is looked at first behind the place of another.
+    pub(crate) fn place_behind(&self, other: Option<usize>, name: Name<'s>) -> Option<usize>
+        ensures { result ≡ places_by self.now (text_of name.entry) }
+    {
+        if let Some(other) = other {
+            let next = self.behind(other, name);
+            if next.is_some() {
+                return next;
+            }
+        }
+        self.place(name)
+    }
 }
 
 /// Hints of where the names of a set stand.
@@ -176,6 +197,25 @@ pub(crate) fn place_of<'s>(
     names.get_index_of(&name)
 }
 
+/// The same, where the place behind another name's is looked at first: what texts list often goes
+/// through names in the order in which they are declared, and what stands there is at hand.
+pub(crate) fn place_behind<'s>(
+    names: &IndexSet<Name<'s>, Seeded>,
+    hints: &Hints,
+    other: Option<usize>,
+    name: Name<'s>,
+) -> Option<usize>
+    ensures { result ≡ place_in (map text_of names.now.keys) (text_of name.entry) }
+{
+    if let Some(other) = other {
+        let next = other.saturating_add(1);
+        if stands_at(names, next, name) {
+            return Some(next);
+        }
+    }
+    place_of(names, hints, name)
+}
+
 /// The first of these words that has one of its name before it.
 pub(crate) fn repeated_word<'s>(
     table: &Names<'s>,
@@ -189,7 +229,8 @@ pub(crate) fn repeated_word<'s>(
     let mut found = None;
     for place in 0..words.len() {
         let word = words[place];
-        let is_first = table.place(word.name()) == Some(place);
+        let first = table.place_behind(place.checked_sub(1), word.name());
+        let is_first = first == Some(place);
         let fault = fault_if(!is_first, kind, side, word);
         found = earlier(found, fault);
     }
@@ -245,7 +286,8 @@ pub(crate) fn repeated_parameter<'s>(
     for place in 0..list.len() {
         let variable = &list[place];
         let word = variable.name();
-        let is_first = table.place(word.name()) == Some(place);
+        let first = table.place_behind(place.checked_sub(1), word.name());
+        let is_first = first == Some(place);
         let fault = fault_if(!is_first, kind, side, word);
         found = earlier(found, fault);
     }

@@ -62,6 +62,24 @@ impl<'a, 's> Scope<'a, 's> {
         }
     }
 
+    /// The same, where the place behind another variable's is looked at first.
+    ///
+    /// # Errors
+    ///
+    /// `Memory` where no number can say how many variables are in scope.
+    pub(crate) fn place_behind(
+        &self,
+        other: Option<usize>,
+        name: Name<'s>,
+    ) -> Result<Option<usize>, Memory>
+        ensures { IfOk result (λ o. o ≡ variable_in (scope_view self.now) (text_of name.entry)) }
+    {
+        match *self {
+            Scope::Parameters(names, _) => Ok(names.place_behind(other, name)),
+            Scope::Inside(_, _) => self.place(name),
+        }
+    }
+
     // The number so far past the variables in scope.
     fn past(&self, place: usize) -> Result<Option<usize>, Memory>
         ensures { IfOk result (λ o. o ≡ Some (size (scope_view self.now) + place)) }

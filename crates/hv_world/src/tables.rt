@@ -18,7 +18,7 @@ mod sight;
 pub(crate) mod words;
 
 use crate::id::{PredicateId, TaskName};
-use crate::names::{Names, hints_of, place_of};
+use crate::names::{Names, hints_of, place_behind, place_of};
 use crate::tables::eithers::either_types;
 use crate::tables::sections::declarations;
 use crate::tables::sight::{object_names, type_names};
@@ -66,6 +66,8 @@ pub(crate) struct PredicateTable<'s> {
 pub(crate) struct TaskTable<'s> {
     pub places: Names<'s>,
     pub list: Vec<Declared<'s>>,
+    /// How many of them are tasks, which mostly come first.
+    pub tasks: usize,
 }
 
 /// What names are declared; of several declarations of a name the first counts.
@@ -132,7 +134,12 @@ fn task_table<'s>(alloc: Global, domain: &DomainText<'s>) -> Result<TaskTable<'s
     let list = declarations(alloc, domain)?;
     let words = declared_words(alloc, &list)?;
     let places = Names::of(alloc, &words)?;
-    Ok(TaskTable { places, list })
+    let tasks = domain.tasks().len();
+    Ok(TaskTable {
+        places,
+        list,
+        tasks,
+    })
 }
 
 impl<'s> Tables<'s> {
@@ -219,20 +226,21 @@ impl<'s> Tables<'s> {
         }
     }
 
-    /// The number of a constant or an object, where it is declared.
-    pub(crate) fn object(&self, name: Name<'s>) -> Option<usize>
+    /// The number of a constant or an object, where it is declared. The place behind another one is
+    /// looked at first.
+    pub(crate) fn object_behind(&self, other: Option<usize>, name: Name<'s>) -> Option<usize>
         ensures place { result ≡ place_in (known_by self.now).objects (text_of name.entry) }
         ensures known { is_some result ≡ is_among (known_by self.now).objects (text_of name.entry) }
     {
-        place_of(&self.objects, &self.hints, name)
+        place_behind(&self.objects, &self.hints, other, name)
     }
 
-    /// The number of a constant or an object; of one that is not declared, the number
-    /// behind the last.
-    pub(crate) fn object_number(&self, name: Name<'s>) -> usize
+    /// The number of a constant or an object; of one that is not declared, the number behind the
+    /// last. It is looked at first behind another object.
+    pub(crate) fn object_number(&self, other: Option<usize>, name: Name<'s>) -> usize
         ensures { result ≡ number_in (known_by self.now).objects (text_of name.entry) }
     {
-        match self.object(name) {
+        match self.object_behind(other, name) {
             Some(number) => number,
             None => self.objects.len(),
         }
@@ -251,12 +259,24 @@ impl<'s> Tables<'s> {
         })
     }
 
-    /// A task or an action, as it is declared first.
-    pub(crate) fn task(&self, name: Name<'s>) -> Option<Declared<'s>>
+    // Where a task or an action is declared, if all tasks are before all actions.
+    fn likely_place(&self, name: TaskName) -> usize {
+        match name {
+            TaskName::Compound(task) => task.0,
+            TaskName::Primitive(action) => self.tasks.tasks.saturating_add(action.0),
+        }
+    }
+
+    /// A task or an action, as it is declared first. It is looked at first behind another.
+    pub(crate) fn task(&self, other: Option<TaskName>, name: Name<'s>) -> Option<Declared<'s>>
         ensures { option_map declaration_view result
             ≡ (known_by self.now).task (text_of name.entry) }
     {
-        let place = self.tasks.places.place(name)?;
+        let before = match other {
+            Some(other) => Some(self.likely_place(other)),
+            None => None,
+        };
+        let place = self.tasks.places.place_behind(before, name)?;
         let declared = self.tasks.list.get(place)?;
         Some(*declared)
     }

@@ -18,7 +18,7 @@ use crate::formula::{Atom, Formula};
 use crate::grounding::GroundAction;
 use crate::id::{ActionId, MethodId, ObjectId, PredicateId, TaskId, TaskName, TypeId};
 use crate::method::Method;
-use crate::names::{Names, place_of};
+use crate::names::{Names, place_behind, place_of};
 use crate::range::Range;
 use crate::task::Task;
 use crate::types::Types;
@@ -240,6 +240,22 @@ impl<'s> World<'s> {
         }
     }
 
+    /// The same, where the object behind another is looked at first. It costs less where names
+    /// come in the order in which they are declared.
+    pub fn object_behind(&self, other: Option<ObjectId>, name: Name<'s>) -> Option<ObjectId>
+        ensures { option_map (λ o. o.0) result
+            ≡ place_in (world_view self.now).objects (text_of name.entry) }
+    {
+        let before = match other {
+            Some(object) => Some(object.0),
+            None => None,
+        };
+        match place_behind(&self.objects, &self.hints, before, name) {
+            Some(place) => Some(ObjectId(place)),
+            None => None,
+        }
+    }
+
     /// The predicate of a name.
     pub fn predicate_named(&self, name: Name<'s>) -> Option<PredicateId>
         ensures { option_map (λ p. p.0) result
@@ -266,6 +282,19 @@ impl<'s> World<'s> {
                 None => None,
             },
         }
+    }
+
+    /// The same, where the action behind another is looked at first.
+    pub fn task_behind(&self, other: Option<ActionId>, name: Name<'s>) -> Option<TaskName>
+        ensures { option_map name_view result
+            ≡ task_named (world_view self.now) (text_of name.entry) }
+    {
+        if let Some(other) = other
+            && let Some(place) = self.action_names.behind(other.0, name)
+        {
+            return Some(TaskName::Primitive(ActionId(place)));
+        }
+        self.task_named(name)
     }
 
     /// The method of a name.

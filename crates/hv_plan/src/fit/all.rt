@@ -17,7 +17,7 @@ use crate::fit::lines::DecomposedLines;
 use crate::fit::{Decomposed, Grounded, LineFault, fit_action, fit_line};
 use crate::plan::{ActionLines, DecompositionLines, PlanText};
 use hv_text::Memory;
-use hv_world::{GroundActions, ObjectId, World};
+use hv_world::{GroundAction, GroundActions, ObjectId, World};
 use std::alloc::Global;
 
 /// What the lines of a plan say: the action of each action line, and what each
@@ -98,6 +98,11 @@ fn note_line(
     }
 }
 
+// The last of some actions.
+fn last(actions: &GroundActions) -> Option<GroundAction<'_>> {
+    actions.get(actions.len().wrapping_sub(1))
+}
+
 // What action lines say.
 fn fit_actions<'s>(
     alloc: Global,
@@ -112,7 +117,7 @@ fn fit_actions<'s>(
     let mut cause = None;
     let mut room = Vec::new(alloc);
     for line in lines.iter() {
-        let fit = fit_action(room, world, line);
+        let fit = fit_action(room, world, last(&actions), line);
         room = note_action(alloc, &mut actions, &mut cause, fit, line.line)?;
     }
     Ok(FittedActions { actions, cause })
@@ -132,7 +137,7 @@ fn fit_lines<'s>(
     let mut cause = None;
     let mut room = Vec::new(alloc);
     for line in decompositions.iter() {
-        let fit = fit_line(room, world, line);
+        let fit = fit_line(room, world, lines.last_objects(), line);
         room = note_line(alloc, &mut lines, &mut cause, fit, line.line)?;
     }
     Ok(FittedLines { lines, cause })

@@ -70,6 +70,14 @@ impl DecomposedLines {
         }
     }
 
+    /// The objects of the last line.
+    pub(crate) fn last_objects(&self) -> &[ObjectId] {
+        match self.get(self.heads.len().wrapping_sub(1)) {
+            Some(line) => line.objects,
+            None => &[],
+        }
+    }
+
     /// Puts what a line says behind the others.
     ///
     /// # Errors

@@ -88,6 +88,14 @@ pub(crate) fn add_eithers_pairs<'s>(
     Ok(())
 }
 
+// The number of the last object that has its type.
+fn last_object(pairs: &[(ObjectId, TypeId)]) -> Option<usize> {
+    match pairs.last() {
+        Some((object, _)) => Some(object.0),
+        None => None,
+    }
+}
+
 /// Puts the constants or objects of a list, each with its type, behind others.
 pub(crate) fn add_object_pairs<'s>(
     tables: &Tables<'s>,
@@ -99,8 +107,8 @@ pub(crate) fn add_object_pairs<'s>(
         ++ map (object_pair (known_by tables.now)) (map typed_view list.now)) }
 {
     for typed in list {
-        let number = ObjectId(tables.object_number(typed.name().name()));
-        pairs.push((number, type_of(tables, *typed)))?;
+        let number = tables.object_number(last_object(pairs), typed.name().name());
+        pairs.push((ObjectId(number), type_of(tables, *typed)))?;
     }
     Ok(())
 }

@@ -10,13 +10,21 @@ ghost use Rattle.hv_world.specs.inside.Tables.{known_by, scope_view};
 
 use crate::checked::Checked;
 use crate::fault::{Side, earlier};
-use crate::formula::Atom;
+use crate::formula::{Atom, Term};
 use crate::intern::terms::checked_atom;
 use crate::scope::Scope;
 use crate::tables::Tables;
 use hv_syntax::LiteralText;
 use hv_text::Memory;
 use std::alloc::Global;
+
+// The terms of the last of some atoms.
+fn last_terms(atoms: &[Atom]) -> &[Term] {
+    match atoms.last() {
+        Some(atom) => &atom.terms,
+        None => &[],
+    }
+}
 
 /// The atoms of those literals that are no negations, and the first fault of all.
 ///
@@ -41,7 +49,8 @@ pub(crate) fn checked_literals<'s>(
     let mut atoms = Vec::new(alloc);
     let mut found = None;
     for literal in literals {
-        let checked = checked_atom(alloc, tables, scope, side, literal.atom())?;
+        let others = last_terms(&atoms);
+        let checked = checked_atom(alloc, tables, scope, side, others, literal.atom())?;
         found = earlier(found, checked.fault);
         if literal.is_positive() {
             atoms.push(checked.value)?;

@@ -16,9 +16,9 @@ ghost use Rattle.hv_world.specs.Worlds.{task_in, subtasks_in, constraint_in, con
 
 use crate::checked::Checked;
 use crate::fault::{Side, StaticFault, StaticKind, earlier};
-use crate::formula::{Constraint, Subtask};
+use crate::formula::{Constraint, Subtask, Term};
 use crate::id::{TaskId, TaskName};
-use crate::intern::terms::{checked_application, checked_equality};
+use crate::intern::terms::{Head, checked_application, checked_equality};
 use crate::labels::checked_pairs;
 use crate::network::Network;
 use crate::order::Order;
@@ -58,12 +58,15 @@ pub(crate) fn checked_task<'s>(
         ≡ least (task_faults (known_by tables.now) side (scope_view scope.now)
         (said_atom task.now))) }
 {
-    let (name, arity) = match tables.task(task.symbol().name()) {
+    let (name, arity) = match tables.task(None, task.symbol().name()) {
         Some(declared) => (declared.what, task_arity(&declared)),
         None => (TaskName::Compound(TaskId(0)), None),
     };
-    let kind = StaticKind::UnknownTask;
-    let terms = checked_application(alloc, tables, scope, side, kind, arity, task)?;
+    let head = Head {
+        arity,
+        unknown: StaticKind::UnknownTask,
+    };
+    let terms = checked_application(alloc, tables, scope, side, head, &[], task)?;
     Ok(Checked {
         value: Subtask {
             name,
@@ -73,12 +76,22 @@ pub(crate) fn checked_task<'s>(
     })
 }
 
-// A subtask, which is a task or an action, and its first fault.
+// What a subtask is to do, and its terms, where there is one.
+fn parts_of(subtask: Option<&Subtask>) -> (Option<TaskName>, &[Term]) {
+    match subtask {
+        Some(subtask) => (Some(subtask.name), &subtask.terms),
+        None => (None, &[]),
+    }
+}
+
+// A subtask, which is a task or an action, and its first fault. Its names are looked for first
+// behind those of another subtask.
 fn checked_subtask<'s>(
     alloc: Global,
     tables: &Tables<'s>,
     scope: &Scope<'_, 's>,
     side: Side,
+    other: Option<&Subtask>,
     subtask: &SubtaskText<'s>,
 ) -> Result<Checked<Subtask>, Memory>
     ensures value { IfOk result
@@ -90,12 +103,16 @@ fn checked_subtask<'s>(
         (said_subtask subtask.now))) }
 {
     let task = subtask.task();
-    let (name, arity) = match tables.task(task.symbol().name()) {
+    let (before, others) = parts_of(other);
+    let (name, arity) = match tables.task(before, task.symbol().name()) {
         Some(declared) => (declared.what, Some(declared.arity)),
         None => (TaskName::Compound(TaskId(0)), None),
     };
-    let kind = StaticKind::UnknownTask;
-    let terms = checked_application(alloc, tables, scope, side, kind, arity, task)?;
+    let head = Head {
+        arity,
+        unknown: StaticKind::UnknownTask,
+    };
+    let terms = checked_application(alloc, tables, scope, side, head, others, task)?;
     Ok(Checked {
         value: Subtask {
             name,
@@ -124,7 +141,9 @@ fn checked_subtasks<'s>(
 {
     let mut numbered = Checked::with_capacity(alloc, subtasks.len())?;
     for subtask in subtasks {
-        numbered.push(checked_subtask(alloc, tables, scope, side, subtask)?)?;
+        let other = numbered.value.last();
+        let checked = checked_subtask(alloc, tables, scope, side, other, subtask)?;
+        numbered.push(checked)?;
     }
     Ok(numbered)
 }

@@ -22,15 +22,25 @@ use hv_syntax::{AtomText, Placed, TermText};
 use hv_text::Memory;
 use std::alloc::Global;
 
-// The object that a word names, and the fault of one that is none.
-fn checked_object<'s>(tables: &Tables<'s>, side: Side, word: Placed<'s>) -> Checked<Term>
+// The object that a word names, and the fault of one that is none. It is looked at first behind the
+// term that stood there before.
+fn checked_object<'s>(
+    tables: &Tables<'s>,
+    side: Side,
+    other: Option<Term>,
+    word: Placed<'s>,
+) -> Checked<Term>
     ensures value { term_view result.value
         ≡ object (number_in (known_by tables.now).objects (word_view word.entry).text) }
     ensures fault { result.fault
         ≡ fault_if (not (is_among (known_by tables.now).objects (word_view word.entry).text))
         kinds.UnknownObject side (word_view word.entry) }
 {
-    let found = tables.object(word.name());
+    let before = match other {
+        Some(Term::Object(object)) => Some(object.0),
+        _ => None,
+    };
+    let found = tables.object_behind(before, word.name());
     let is_known = found.is_some();
     let number = match found {
         Some(number) => number,
@@ -42,10 +52,12 @@ fn checked_object<'s>(tables: &Tables<'s>, side: Side, word: Placed<'s>) -> Chec
     }
 }
 
-// The variable that a word names, and the fault of one that is not in scope.
+// The variable that a word names, and the fault of one that is not in scope; looked at first behind
+// the term that stood there before.
 fn checked_variable<'s>(
     scope: &Scope<'_, 's>,
     side: Side,
+    other: Option<Term>,
     word: Placed<'s>,
 ) -> Result<Checked<Term>, Memory>
     ensures value { IfOk result
@@ -57,7 +69,11 @@ fn checked_variable<'s>(
         ≡ fault_if (not (is_bound (scope_view scope.now) (word_view word.entry).text))
         kinds.UnboundVariable side (word_view word.entry)) }
 {
-    let found = scope.place(word.name())?;
+    let before = match other {
+        Some(Term::Variable(variable)) => Some(variable),
+        _ => None,
+    };
+    let found = scope.place_behind(before, word.name())?;
     let is_bound = found.is_some();
     let number = scope.number_of(found)?;
     Ok(Checked {
@@ -71,6 +87,7 @@ fn checked_term<'s>(
     tables: &Tables<'s>,
     scope: &Scope<'_, 's>,
     side: Side,
+    other: Option<Term>,
     term: TermText<'s>,
 ) -> Result<Checked<Term>, Memory>
     ensures value { IfOk result
@@ -82,8 +99,8 @@ fn checked_term<'s>(
         (said_term term.entry))) }
 {
     match term {
-        TermText::Constant(word) => Ok(checked_object(tables, side, word)),
-        TermText::Variable(word) => checked_variable(scope, side, word),
+        TermText::Constant(word) => Ok(checked_object(tables, side, other, word)),
+        TermText::Variable(word) => checked_variable(scope, side, other, word),
     }
 }
 
@@ -112,20 +129,21 @@ pub(crate) fn checked_equality<'s>(
         ++ term_faults (known_by tables.now) side (scope_view scope.now)
         (said_term right.entry))) }
 {
-    let left = checked_term(tables, scope, side, left)?;
-    let right = checked_term(tables, scope, side, right)?;
+    let left = checked_term(tables, scope, side, None, left)?;
+    let right = checked_term(tables, scope, side, None, right)?;
     Ok(Checked {
         value: (left.value, right.value),
         fault: earlier(left.fault, right.fault),
     })
 }
 
-// Terms and their first fault.
+// Terms and their first fault. Each is looked for first behind the one that another list has there.
 fn checked_terms<'s>(
     alloc: Global,
     tables: &Tables<'s>,
     scope: &Scope<'_, 's>,
     side: Side,
+    others: &[Term],
     terms: &[TermText<'s>],
 ) -> Result<Checked<Vec<Term>>, Memory>
     ensures value { IfOk result
@@ -138,23 +156,27 @@ fn checked_terms<'s>(
 {
     let mut numbered = Checked::with_capacity(alloc, terms.len())?;
     for term in terms {
-        numbered.push(checked_term(tables, scope, side, *term)?)?;
+        let other = others.get(numbered.value.len()).copied();
+        numbered.push(checked_term(tables, scope, side, other, *term)?)?;
     }
     Ok(numbered)
 }
 
-// The fault of a name that takes this number of terms where it is known, and has that number.
-fn head_fault(
-    kind: StaticKind,
-    side: Side,
-    word: Placed<'_>,
-    arity: Option<usize>,
-    count: usize,
-) -> Option<StaticFault>
-    ensures { result ≡ least (head_faults kind side (word_view word.entry) arity count) }
+/// What is known of a name that has terms: how many it takes, where it is declared, and what its
+/// fault is where it is not.
+#[derive(Clone, Copy)]
+pub(crate) struct Head {
+    pub(crate) arity: Option<usize>,
+    pub(crate) unknown: StaticKind,
+}
+
+// The fault of a name with so many terms.
+fn head_fault(head: Head, side: Side, word: Placed<'_>, count: usize) -> Option<StaticFault>
+    ensures { result ≡ least (head_faults head.unknown side (word_view word.entry) head.arity
+        count) }
 {
-    match arity {
-        None => fault_if(true, kind, side, word),
+    match head.arity {
+        None => fault_if(true, head.unknown, side, word),
         Some(arity) => {
             let is_met = arity == count;
             fault_if(!is_met, StaticKind::Arity, side, word)
@@ -162,8 +184,8 @@ fn head_fault(
     }
 }
 
-/// The terms of a name that takes this number of terms where it is known, and the first fault of
-/// both.
+/// The terms of a name, and the first fault of both. Each term is looked for first behind the one
+/// that another list has there.
 ///
 /// # Errors
 ///
@@ -173,8 +195,8 @@ pub(crate) fn checked_application<'s>(
     tables: &Tables<'s>,
     scope: &Scope<'_, 's>,
     side: Side,
-    kind: StaticKind,
-    arity: Option<usize>,
+    head: Head,
+    others: &[Term],
     atom: &AtomText<'s>,
 ) -> Result<Checked<Vec<Term>>, Memory>
     ensures value { IfOk result
@@ -182,20 +204,21 @@ pub(crate) fn checked_application<'s>(
         ≡ terms_in (known_by tables.now) (scope_view scope.now) (said_atom atom.now).terms) }
     ensures fault { IfOk result
         (λ c. c.fault
-        ≡ least (head_faults kind side (said_atom atom.now).symbol arity
+        ≡ least (head_faults head.unknown side (said_atom atom.now).symbol head.arity
         (length (said_atom atom.now).terms)
         ++ terms_faults (known_by tables.now) side (scope_view scope.now)
         (said_atom atom.now).terms)) }
 {
-    let head = head_fault(kind, side, atom.symbol(), arity, atom.terms().len());
-    let terms = checked_terms(alloc, tables, scope, side, atom.terms())?;
+    let fault = head_fault(head, side, atom.symbol(), atom.terms().len());
+    let terms = checked_terms(alloc, tables, scope, side, others, atom.terms())?;
     Ok(Checked {
         value: terms.value,
-        fault: earlier(head, terms.fault),
+        fault: earlier(fault, terms.fault),
     })
 }
 
-/// An atom and its first fault.
+/// An atom and its first fault. Each term is looked for first behind the one that another list has
+/// there.
 ///
 /// # Errors
 ///
@@ -205,6 +228,7 @@ pub(crate) fn checked_atom<'s>(
     tables: &Tables<'s>,
     scope: &Scope<'_, 's>,
     side: Side,
+    others: &[Term],
     atom: &AtomText<'s>,
 ) -> Result<Checked<Atom>, Memory>
     ensures value { IfOk result
@@ -219,8 +243,11 @@ pub(crate) fn checked_atom<'s>(
         Some(signature) => (signature.predicate, Some(signature.arity)),
         None => (PredicateId(0), None),
     };
-    let kind = StaticKind::UnknownPredicate;
-    let terms = checked_application(alloc, tables, scope, side, kind, arity, atom)?;
+    let head = Head {
+        arity,
+        unknown: StaticKind::UnknownPredicate,
+    };
+    let terms = checked_application(alloc, tables, scope, side, head, others, atom)?;
     Ok(Checked {
         value: Atom {
             predicate,

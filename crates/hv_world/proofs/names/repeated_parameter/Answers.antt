@@ -17,5 +17,5 @@ loop-place-preserved c =
     repeats_next word_of c.args.kind c.args.side c.args.list.now l.place variable c.eq-is_first.result l.found c.fault_if-fault.result c.earlier-found.result _
     (omega arith) c.index-list-place.is
     (c.eq-is_first.ensures
-    ∙ ap (λ o. option_eq nat_eq o (Some l.place)) (c.place.ensures ∙ ap (λ p. p (text_of c.name.result)) c.requires ∙ (λ j. place_in (sym (names_are c.args.list.now) j) (said j))))
+    ∙ ap (λ o. option_eq nat_eq o (Some l.place)) (c.place_behind-first.ensures ∙ ap (λ p. p (text_of c.name.result)) c.requires ∙ (λ j. place_in (sym (names_are c.args.list.now) j) (said j))))
     (c.fault_if-fault.ensures ∙ ap (fault_if _ c.args.kind c.args.side) c.name-word.ensures) c.earlier-found.ensures l.invariant

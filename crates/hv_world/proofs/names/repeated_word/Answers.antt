@@ -12,5 +12,5 @@ loop-place-preserved c =
     let word = c.index-words-place.result in
     repeats_next word_view c.args.kind c.args.side c.args.words.now l.place word c.eq-is_first.result l.found c.fault_if-fault.result c.earlier-found.result _
     (omega arith) c.index-words-place.is
-    (c.eq-is_first.ensures ∙ ap (λ o. option_eq nat_eq o (Some l.place)) (c.place.ensures ∙ ap (λ p. p (text_of c.name.result)) c.requires ∙ ap (place_in (names (map word_view c.args.words.now))) c.name.ensures))
+    (c.eq-is_first.ensures ∙ ap (λ o. option_eq nat_eq o (Some l.place)) (c.place_behind-first.ensures ∙ ap (λ p. p (text_of c.name.result)) c.requires ∙ ap (place_in (names (map word_view c.args.words.now))) c.name.ensures))
     c.fault_if-fault.ensures c.earlier-found.ensures l.invariant

@@ -13,4 +13,4 @@ loop-subtask-preserved c =
     let a = c.args in
     let k = known_by a.tables.now in
     let scope = scope_view a.scope.now in
-    one_more said_subtask (λ x. task_in k scope x.task) subtask_view (subtask_faults k a.side scope) a.subtasks.now l.subtask-index c.subtask-item.result l.numbered.value.items l.numbered.fault l.invariant (omega arith) c.subtask-item.is c.in_ok-checked_subtask.ensures.value c.in_ok-checked_subtask.ensures.fault c.in_ok-push.ensures.value c.in_ok-push.ensures.fault
+    one_more said_subtask (λ x. task_in k scope x.task) subtask_view (subtask_faults k a.side scope) a.subtasks.now l.subtask-index c.subtask-item.result l.numbered.value.items l.numbered.fault l.invariant (omega arith) c.subtask-item.is c.in_ok-checked.ensures.value c.in_ok-checked.ensures.fault c.in_ok-push.ensures.value c.in_ok-push.ensures.fault
