@@ -29,15 +29,13 @@ use std::cell::Cell;
 use std::marker::Model;
 
 /// The atoms that a plan's actions touch, in order, each with its changes; guesses of where an atom
-/// stands, and where those stood that were found last; how many changes of the atom asked last were
-/// up to the index that was asked; and for each predicate a bit, which is set where an atom of it
-/// stands there.
+/// stands, and where those stood that were found last; and for each predicate a bit, which is set
+/// where an atom of it stands there.
 #[derive(Drop)]
 pub(crate) struct Changes {
     list: Vec<History>,
     guesses: Guesses,
     stride: Cell<Stride>,
-    recent: Cell<usize>,
     flags: Vec<u64>,
 }
 
@@ -138,7 +136,7 @@ impl Changes {
         ensures { IsNext self.now k end (λ g. atom_read atom.now ≡ g) result }
     {
         match self.of(atom) {
-            Some(history) => history.next(k, end, &self.recent),
+            Some(history) => history.next(k, end),
             None => end,
         }
     }
@@ -157,7 +155,7 @@ impl Changes {
             → result ≡ is_true_in b from end (kept self.now (atom_read atom.now)) }
     {
         match self.of(atom) {
-            Some(history) => history.is_true_in(first, atom, from, end, &self.recent),
+            Some(history) => history.is_true_in(first, atom, from, end),
             None => first.holds(atom),
         }
     }
@@ -175,13 +173,13 @@ impl Changes {
                 row,
                 earlier: Vec::new(alloc),
                 last: None,
+                recent: Cell::new(0),
             })?;
         }
         Ok(Changes {
             list,
             guesses,
             stride: Cell::new(Stride::start()),
-            recent: Cell::new(0),
             flags,
         })
     }
@@ -212,7 +210,7 @@ impl Changes {
         ensures { result ≡ told k (kept self.now (atom_read atom.now)) }
     {
         match self.of(atom) {
-            Some(history) => history.told(k, &self.recent),
+            Some(history) => history.told(k),
             None => None,
         }
     }

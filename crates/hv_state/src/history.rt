@@ -64,12 +64,15 @@ impl Change {
 }
 
 /// An atom, and the changes of its truth in order. The last of them stands beside the list of those
-/// before it, so that to note one more reads nothing of that list, which is far away.
+/// before it, so that to note one more reads nothing of that list, which is far away. How many of
+/// the earlier ones were up to the index that was asked for last is kept, and looked at first: a
+/// plan is mostly gone through from one index to the next.
 #[derive(Drop)]
 pub(crate) struct History {
     pub(crate) row: Row,
     pub(crate) earlier: Vec<Change>,
     pub(crate) last: Option<Change>,
+    pub(crate) recent: Cell<usize>,
 }
 
 impl HasRow for History {
@@ -92,9 +95,7 @@ fn are_past(list: &[Change], count: usize, k: usize) -> bool
     list[count - 1].index() <= k && k < list[count].index()
 }
 
-// How many changes are up to an index, where they are as many as in the list that was asked before,
-// or one more or fewer: an effect for all objects changes many atoms at the same indices, and a
-// plan is mostly gone through from one index to the next.
+// How many changes are up to an index, where they are as many as is likely, or one more or fewer.
 #[inline(always)]
 fn near(list: &[Change], likely: usize, k: usize) -> Option<usize>
     requires { Rise (map change_view list.now) }
@@ -252,20 +253,19 @@ impl History {
         Ok(())
     }
 
-    /// What the last change up to an index says. How many changes were up to the index that was
-    /// asked before, of whichever atom, is looked at first.
+    /// What the last change up to an index says.
     #[inline(always)]
-    pub(crate) fn told(&self, k: usize, recent: &Cell<usize>) -> Option<bool>
+    pub(crate) fn told(&self, k: usize) -> Option<bool>
         requires { Rise (changes_of self.now) }
         ensures { result ≡ told k (changes_of self.now) }
     {
         match self.last {
-            None => last_up_to(&self.earlier, k, recent),
+            None => last_up_to(&self.earlier, k, &self.recent),
             Some(last) => {
                 if last.index() <= k {
                     Some(last.is_true())
                 } else {
-                    last_up_to(&self.earlier, k, recent)
+                    last_up_to(&self.earlier, k, &self.recent)
                 }
             }
         }
@@ -279,33 +279,32 @@ impl History {
         atom: &AtomView<'_>,
         from: usize,
         end: usize,
-        recent: &Cell<usize>,
     ) -> bool
         requires rise { Rise (changes_of self.now) }
         requires some { from < end }
         ensures { (b : Bool) → (IsTrue b ↔ S.atoms first.now (atom_read atom.now))
             → result ≡ is_true_in b from end (changes_of self.now) }
     {
-        let is_true = match self.told(from, recent) {
+        let is_true = match self.told(from) {
             Some(is_true) => is_true,
             None => first.holds(atom),
         };
-        is_true || self.next(from, end, recent) < end
+        is_true || self.next(from, end) < end
     }
 
     /// The index of the first change after another index, or else the end.
-    pub(crate) fn next(&self, k: usize, end: usize, recent: &Cell<usize>) -> usize
+    pub(crate) fn next(&self, k: usize, end: usize) -> usize
         requires rise { Rise (changes_of self.now) }
         requires before { k < end }
         ensures { IsNextIn (changes_of self.now) k end result }
     {
         match self.last {
-            None => next_in(&self.earlier, k, end, recent),
+            None => next_in(&self.earlier, k, end, &self.recent),
             Some(last) => {
                 if last.index() <= k {
-                    next_in(&self.earlier, k, end, recent)
+                    next_in(&self.earlier, k, end, &self.recent)
                 } else {
-                    next_in(&self.earlier, k, least(last.index(), end), recent)
+                    next_in(&self.earlier, k, least(last.index(), end), &self.recent)
                 }
             }
         }
