@@ -16,7 +16,7 @@ ghost use Rattle.hv_match.specs.inside.Parts.{listed, listed_as, to_find, Begins
 use crate::forced::MOST_CHOICES;
 use crate::make::puzzle;
 use crate::matcher::Matcher;
-use crate::puzzle::Puzzle;
+use crate::puzzle::{Puzzle, Work};
 use crate::puzzle_laws::{ways_are_counts, ways_are_enough};
 use crate::state::{State, back, find, leave};
 use crate::table::MethodTable;
@@ -52,6 +52,28 @@ pub struct Candidates<'a> {
     // The candidate that is lent.
     children: Vec<u32>,
     objects: Vec<ObjectId>,
+    // What the children do, where nothing is looked for any more.
+    works: Vec<Option<Work<'a>>>,
+}
+
+/// The lists that a node's candidates are written down in. They are handed on from node to node, so
+/// that a node whose choices are forced takes no memory; what stands in them counts for nothing.
+#[derive(Drop)]
+pub struct CandidateRoom<'a> {
+    children: Vec<u32>,
+    objects: Vec<ObjectId>,
+    works: Vec<Option<Work<'a>>>,
+}
+
+impl<'a> CandidateRoom<'a> {
+    /// Lists that take no memory yet.
+    pub fn new(alloc: Global) -> CandidateRoom<'a> {
+        CandidateRoom {
+            children: Vec::new(alloc),
+            objects: Vec::new(alloc),
+            works: Vec::new(alloc),
+        }
+    }
 }
 
 impl<'a> Model for Candidates<'a> {
@@ -84,6 +106,24 @@ fn write_objects(into: &mut [ObjectId], numbers: &[usize])
     for number in 0..into.len() {
         into[number] = ObjectId(numbers[number]);
     }
+}
+
+// A list of so many places, where another was.
+fn places_in(room: Vec<u32>, count: usize) -> Result<Vec<u32>, Memory>
+    ensures { IfOk result (λ v. length v.items ≡ count) }
+{
+    let mut places = room;
+    places.resize(count, 0)?;
+    Ok(places)
+}
+
+// A list of so many objects, where another was.
+fn objects_in(room: Vec<ObjectId>, count: usize) -> Result<Vec<ObjectId>, Memory>
+    ensures { IfOk result (λ v. length v.items ≡ count) }
+{
+    let mut objects = room;
+    objects.resize(count, ObjectId(0))?;
+    Ok(objects)
 }
 
 // Whether what was chosen begins with these places.
@@ -173,62 +213,99 @@ impl<'a> Seeker<'a> {
 }
 
 impl<'a> Candidates<'a> {
-    /// All that fit the puzzle.
-    pub(crate) fn of(alloc: Global, puzzle: Puzzle<'a>) -> Result<Candidates<'a>, Memory>
+    /// All that fit the puzzle, each to be written down in these lists.
+    pub(crate) fn of(
+        alloc: Global,
+        puzzle: Puzzle<'a>,
+        children: Vec<u32>,
+        objects: Vec<ObjectId>,
+    ) -> Result<Candidates<'a>, Memory>
         ensures { IfOk result (ListsMatches (puzzle_view puzzle.entry)) }
     {
         let count = puzzle.choices();
+        let children = places_in(children, puzzle.table.subtasks.len())?;
+        let objects = objects_in(objects, puzzle.table.ranges.len())?;
         if count <= MOST_CHOICES && !puzzle.is_uneven() {
             let mut choices = [0; MOST_CHOICES];
             let chosen = &mut choices[..count];
             if puzzle.force(chosen) {
-                return Candidates::written(alloc, &puzzle, chosen);
+                return Ok(Candidates::written(puzzle, children, objects, chosen));
             }
         }
-        Candidates::sought(alloc, puzzle)
+        Candidates::sought(alloc, puzzle, children, objects)
     }
 
     // The one that has these choices, if it fits the puzzle, where no other does.
     fn written(
-        alloc: Global,
-        puzzle: &Puzzle<'_>,
+        puzzle: Puzzle<'a>,
+        children: Vec<u32>,
+        objects: Vec<ObjectId>,
         chosen: &[usize],
-    ) -> Result<Candidates<'a>, Memory>
-        requires { AreForced (puzzle_view puzzle.now) chosen.now }
-        ensures { IfOk result (ListsMatches (puzzle_view puzzle.now)) }
+    ) -> Candidates<'a>
+        requires forced { AreForced (puzzle_view puzzle) chosen.now }
+        requires children { length children.items ≡ length puzzle.table.now.subtasks.now }
+        requires objects { length objects.items ≡ length puzzle.table.now.ranges.items }
+        ensures { ListsMatches (puzzle_view puzzle.entry) result }
     {
         let subtasks = puzzle.table.subtasks.len();
         let is_match = puzzle.is_match(chosen);
-        let mut children = vec![in alloc; 0u32; subtasks]?;
-        let mut objects = vec![in alloc; ObjectId(0); puzzle.table.ranges.len()]?;
+        let mut children = children;
+        let mut objects = objects;
         if is_match {
             write_places(&mut children, &chosen[..subtasks]);
             write_objects(&mut objects, &chosen[subtasks..]);
         }
-        Ok(Candidates {
+        let Puzzle {
+            children: works,
+            ..
+        } = puzzle;
+        Candidates {
             coming: Coming::Written(is_match),
             children,
             objects,
-        })
+            works,
+        }
     }
 
     // Those that a search finds.
-    fn sought(alloc: Global, puzzle: Puzzle<'a>) -> Result<Candidates<'a>, Memory>
+    fn sought(
+        alloc: Global,
+        puzzle: Puzzle<'a>,
+        children: Vec<u32>,
+        objects: Vec<ObjectId>,
+    ) -> Result<Candidates<'a>, Memory>
+        requires children { length children.items ≡ length puzzle.table.now.subtasks.now }
+        requires objects { length objects.items ≡ length puzzle.table.now.ranges.items }
         ensures { IfOk result (ListsMatches (puzzle_view puzzle.entry)) }
     {
-        let children = vec![in alloc; 0u32; puzzle.table.subtasks.len()]?;
-        let objects = vec![in alloc; ObjectId(0); puzzle.table.ranges.len()]?;
         let seeker = Seeker::new(alloc, puzzle)?;
         Ok(Candidates {
             coming: Coming::Sought(Box::new(alloc, seeker)?),
             children,
             objects,
+            works: Vec::new(alloc),
         })
+    }
+
+    /// The lists, to be used again for another node.
+    pub fn into_room(self) -> CandidateRoom<'a> {
+        let Candidates {
+            children,
+            objects,
+            works,
+            ..
+        } = self;
+        CandidateRoom {
+            children,
+            objects,
+            works,
+        }
     }
 
     // All possible candidates of a node whose method has this table.
     fn of_table(
         alloc: Global,
+        room: CandidateRoom<'a>,
         table: &'a MethodTable<'a>,
         tree: &'a Tree<'_, '_>,
         node: &Node<'a>,
@@ -237,18 +314,25 @@ impl<'a> Candidates<'a> {
         ensures { IfOk result (IsWholeBy table.now (tree_view tree.now) (node_view node.now)
             (option_map ever_rows ever.entry)) }
     {
-        let puzzle = puzzle(alloc, table, tree, node, ever)?;
+        let CandidateRoom {
+            children,
+            objects,
+            works,
+        } = room;
+        let puzzle = puzzle(alloc, works, table, tree, node, ever)?;
         ways_are_enough();
         ways_are_counts();
-        let candidates = Candidates::of(alloc, puzzle)?;
+        let candidates = Candidates::of(alloc, puzzle, children, objects)?;
         Ok(candidates)
     }
 
     /// All candidates of a node, each once, in no said order; they are no more than its count.
     /// Where it is told which atoms are ever true in some states, those are left out whose
-    /// precondition needs another. Err only for want of memory.
+    /// precondition needs another. They are written down in lists that another node may have had.
+    /// Err only for want of memory.
     pub fn new(
         alloc: Global,
+        room: CandidateRoom<'a>,
         matcher: &'a Matcher<'_, '_>,
         tree: &'a Tree<'_, '_>,
         node: u32,
@@ -262,7 +346,7 @@ impl<'a> Candidates<'a> {
         ensures few { IfOk result (IsInCountAt matcher.now (tree_view tree.now) node) }
     {
         let (node, table) = matcher.node_and_table(tree, node);
-        let candidates = Candidates::of_table(alloc, table, tree, &node, ever)?;
+        let candidates = Candidates::of_table(alloc, room, table, tree, &node, ever)?;
         Ok(candidates)
     }
 

@@ -24,7 +24,7 @@ mod sources;
 mod state;
 mod table;
 
-pub use candidates::Candidates;
+pub use candidates::{CandidateRoom, Candidates};
 pub use check::{Room, is_candidate};
 pub use counts::{count, exceeds};
 pub use laws::{counts_are_one, nodes_have_methods};

@@ -85,16 +85,18 @@ pub(crate) fn work<'a>(tree: &'a Tree<'_, '_>, child: Child) -> Option<Work<'a>>
     }
 }
 
-// What these children do.
+// What these children do, in a list that had others.
 fn works<'a>(
-    alloc: Global,
+    room: Vec<Option<Work<'a>>>,
     tree: &'a Tree<'_, '_>,
     children: &[Child],
 ) -> Result<Vec<Option<Work<'a>>>, Memory>
     ensures { IfOk result (λ v. AreWorks (map (option_map work_view) v.items)
         (tasks_of tree.now children.now)) }
 {
-    let mut works = Vec::with_capacity(alloc, children.len())?;
+    let mut works = room;
+    works.clear();
+    works.reserve(children.len())?;
     for child in children {
         works.push(work(tree, *child))?;
     }
@@ -145,9 +147,11 @@ pub(crate) fn method_table<'w>(
     })
 }
 
-/// The puzzle of a node whose method has this table.
+/// The puzzle of a node whose method has this table. What its children do is put in a list that had
+/// others.
 pub(crate) fn puzzle<'a>(
     alloc: Global,
+    room: Vec<Option<Work<'a>>>,
     table: &'a MethodTable<'a>,
     tree: &'a Tree<'_, '_>,
     node: &Node<'a>,
@@ -159,7 +163,7 @@ pub(crate) fn puzzle<'a>(
     ensures works { IfOk result (λ p. AreWorks (puzzle_view p).children
         (tasks_at tree.now node.now)) }
 {
-    let children = works(alloc, tree, node.children())?;
+    let children = works(room, tree, node.children())?;
     // 32 bits are enough for the children in every text
     if u32::try_from(children.len()).is_err() {
         return Err(Memory);
