@@ -6,7 +6,7 @@ ghost use Rattle.hv_plan.specs.PlanTrees.{IsTreeIn};
 ghost use Rattle.hv_order.specs.inside.Writings.{AreBound, HasOne, TellsFirst};
 
 use crate::lines::{line_of, number_at};
-use hv_match::{Candidates, Matcher};
+use hv_match::{CandidateRoom, Candidates, Matcher};
 use hv_plan::Tree;
 use hv_text::Memory;
 use std::alloc::Global;
@@ -22,7 +22,14 @@ pub fn has_candidate<'a>(
     requires node { node < length (tree_view tree.now).nodes }
     ensures { IfOk result (λ b. IsTrue b ↔ HasOne matcher.now (tree_view tree.now) node) }
 {
-    let mut candidates = Candidates::new(alloc, matcher, tree, node, None)?;
+    let mut candidates = Candidates::new(
+        alloc,
+        CandidateRoom::new(alloc),
+        matcher,
+        tree,
+        node,
+        None,
+    )?;
     let is_some = candidates.has_next()?;
     Ok(is_some)
 }

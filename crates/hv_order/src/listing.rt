@@ -17,7 +17,7 @@ use crate::node_methods::node_of;
 use crate::sequencing::Sequencing;
 use crate::spans::{Spans, child_at};
 use crate::trial::Arranged;
-use hv_match::{Candidates as Matchings, Matcher};
+use hv_match::{CandidateRoom, Candidates as Matchings, Matcher};
 use hv_plan::{Child, Tree};
 use hv_state::EverTrue;
 use std::alloc::Global;
@@ -36,9 +36,11 @@ fn children_at(alloc: Global, children: &[Child], places: &[u32]) -> Result<Vec<
 
 /// All candidates of a node of a tree of the matcher's world, whose method has this sequencing,
 /// with their children in order by these spans; where it is told which atoms are true in a stretch
-/// of states, those whose precondition needs another are left out.
+/// of states, those whose precondition needs another are left out. They are written down in lists
+/// that another node may have had.
 pub(crate) fn candidates_of<'a>(
     alloc: Global,
+    room: CandidateRoom<'a>,
     matcher: &'a Matcher<'_, '_>,
     tree: &'a Tree<'_, '_>,
     number: u32,
@@ -61,7 +63,7 @@ pub(crate) fn candidates_of<'a>(
         children: node.children(),
         sequencing,
         spans,
-        coming: Matchings::new(alloc, matcher, tree, number, ever)?,
+        coming: Matchings::new(alloc, room, matcher, tree, number, ever)?,
         given: 0,
     })
 }

@@ -14,6 +14,10 @@ use std::alloc::Global;
 pub trait Nodes {
     type Left: Candidates + Drop;
 
+    // What the candidates of one node are written down in, and then those of another. No answer
+    // hangs on what stands there.
+    type Room: Drop;
+
     ghost facts: { Self → Facts };
 
     // How many nodes there are.
@@ -26,11 +30,20 @@ pub trait Nodes {
 
     /// Candidates of a node: where it fits with any candidate from a start on, it does
     /// with one of these.
-    fn candidates(&self, alloc: Global, node: usize, start: u32) -> Result<Self::Left, Memory>
+    fn candidates(
+        &self,
+        alloc: Global,
+        room: Option<Self::Room>,
+        node: usize,
+        start: u32,
+    ) -> Result<Self::Left, Memory>
         requires node { node < size self.now }
         requires start { start ≤ (facts self.now).last }
         ensures { IfOk result
             (λ all. AreAllOf (facts self.now) node start (Self.Left.left all)) };
+
+    /// What candidates were written down in, of which no more are wanted.
+    fn take_back(&self, left: Self::Left) -> Self::Room;
 
     /// A state that a node is over no earlier than, whatever its start.
     fn earliest(&self, node: u32) -> u32

@@ -8,8 +8,8 @@ ghost use Rattle.hv_plan.specs.PlanTrees.{IsTreeIn, root_number};
 ghost use Rattle.hv_order.specs.Meanings.{Meaning};
 ghost use Rattle.hv_order.specs.Settings.{setting, without_preconditions, last, HasNoPrecondition, HasCandidate, IsMeaning, IsSolved};
 ghost use Rattle.hv_order.specs.Tables.{IsLeast};
-ghost use Rattle.hv_order.specs.inside.Listers.{IsEver};
-ghost use Rattle.hv_order.specs.inside.Nodes.{AreNodes};
+ghost use Rattle.hv_order.specs.inside.Listers.{IsEver, still_listed};
+ghost use Rattle.hv_order.specs.inside.Nodes.{AreAllOf, AreNodes};
 ghost use Rattle.hv_order.specs.inside.PlanFacts.{FitsNode, plan_facts};
 ghost use Rattle.hv_order.specs.inside.PlanNodes.{IsRange};
 
@@ -25,7 +25,7 @@ use crate::sequencing::{Sequencings, make_sequencings, sequencing_of};
 use crate::spans::Spans;
 use crate::told::{Told, is_empty, told_children};
 use crate::trial::{Arranged, Stretch};
-use hv_match::Matcher;
+use hv_match::{CandidateRoom, Matcher};
 use hv_plan::{Child, Tree};
 use hv_state::{BitState, EverTrue, Trace};
 use hv_world::{Binding, Method, World};
@@ -219,6 +219,8 @@ impl<'a, 's, 'm, 'p, 't, 'c, 'd> PlanNodes<'a, 's, 'm, 'p, 't, 'c, 'd> {
 impl<'a, 's, 'm, 'p, 't, 'c, 'd> Nodes for PlanNodes<'a, 's, 'm, 'p, 't, 'c, 'd> {
     type Left = Lister<'a>;
 
+    type Room = CandidateRoom<'a>;
+
     ghost facts = { plan_facts };
 
     ghost size = { λ q. length q.tree.nodes };
@@ -227,13 +229,41 @@ impl<'a, 's, 'm, 'p, 't, 'c, 'd> Nodes for PlanNodes<'a, 's, 'm, 'p, 't, 'c, 'd>
         self.tree.actions().len() as u32
     }
 
-    fn candidates(&self, alloc: Global, node: usize, start: u32) -> Result<Lister<'a>, Memory> {
+    fn candidates(
+        &self,
+        alloc: Global,
+        room: Option<CandidateRoom<'a>>,
+        node: usize,
+        start: u32,
+    ) -> Result<Lister<'a>, Memory>
+        requires node { node < length self.now.tree.nodes }
+        requires start { start ≤ last self.now }
+        ensures { IfOk result
+            (λ all. AreAllOf (plan_facts self.now) node start (still_listed all)) }
+    {
         let _count = self.tree.node_count();
         let number = node as u32;
         let shared = sequencing_of(self.world, &self.sequencings, self.tree, number).clone()?;
         let ever = self.ever_before(number, start);
         let spans = self.spans.clone()?;
-        candidates_of(alloc, self.matcher, self.tree, number, shared, spans, ever)
+        let room = match room {
+            Some(room) => room,
+            None => CandidateRoom::new(alloc),
+        };
+        candidates_of(
+            alloc,
+            room,
+            self.matcher,
+            self.tree,
+            number,
+            shared,
+            spans,
+            ever,
+        )
+    }
+
+    fn take_back(&self, left: Lister<'a>) -> CandidateRoom<'a> {
+        left.coming.into_room()
     }
 
     fn earliest(&self, node: u32) -> u32 {

@@ -76,7 +76,7 @@ pub fn settle<N: Nodes>(
     ensures { IfOk result (IsSettled (N.facts nodes.now) (length rows.now) start) }
 {
     let last = nodes.last();
-    let mut left = nodes.candidates(alloc, rows.len(), start)?;
+    let mut left = nodes.candidates(alloc, None, rows.len(), start)?;
     let table = Before { nodes, rows };
     let winner = best_of(alloc, &table, &mut left, start, last)?;
     Ok(run_of(winner, last))

@@ -124,6 +124,7 @@ pub fn open<N: Nodes>(
     alloc: Global,
     nodes: &N,
     memo: &Memo,
+    room: &mut Option<N::Room>,
     node: u32,
     start: u32,
 ) -> Result<Option<Task<N::Left>>, Memory>
@@ -132,7 +133,7 @@ pub fn open<N: Nodes>(
     requires start { start ≤ (N.facts nodes.now).last }
     ensures { IfOk result (IsOpened N.Left.left (N.facts nodes.now) (N.size nodes.now) node start) }
 {
-    let mut left = nodes.candidates(alloc, node as usize, start)?;
+    let mut left = nodes.candidates(alloc, room.take(), node as usize, start)?;
     let table = Below { nodes, memo, node };
     let earliest = start.max(nodes.earliest(node));
     match next_turn(
@@ -144,7 +145,10 @@ pub fn open<N: Nodes>(
         earliest,
         nodes.last(),
     )? {
-        None => Ok(None),
+        None => {
+            *room = Some(nodes.take_back(left));
+            Ok(None)
+        }
         Some(turn) => {
             let frame = Frame {
                 start,
@@ -188,10 +192,17 @@ pub fn step<N: Nodes>(
 
 /// What a task came to, all of whose candidates are over.
 #[inline(always)]
-pub fn close<L: Drop>(task: Task<L>, best: Option<Best>, last: u32) -> Settled
+pub fn close<N: Nodes>(
+    nodes: &N,
+    room: &mut Option<N::Room>,
+    task: Task<N::Left>,
+    best: Option<Best>,
+    last: u32,
+) -> Settled
     ensures { result ≡ settled_by (as_winner best task.frame.winner) last }
 {
-    let Task { frame, .. } = task;
+    let Task { left, frame, .. } = task;
+    *room = Some(nodes.take_back(left));
     run_of(with_candidate(best, frame.winner), last)
 }
 
@@ -224,6 +235,7 @@ pub fn work<N: Nodes>(
     alloc: Global,
     nodes: &N,
     memo: &Memo,
+    room: &mut Option<N::Room>,
     task: Task<N::Left>,
     far: bool,
 ) -> Result<Outcome<N::Left>, Memory>
@@ -236,10 +248,10 @@ pub fn work<N: Nodes>(
     let mut task = task;
     match step(alloc, nodes, memo, &mut task)? {
         Progress::Wants(node, start) => {
-            let waits = wait(alloc, nodes, task, far)?;
+            let waits = wait(alloc, nodes, room, task, far)?;
             Ok(Outcome::Wants(waits, Pair { node, start }))
         }
-        Progress::Over(best) => Ok(Outcome::Over(close(task, best, nodes.last()))),
+        Progress::Over(best) => Ok(Outcome::Over(close(nodes, room, task, best, nodes.last()))),
     }
 }
 
@@ -249,6 +261,7 @@ pub fn work_on<N: Nodes>(
     alloc: Global,
     nodes: &N,
     memo: &Memo,
+    room: &mut Option<N::Room>,
     task: Box<Task<N::Left>>,
 ) -> Result<Outcome<N::Left>, Memory>
     requires nodes { AreNodes (N.facts nodes.now) }
@@ -263,7 +276,8 @@ pub fn work_on<N: Nodes>(
             Ok(Outcome::Wants(Pending::Begun(task), Pair { node, start }))
         }
         Progress::Over(best) => {
-            Ok(Outcome::Over(close(Box::into_inner(task), best, nodes.last())))
+            let task = Box::into_inner(task);
+            Ok(Outcome::Over(close(nodes, room, task, best, nodes.last())))
         }
     }
 }
@@ -310,6 +324,7 @@ pub fn begin<N: Nodes>(
     alloc: Global,
     nodes: &N,
     memo: &Memo,
+    room: &mut Option<N::Room>,
     pair: Pair,
     far: bool,
 ) -> Result<Outcome<N::Left>, Memory>
@@ -319,9 +334,9 @@ pub fn begin<N: Nodes>(
     ensures { IfOk result
         (IsOutcome N.Left.left (N.facts nodes.now) (N.size nodes.now) memo.now pair) }
 {
-    match open(alloc, nodes, memo, pair.node, pair.start)? {
+    match open(alloc, nodes, memo, room, pair.node, pair.start)? {
         None => Ok(Outcome::Over(run_of(None, nodes.last()))),
-        Some(task) => work(alloc, nodes, memo, task, far),
+        Some(task) => work(alloc, nodes, memo, room, task, far),
     }
 }
 
@@ -331,6 +346,7 @@ pub fn set_out<N: Nodes>(
     alloc: Global,
     nodes: &N,
     memo: &Memo,
+    room: &mut Option<N::Room>,
     pair: Pair,
     far: bool,
 ) -> Result<Outcome<N::Left>, Memory>
@@ -350,15 +366,17 @@ pub fn set_out<N: Nodes>(
             return Ok(Outcome::Wants(waits, wanted.child));
         }
     }
-    begin(alloc, nodes, memo, pair, far)
+    begin(alloc, nodes, memo, room, pair, far)
 }
 
 /// Goes on with a node that waited, which is begun where it is not yet. Where it waits again `far`
 /// down, it may be let go.
+#[inline(always)]
 pub fn resume<N: Nodes>(
     alloc: Global,
     nodes: &N,
     memo: &Memo,
+    room: &mut Option<N::Room>,
     pending: Pending<N::Left>,
     far: bool,
 ) -> Result<Outcome<N::Left>, Memory>
@@ -369,9 +387,9 @@ pub fn resume<N: Nodes>(
         (pair_of pending)) }
 {
     match pending {
-        Pending::Begun(task) => work_on(alloc, nodes, memo, task),
-        Pending::Ready(pair) => begin(alloc, nodes, memo, pair, far),
-        Pending::Asked(pair) => set_out(alloc, nodes, memo, pair, far),
+        Pending::Begun(task) => work_on(alloc, nodes, memo, room, task),
+        Pending::Ready(pair) => begin(alloc, nodes, memo, room, pair, far),
+        Pending::Asked(pair) => set_out(alloc, nodes, memo, room, pair, far),
     }
 }
 
@@ -379,18 +397,21 @@ pub fn resume<N: Nodes>(
 /// that a deep plan's tasks take little memory.
 pub fn wait<N: Nodes>(
     alloc: Global,
-    _nodes: &N,
+    nodes: &N,
+    room: &mut Option<N::Room>,
     task: Task<N::Left>,
     far: bool,
 ) -> Result<Pending<N::Left>, Memory>
-    requires task { IsTask N.Left.left (N.facts _nodes.now) (N.size _nodes.now) task }
-    ensures { IfOk result (Waits N.Left.left (N.facts _nodes.now) (N.size _nodes.now)
+    requires task { IsTask N.Left.left (N.facts nodes.now) (N.size nodes.now) task }
+    ensures { IfOk result (Waits N.Left.left (N.facts nodes.now) (N.size nodes.now)
         (task_pair task)) }
 {
     if far && task.left.is_at_first() && task.frame.candidate.children.len() <= FEW {
+        let Task { node, left, frame } = task;
+        *room = Some(nodes.take_back(left));
         return Ok(Pending::Ready(Pair {
-            node: task.node,
-            start: task.frame.start,
+            node,
+            start: frame.start,
         }));
     }
     Ok(Pending::Begun(Box::new(alloc, task)?))
@@ -414,10 +435,11 @@ pub fn solve<N: Nodes>(
 {
     let mut below: Vec<Pending<N::Left>> = Vec::new(alloc);
     let mut top: Pending<N::Left> = Pending::Asked(Pair { node, start });
+    let mut room = None;
     loop {
         let pair = top.pair();
         let far = NEAR <= below.len();
-        match resume(alloc, nodes, memo, top, far)? {
+        match resume(alloc, nodes, memo, &mut room, top, far)? {
             Outcome::Wants(waits, child) => {
                 below.push(waits)?;
                 top = Pending::Asked(child);

@@ -13,7 +13,7 @@ use crate::texts::{
     WIDE, WIDE_APART,
 };
 use crate::worlds::{plan_of, tree_of, world_of};
-use hv_match::{Candidates, Matcher, Room, count, exceeds, is_candidate};
+use hv_match::{CandidateRoom, Candidates, Matcher, Room, count, exceeds, is_candidate};
 use hv_plan::Tree;
 use hv_world::{ObjectId, World};
 use std::alloc::Global;
@@ -115,7 +115,7 @@ fn candidates_of<'a>(
     requires tree { IsTreeIn matcher.now (tree_view tree.now) }
     requires node { node < length (tree_view tree.now).nodes }
 {
-    Candidates::new(alloc, matcher, tree, node, None).ok()
+    Candidates::new(alloc, CandidateRoom::new(alloc), matcher, tree, node, None).ok()
 }
 
 /// The candidates of a node, where they are fewer than a thousand and each is said to be one.

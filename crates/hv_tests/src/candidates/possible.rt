@@ -7,7 +7,7 @@ ghost use Rattle.hv_plan.specs.PlanTrees.{IsTreeIn};
 
 use crate::candidates::{Candidate, all, lent, matcher_of, node_of};
 use crate::worlds::{object, plan_of, tree_of, world_of};
-use hv_match::Candidates;
+use hv_match::{CandidateRoom, Candidates};
 use hv_plan::Tree;
 use hv_state::{BitState, Trace};
 use hv_world::World;
@@ -72,7 +72,8 @@ fn note_possible(
 {
     let matcher = matcher_of(alloc, world)?;
     let ever = Some(trace.ever_true(0, end.max(1)));
-    let mut candidates = Candidates::new(alloc, &matcher, tree, node, ever).ok()?;
+    let room = CandidateRoom::new(alloc);
+    let mut candidates = Candidates::new(alloc, room, &matcher, tree, node, ever).ok()?;
     note(alloc, &mut candidates, noted)
 }
 

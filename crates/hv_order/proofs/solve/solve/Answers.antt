@@ -6,8 +6,8 @@ use Rattle.hv_order.specs.inside.Memos.{Keeps}
 use Rattle.hv_order.proofs.Stacks.{IsFirst, pair_is, top_pending, asked_stack, asked_less, over_stack, over_less}
 use Rattle.hv_order.proofs.solve.solve.Goals as goal
 
-pub loop-below-init : goal.loop-below-init
-loop-below-init g c =
+pub loop-room-init : goal.loop-room-init
+loop-room-init g c =
     let q = g.N.Nodes.facts c.args.nodes.now in
     let size = g.N.Nodes.size c.args.nodes.now in
     let left = g.N.Left.Candidates.left in
@@ -23,31 +23,31 @@ resume-requires-clause-pending g c =
     let size = g.N.Nodes.size c.args.nodes.now in
     let left = g.N.Left.Candidates.left in
     let a : Pair = record { node = c.args.node; start = c.args.start } in
-    top_pending left q size c.loop-below.memo a c.loop-below.below.items c.loop-below.top c.loop-below.invariant.1
+    top_pending left q size c.loop-room.memo a c.loop-room.below.items c.loop-room.top c.loop-room.invariant.1
 
 -- where a child's finish is wanted
-pub loop-below-smaller-in-Wants : goal.loop-below-smaller-in-Wants
-loop-below-smaller-in-Wants g c =
+pub loop-room-smaller-in-Wants : goal.loop-room-smaller-in-Wants
+loop-room-smaller-in-Wants g c =
     let q = g.N.Nodes.facts c.args.nodes.now in
     let size = g.N.Nodes.size c.args.nodes.now in
     let left = g.N.Left.Candidates.left in
     let a : Pair = record { node = c.args.node; start = c.args.start } in
-    let m = c.loop-below.memo in
-    let t = c.loop-below.top in
+    let m = c.loop-room.memo in
+    let t = c.loop-room.top in
     let is : IsWaitingFor left q size m (pair_of t) c.in-Wants.waits c.in-Wants.child = rw c.in-Wants.is at c.in_ok-waits.ensures in
-    asked_less left q size m a c.loop-below.below.items t c.in-Wants.waits c.in-Wants.child c.loop-below.invariant.1 is.waits is.wanted
+    asked_less left q size m a c.loop-room.below.items t c.in-Wants.waits c.in-Wants.child c.loop-room.invariant.1 is.waits is.wanted
 
-pub loop-below-preserved-in-Wants : goal.loop-below-preserved-in-Wants
-loop-below-preserved-in-Wants g c =
+pub loop-room-preserved-in-Wants : goal.loop-room-preserved-in-Wants
+loop-room-preserved-in-Wants g c =
     let q = g.N.Nodes.facts c.args.nodes.now in
     let size = g.N.Nodes.size c.args.nodes.now in
     let left = g.N.Left.Candidates.left in
     let a : Pair = record { node = c.args.node; start = c.args.start } in
-    let m = c.loop-below.memo in
-    let t = c.loop-below.top in
+    let m = c.loop-room.memo in
+    let t = c.loop-room.top in
     let is : IsWaitingFor left q size m (pair_of t) c.in-Wants.waits c.in-Wants.child = rw c.in-Wants.is at c.in_ok-waits.ensures in (
-      c.loop-below.invariant.0,
-      rw c.in_ok-push-in-Wants.ensures.items (asked_stack left q size m a c.loop-below.below.items t c.in-Wants.waits c.in-Wants.child c.loop-below.invariant.1 is.waits is.wanted),
+      c.loop-room.invariant.0,
+      rw c.in_ok-push-in-Wants.ensures.items (asked_stack left q size m a c.loop-room.below.items t c.in-Wants.waits c.in-Wants.child c.loop-room.invariant.1 is.waits is.wanted),
     )
 
 -- where the one on top is over
@@ -57,34 +57,34 @@ keep-requires-clause-node g c =
     let size = g.N.Nodes.size c.args.nodes.now in
     let left = g.N.Left.Candidates.left in
     let a : Pair = record { node = c.args.node; start = c.args.start } in
-    let t = c.loop-below.top in
-    rw c.pair-pair.ensures (pair_is left q size t (top_pending left q size c.loop-below.memo a c.loop-below.below.items t c.loop-below.invariant.1)).node
+    let t = c.loop-room.top in
+    rw c.pair-pair.ensures (pair_is left q size t (top_pending left q size c.loop-room.memo a c.loop-room.below.items t c.loop-room.invariant.1)).node
 
-pub loop-below-smaller : goal.loop-below-smaller
-loop-below-smaller g c =
+pub loop-room-smaller : goal.loop-room-smaller
+loop-room-smaller g c =
     let q = g.N.Nodes.facts c.args.nodes.now in
     let size = g.N.Nodes.size c.args.nodes.now in
     let left = g.N.Left.Candidates.left in
     let a : Pair = record { node = c.args.node; start = c.args.start } in
-    let m = c.loop-below.memo in
-    let t = c.loop-below.top in
+    let m = c.loop-room.memo in
+    let t = c.loop-room.top in
     let m' = c.keep.new.memo in
     let r = c.in-Over.settled.run in
     let keeps : Keeps m m' (pair_of t).node (pair_of t).start r = rw c.pair-pair.ensures at c.in_ok-keep-in-Some.ensures.keeps in
-    over_less left q size m m' a c.loop-below.below.items c.pop.new.self.items t c.in-Some.waiting r c.loop-below.invariant.1 c.in-Some.ensures.items keeps
+    over_less left q size m m' a c.loop-room.below.items c.pop.new.self.items t c.in-Some.waiting r c.loop-room.invariant.1 c.in-Some.ensures.items keeps
     (rw c.pair-pair.ensures at c.in_ok-keep-in-Some.ensures.known)
 
-pub loop-below-preserved : goal.loop-below-preserved
-loop-below-preserved g c =
+pub loop-room-preserved : goal.loop-room-preserved
+loop-room-preserved g c =
     let q = g.N.Nodes.facts c.args.nodes.now in
     let size = g.N.Nodes.size c.args.nodes.now in
     let left = g.N.Left.Candidates.left in
     let a : Pair = record { node = c.args.node; start = c.args.start } in
-    let m = c.loop-below.memo in
-    let t = c.loop-below.top in
+    let m = c.loop-room.memo in
+    let t = c.loop-room.top in
     let m' = c.keep.new.memo in
     let r = c.in-Over.settled.run in
     let keeps : Keeps m m' (pair_of t).node (pair_of t).start r = rw c.pair-pair.ensures at c.in_ok-keep-in-Some.ensures.keeps in (
       c.in_ok-keep-in-Some.ensures.memo,
-      over_stack left q size m m' a c.loop-below.below.items c.pop.new.self.items t c.in-Some.waiting r c.loop-below.invariant.1 c.in-Some.ensures.items keeps,
+      over_stack left q size m m' a c.loop-room.below.items c.pop.new.self.items t c.in-Some.waiting r c.loop-room.invariant.1 c.in-Some.ensures.items keeps,
     )
