@@ -66,8 +66,8 @@ pub(crate) struct PredicateTable<'s> {
 pub(crate) struct TaskTable<'s> {
     pub places: Names<'s>,
     pub list: Vec<Declared<'s>>,
-    /// How many of them are tasks, which mostly come first.
-    pub tasks: usize,
+    /// How many of them are tasks that methods decompose: these mostly stand before the actions.
+    pub compounds: usize,
 }
 
 /// What names are declared; of several declarations of a name the first counts.
@@ -134,11 +134,11 @@ fn task_table<'s>(alloc: Global, domain: &DomainText<'s>) -> Result<TaskTable<'s
     let list = declarations(alloc, domain)?;
     let words = declared_words(alloc, &list)?;
     let places = Names::of(alloc, &words)?;
-    let tasks = domain.tasks().len();
+    let compounds = domain.tasks().len();
     Ok(TaskTable {
         places,
         list,
-        tasks,
+        compounds,
     })
 }
 
@@ -263,7 +263,7 @@ impl<'s> Tables<'s> {
     fn likely_place(&self, name: TaskName) -> usize {
         match name {
             TaskName::Compound(task) => task.0,
-            TaskName::Primitive(action) => self.tasks.tasks.saturating_add(action.0),
+            TaskName::Primitive(action) => self.tasks.compounds.saturating_add(action.0),
         }
     }
 
