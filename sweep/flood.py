@@ -3,8 +3,9 @@
 
 sweep/flood.py PROGRAM
 
-Objects are named so that the hints of all of them fall into one place, and :init speaks of each. The same number of names that do not
-collide is judged beside them. Valgrind counts the instructions of both. Four times as many names may take at most five times as many,
+Objects are named so that the hints of all of them fall into one place, and :init speaks of each, from the last to the first, so that
+none stands behind the one before it, where it would be found without a hint. The same number of names that do not collide is judged
+beside them. Valgrind counts the instructions of both. Four times as many names may take at most five times as many,
 and names that collide at most twice as many as others. The status is 0 where it is so. Wants gcc and valgrind."""
 
 import os
@@ -69,7 +70,7 @@ def instructions(program, folder, names):
     texts = {
         "domain.hddl": "(define (domain flood) (:predicates (p ?x)) (:action stay))\n",
         "problem.hddl": "(define (problem flood) (:domain flood) (:objects %s)\n(:htn :subtasks (stay)) (:init %s))\n"
-        % (" ".join(names), "\n".join(f"(p {name})" for name in names)),
+        % (" ".join(names), "\n".join(f"(p {name})" for name in reversed(names))),
         "plan.txt": "==>\n1 stay\nroot 1\n<==\n",
     }
     for name, text in texts.items():
