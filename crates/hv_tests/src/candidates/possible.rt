@@ -7,9 +7,9 @@ ghost use Rattle.hv_plan.specs.PlanTrees.{IsTreeIn};
 
 use crate::candidates::{Candidate, all, lent, matcher_of, node_of};
 use crate::worlds::{object, plan_of, tree_of, world_of};
-use hv_match::{CandidateRoom, Candidates};
+use hv_match::{CandidateRoom, Candidates, Matcher};
 use hv_plan::Tree;
-use hv_state::{BitState, Trace};
+use hv_state::{BitState, EverTrue, Trace};
 use hv_world::World;
 use std::alloc::Global;
 
@@ -57,6 +57,21 @@ fn note(alloc: Global, candidates: &mut Candidates<'_>, noted: &mut Vec<Candidat
     None
 }
 
+// The candidates of a node, where it is told which atoms are ever true.
+fn candidates_where<'a>(
+    alloc: Global,
+    matcher: &'a Matcher<'_, '_>,
+    tree: &'a Tree<'_, '_>,
+    node: u32,
+    ever: Option<EverTrue<'a>>,
+) -> Option<Candidates<'a>>
+    requires tree { IsTreeIn matcher.now (tree_view tree.now) }
+    requires node { node < length (tree_view tree.now).nodes }
+{
+    let room = CandidateRoom::new(alloc);
+    Candidates::new(alloc, room, matcher, tree, node, ever).ok()
+}
+
 // Notes the candidates of a node that are possible before a state of the plan.
 fn note_possible(
     alloc: Global,
@@ -72,8 +87,7 @@ fn note_possible(
 {
     let matcher = matcher_of(alloc, world)?;
     let ever = Some(trace.ever_true(0, end.max(1)));
-    let room = CandidateRoom::new(alloc);
-    let mut candidates = Candidates::new(alloc, room, &matcher, tree, node, ever).ok()?;
+    let mut candidates = candidates_where(alloc, &matcher, tree, node, ever)?;
     note(alloc, &mut candidates, noted)
 }
 
