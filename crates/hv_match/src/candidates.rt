@@ -52,12 +52,13 @@ pub struct Candidates<'a> {
     // The candidate that is lent.
     children: Vec<u32>,
     objects: Vec<ObjectId>,
-    // What the children do, where nothing is looked for any more.
+    // What the children do, where no search asks for it any more: a list for the next node.
     works: Vec<Option<Work<'a>>>,
 }
 
 /// The lists that a node's candidates are written down in. They are handed on from node to node, so
-/// that a node whose choices are forced takes no memory; what stands in them counts for nothing.
+/// that a node whose choices are forced takes no memory. What stands in them counts for nothing, so
+/// no clause speaks of it.
 #[derive(Drop)]
 pub struct CandidateRoom<'a> {
     children: Vec<u32>,
@@ -287,7 +288,7 @@ impl<'a> Candidates<'a> {
         })
     }
 
-    /// The lists, to be used again for another node.
+    /// The lists, for the candidates of another node.
     pub fn into_room(self) -> CandidateRoom<'a> {
         let Candidates {
             children,
@@ -328,8 +329,8 @@ impl<'a> Candidates<'a> {
 
     /// All candidates of a node, each once, in no said order; they are no more than its count.
     /// Where it is told which atoms are ever true in some states, those are left out whose
-    /// precondition needs another. They are written down in lists that another node may have had.
-    /// Err only for want of memory.
+    /// precondition needs another. They are written down in `room`, whatever stands there. Err only
+    /// for want of memory.
     pub fn new(
         alloc: Global,
         room: CandidateRoom<'a>,

@@ -36,8 +36,7 @@ fn children_at(alloc: Global, children: &[Child], places: &[u32]) -> Result<Vec<
 
 /// All candidates of a node of a tree of the matcher's world, whose method has this sequencing,
 /// with their children in order by these spans; where it is told which atoms are true in a stretch
-/// of states, those whose precondition needs another are left out. They are written down in lists
-/// that another node may have had.
+/// of states, those whose precondition needs another are left out. They are written down in `room`.
 pub(crate) fn candidates_of<'a>(
     alloc: Global,
     room: CandidateRoom<'a>,

@@ -14,7 +14,7 @@ use std::alloc::Global;
 pub trait Nodes {
     type Left: Candidates + Drop;
 
-    // What the candidates of one node are written down in, and then those of another. No answer
+    // What the candidates of one node are written down in, and then those of the next. No answer
     // hangs on what stands there.
     type Room: Drop;
 
@@ -29,7 +29,7 @@ pub trait Nodes {
         ensures small { result < 4294967295 };
 
     /// Candidates of a node: where it fits with any candidate from a start on, it does
-    /// with one of these.
+    /// with one of these. They are written down in `room`, where some is at hand.
     fn candidates(
         &self,
         alloc: Global,
@@ -42,7 +42,7 @@ pub trait Nodes {
         ensures { IfOk result
             (λ all. AreAllOf (facts self.now) node start (Self.Left.left all)) };
 
-    /// What candidates were written down in, of which no more are wanted.
+    /// What candidates are written down in, where no more of them are wanted.
     fn take_back(&self, left: Self::Left) -> Self::Room;
 
     /// A state that a node is over no earlier than, whatever its start.

@@ -1,7 +1,8 @@
 //! What a node comes to from one start, where only what is asked for is worked out.
 //!
 //! Tasks, frames and turns are large values that go from call to call: most calls are inlined, so
-//! that none is copied on its way.
+//! that none is copied on its way. What the candidates of one node are written down in is handed on
+//! to the next (`room`).
 ghost use Rattle.std.specs.Prelude.{◌≡◌, ◌<◌, ◌≤◌, IfOk, IfSome, OnOk, is_some, true};
 ghost use Rattle.hv_order.specs.inside.Facts.{IsNodeRun};
 ghost use Rattle.hv_order.specs.inside.Memos.{found, AreKnown, IsSmall, Keeps, IsBelow, IsWanted};

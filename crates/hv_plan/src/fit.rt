@@ -60,8 +60,9 @@ pub(crate) struct Grounded {
     pub(crate) objects: Vec<ObjectId>,
 }
 
-// The objects of names, in a list that had others; None where one of the names is no object. Each is
-// looked at first behind the one that another line has there.
+// The objects of names, in a list that had others; None where one of the names is no object. Each
+// name is compared before all with the object declared behind the one that `others`, the objects of
+// the line before, have there.
 fn objects_named<'s>(
     room: Vec<ObjectId>,
     world: &World<'s>,
@@ -147,8 +148,8 @@ fn parts_of<'a>(action: Option<GroundAction<'a>>) -> (Option<ActionId>, &'a [Obj
     }
 }
 
-/// The action of an action line, with the objects in a list that had others. Its names are looked at
-/// first behind those of another line.
+/// The action of an action line, with the objects in a list that had others; `other` is the action
+/// of the line before.
 ///
 /// # Errors
 ///
@@ -199,8 +200,8 @@ fn is_for(world: &World<'_>, method: MethodId, task: TaskId) -> bool
     }
 }
 
-/// What a decomposition line says, with the objects in a list that had others. Each is looked at
-/// first behind the one that another line has there.
+/// What a decomposition line says, with the objects in a list that had others; `others` are the
+/// objects of the line before.
 ///
 /// # Errors
 ///

@@ -133,7 +133,7 @@ impl<'s> Names<'s> {
         }
     }
 
-    /// Where a name stands first, if it is behind this place of another.
+    /// Where a name stands first, if that is the place behind this one.
     #[inline(always)]
     pub(crate) fn behind(&self, other: usize, name: Name<'s>) -> Option<usize>
         ensures { IfSome result (λ p. places_by self.now (text_of name.entry) ≡ Some p) }
@@ -141,7 +141,7 @@ impl<'s> Names<'s> {
         self.place_at(other.saturating_add(1), name)
     }
 
-    /// Where a name stands first. It is looked at first behind the place of another.
+    /// Where a name stands first. The place behind another name's is looked at before all.
     pub(crate) fn place_behind(&self, other: Option<usize>, name: Name<'s>) -> Option<usize>
         ensures { result ≡ places_by self.now (text_of name.entry) }
     {
@@ -197,8 +197,9 @@ pub(crate) fn place_of<'s>(
     names.get_index_of(&name)
 }
 
-/// The same, where the place behind another name's is looked at first: what texts list often goes
-/// through names in the order in which they are declared, and what stands there is at hand.
+/// As `place_of`, where the place behind another name's is looked at before all. What texts list
+/// often goes through names in the order in which they are declared: then one comparison finds
+/// each, with what is at hand, and nothing is hashed.
 pub(crate) fn place_behind<'s>(
     names: &IndexSet<Name<'s>, Seeded>,
     hints: &Hints,

@@ -62,7 +62,7 @@ impl<'a, 's> Scope<'a, 's> {
         }
     }
 
-    /// The same, where the place behind another variable's is looked at first.
+    /// As `place`, where the place behind another parameter's is looked at before all.
     ///
     /// # Errors
     ///

@@ -226,8 +226,8 @@ impl<'s> Tables<'s> {
         }
     }
 
-    /// The number of a constant or an object, where it is declared. The place behind another one is
-    /// looked at first.
+    /// The number of a constant or an object, where it is declared. The one declared behind another
+    /// is looked at before all.
     pub(crate) fn object_behind(&self, other: Option<usize>, name: Name<'s>) -> Option<usize>
         ensures place { result ≡ place_in (known_by self.now).objects (text_of name.entry) }
         ensures known { is_some result ≡ is_among (known_by self.now).objects (text_of name.entry) }
@@ -236,7 +236,7 @@ impl<'s> Tables<'s> {
     }
 
     /// The number of a constant or an object; of one that is not declared, the number behind the
-    /// last. It is looked at first behind another object.
+    /// last. The one declared behind another is looked at before all.
     pub(crate) fn object_number(&self, other: Option<usize>, name: Name<'s>) -> usize
         ensures { result ≡ number_in (known_by self.now).objects (text_of name.entry) }
     {
@@ -267,7 +267,8 @@ impl<'s> Tables<'s> {
         }
     }
 
-    /// A task or an action, as it is declared first. It is looked at first behind another.
+    /// A task or an action, as it is declared first. The one declared behind another is looked at
+    /// before all.
     pub(crate) fn task(&self, other: Option<TaskName>, name: Name<'s>) -> Option<Declared<'s>>
         ensures { option_map declaration_view result
             ≡ (known_by self.now).task (text_of name.entry) }

@@ -240,8 +240,8 @@ impl<'s> World<'s> {
         }
     }
 
-    /// The same, where the object behind another is looked at first. It costs less where names
-    /// come in the order in which they are declared.
+    /// As `object_named`, where the object declared behind another is looked at before all. It
+    /// costs less where names come in the order in which they are declared.
     pub fn object_behind(&self, other: Option<ObjectId>, name: Name<'s>) -> Option<ObjectId>
         ensures { option_map (λ o. o.0) result
             ≡ place_in (world_view self.now).objects (text_of name.entry) }
@@ -284,7 +284,7 @@ impl<'s> World<'s> {
         }
     }
 
-    /// The same, where the action behind another is looked at first.
+    /// As `task_named`, where the action declared behind another is looked at before all.
     pub fn task_behind(&self, other: Option<ActionId>, name: Name<'s>) -> Option<TaskName>
         ensures { option_map name_view result
             ≡ task_named (world_view self.now) (text_of name.entry) }

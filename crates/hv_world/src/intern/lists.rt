@@ -88,7 +88,7 @@ pub(crate) fn add_eithers_pairs<'s>(
     Ok(())
 }
 
-// The number of the last object that has its type.
+// The number of the object of the last pair.
 fn last_object(pairs: &[(ObjectId, TypeId)]) -> Option<usize> {
     match pairs.last() {
         Some((object, _)) => Some(object.0),

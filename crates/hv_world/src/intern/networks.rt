@@ -84,8 +84,7 @@ fn parts_of(subtask: Option<&Subtask>) -> (Option<TaskName>, &[Term]) {
     }
 }
 
-// A subtask, which is a task or an action, and its first fault. Its names are looked for first
-// behind those of another subtask.
+// A subtask, which is a task or an action, and its first fault; `other` is the one before it.
 fn checked_subtask<'s>(
     alloc: Global,
     tables: &Tables<'s>,

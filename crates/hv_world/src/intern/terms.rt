@@ -22,8 +22,8 @@ use hv_syntax::{AtomText, Placed, TermText};
 use hv_text::Memory;
 use std::alloc::Global;
 
-// The object that a word names, and the fault of one that is none. It is looked at first behind the
-// term that stood there before.
+// The object that a word names, and the fault of one that is none. Where another object stood in
+// its place, the one declared behind that is looked at before all.
 fn checked_object<'s>(
     tables: &Tables<'s>,
     side: Side,
@@ -52,8 +52,8 @@ fn checked_object<'s>(
     }
 }
 
-// The variable that a word names, and the fault of one that is not in scope; looked at first behind
-// the term that stood there before.
+// The variable that a word names, and the fault of one that is not in scope. Where another variable
+// stood in its place, the one declared behind that is looked at before all.
 fn checked_variable<'s>(
     scope: &Scope<'_, 's>,
     side: Side,
@@ -137,7 +137,8 @@ pub(crate) fn checked_equality<'s>(
     })
 }
 
-// Terms and their first fault. Each is looked for first behind the one that another list has there.
+// Terms and their first fault. `others` are the terms of what stands before, if there is something:
+// each name is compared before all with the one declared behind that of the term there.
 fn checked_terms<'s>(
     alloc: Global,
     tables: &Tables<'s>,
@@ -184,8 +185,8 @@ fn head_fault(head: Head, side: Side, word: Placed<'_>, count: usize) -> Option<
     }
 }
 
-/// The terms of a name, and the first fault of both. Each term is looked for first behind the one
-/// that another list has there.
+/// The terms of a name, and the first fault of both; `others` are the terms of what stands before,
+/// if there is something.
 ///
 /// # Errors
 ///
@@ -217,8 +218,7 @@ pub(crate) fn checked_application<'s>(
     })
 }
 
-/// An atom and its first fault. Each term is looked for first behind the one that another list has
-/// there.
+/// An atom and its first fault; `others` are the terms of the atom before it, if there is one.
 ///
 /// # Errors
 ///
