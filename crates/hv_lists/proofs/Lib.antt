@@ -4,5 +4,6 @@ pub mod Options
 pub mod Contained
 pub mod Places
 pub mod Pairs
+pub mod Heads
 pub mod EachOnce
 pub mod Told

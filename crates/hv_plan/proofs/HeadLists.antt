@@ -60,12 +60,6 @@ taken_at xs i x there =
     let (lt, is) = stands_at xs i x there in
     take_more xs i x lt ∙ ap (λ z. take i xs ++ z ∷ []) (sym is)
 
--- what is left at a place: what stands there, and what is left behind it
-pub left_at : {X : Type 0} (xs : List X) (i : ℕ) (x : X) → slice_get xs i ≡ Some x → drop i xs ≡ x ∷ drop (i + 1) xs
-left_at xs i x there =
-    let (lt, is) = stands_at xs i x there in
-    drop_more xs i x lt ∙ ap (λ y. y ∷ drop (i + 1) xs) (sym is)
-
 -- the step of a loop over items that appends a list for each
 pub append_item : {X Y : Type 0} (f : List X → List Y) (g : X → List Y) → ((x : X) (xs : List X) → f (x ∷ xs) ≡ g x ++ f xs)
     → (x : X) (left rest : List X) (old new all : List Y) → left ≡ x ∷ rest → new ≡ old ++ g x → old ++ f left ≡ all → new ++ f rest ≡ all

@@ -1,5 +1,4 @@
 pub mod Lemmas
-pub mod ListLemmas
 pub mod LineLists
 pub mod SpellingLemmas
 pub mod LineTexts

@@ -4,7 +4,7 @@ use Rattle.std.specs.Prelude.{slice_index_or}
 use Rattle.hv_text.specs.declared.name.Name.{Name}
 use Rattle.hv_plan.specs.LineViews.{headed, lines_of}
 use Rattle.hv_plan.specs.declared.plan.decompositions.DecompositionHead.{DecompositionHead}
-use Rattle.hv_plan.proofs.ListLemmas.{next_list}
+use Rattle.hv_lists.proofs.Heads.{next_list}
 
 pub length_lines : (hs : List DecompositionHead) (names : List (List Name)) (is : List (List ℕ)) → length (lines_of hs names is) ≡ length hs
 length_lines [] names is = refl

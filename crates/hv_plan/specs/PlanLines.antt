@@ -2,7 +2,7 @@
 use Rattle.std.specs.Prelude.{◌≡◌, ℕ, List, [], ◌∷◌, drop, length, map, slice_index_or}
 use Rattle.hv_text.specs.Names.{text_of}
 use Rattle.hv_text.specs.declared.name.Name.{Name}
-use Rattle.hv_plan.specs.inside.Lists.{with_lists}
+use Rattle.hv_lists.specs.Lists.{with_lists}
 use Rattle.hv_plan.specs.Values.{Action, Decomposition, Plan}
 use Rattle.hv_plan.specs.declared.plan.actions.ActionHead.{ActionHead}
 use Rattle.hv_plan.specs.declared.plan.actions.ActionLine.{ActionLine}

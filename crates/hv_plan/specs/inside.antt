@@ -1,6 +1,5 @@
 -- What the code works on and keeps, as its proofs speak of it; no definition of a public clause
 -- reads it but through what a value stands for.
-pub mod Lists
 pub mod Views
 pub mod LineFaults
 pub mod FitViews

@@ -19,6 +19,7 @@ ghost use Rattle.hv_plan.specs.LineViews.{action_view, decomposition_view};
 ghost use Rattle.hv_plan.specs.PlanTrees.{IsActionOf};
 
 use crate::cause::CauseKind;
+use crate::fit::lines::Before;
 use crate::plan::{ActionLine, DecompositionLine};
 use hv_text::{Memory, Name};
 use hv_world::{
@@ -200,8 +201,8 @@ fn is_for(world: &World<'_>, method: MethodId, task: TaskId) -> bool
     }
 }
 
-/// What a decomposition line says, with the objects in a list that had others; `others` are the
-/// objects of the line before.
+/// What a decomposition line says, with the objects in a list that had others; `before` is what
+/// lines before it say.
 ///
 /// # Errors
 ///
@@ -210,7 +211,7 @@ fn is_for(world: &World<'_>, method: MethodId, task: TaskId) -> bool
 pub(crate) fn fit_line<'s>(
     room: Vec<ObjectId>,
     world: &World<'s>,
-    others: &[ObjectId],
+    before: Before<'_>,
     line: DecompositionLine<'_, 's>,
 ) -> Result<Decomposed, LineFault>
     ensures { MatchResult result
@@ -219,13 +220,13 @@ pub(crate) fn fit_line<'s>(
         (IsLineFault (IsSmallest (world_view world.now)
         (line_entry (decomposition_view line.entry)))) }
 {
-    let Some(name) = world.task_named(line.name) else {
+    let Some(name) = world.task_like(before.task, line.name) else {
         return Err(LineFault::Cause(CauseKind::UnknownTask));
     };
-    let Some(method) = world.method_named(line.method) else {
+    let Some(method) = world.method_like(before.method, line.method) else {
         return Err(LineFault::Cause(CauseKind::UnknownMethod));
     };
-    let objects = fit_arguments(room, world, others, name, line.arguments)?;
+    let objects = fit_arguments(room, world, before.objects, name, line.arguments)?;
     match name {
         TaskName::Compound(task) => {
             if is_for(world, method, task) {

@@ -1,9 +1,9 @@
 //! A state as a row of bits.
 
-ghost use Rattle.std.specs.Prelude.{ℕ, List, ◌↔◌, IsTrue, IfOk};
+ghost use Rattle.std.specs.Prelude.{ℕ, List, ◌++◌, ◌↔◌, IsTrue, IfOk};
 ghost use Rattle.std.specs.List.{Contains};
 ghost use Rattle.hv_state.specs.Atoms.{atom_read, row_of, IsPassedOver};
-ghost use Rattle.hv_state.specs.inside.Rows.{rows_in, Listed};
+ghost use Rattle.hv_state.specs.inside.Rows.{rows_in, Listed, Ascend, HasSameRows};
 ghost use Rattle.hv_state.specs.inside.Bits.{Lit, Shown, Knows, AreBits, IsChanged};
 
 use crate::atom::AtomView;
@@ -58,6 +58,21 @@ fn change(table: &[Row], words: &mut Vec<u64>, deletes: &[Row], adds: &[Row])
     set_all(table, words, adds);
 }
 
+// Puts rows among others in order. Where there are none, as of a plan whose actions touch what is
+// true at the start alone, nothing is gone through.
+fn put_lacking(rows: &mut Vec<Row>, new: &[Row]) -> Result<(), Memory>
+    requires { Ascend (rows_in rows.old.items) }
+    ensures ascend { IfOk result (λ _. Ascend (rows_in rows.new.items)) }
+    ensures exact { IfOk result (λ _. HasSameRows (rows_in rows.old.items ++ rows_in new.now)
+        (rows_in rows.new.items)) }
+{
+    if new.is_empty() {
+        return Ok(());
+    }
+    push_copies(rows, new)?;
+    merge_distinct(rows)
+}
+
 impl BitState {
     // A state in which the atoms of rows are true, and whose table has more rows.
     fn over(alloc: Global, lit: Vec<Row>, more: &[Row]) -> Result<BitState, Memory>
@@ -67,8 +82,7 @@ impl BitState {
         let mut rows = lit;
         sort_distinct(&mut rows);
         let dark = lacking(alloc, &rows, more)?;
-        push_copies(&mut rows, &dark)?;
-        merge_distinct(&mut rows)?;
+        put_lacking(&mut rows, &dark)?;
         let mut words = bright(alloc, rows.len())?;
         clear_all(&rows, &mut words, &dark);
         let guesses = Rc::new(alloc, guesses_of(alloc, &rows)?)?;

@@ -39,13 +39,20 @@ module _ {A X : Type 0} (f : Tree → Option A) (view : X → A) where
   behind_both front a None = refl
   behind_both front a (Some xs) = ap Some (sym (append_assoc front (a ∷ []) xs))
 
+  pub read_one_more : (es : List Sexp) (i : ℕ) (e : Sexp) (front : List A) (a : A) (all : Option (List A)) → i < length es → e ≡ get_or es i e → f (tree e) ≡ Some a
+      → behind front (every f (trees (drop i es))) ≡ all
+      → behind (front ++ a ∷ []) (every f (trees (drop (i + 1) es))) ≡ all
+  read_one_more es i e front a all lt is read so_far =
+      let here : behind front (every f (trees (drop i es))) ≡ behind front (both ◌∷◌ (Some a) (every f (trees (drop (i + 1) es)))) =
+      rw (member_at es i e lt is, read) refl in
+      sym (behind_both front a _) ∙ sym here ∙ so_far
+
   pub read_more : (es : List Sexp) (i : ℕ) (e : Sexp) (front : List X) (x : X) (all : Option (List A)) → i < length es → e ≡ get_or es i e → f (tree e) ≡ Some (view x)
       → behind (map view front) (every f (trees (drop i es))) ≡ all
       → behind (map view (front ++ x ∷ [])) (every f (trees (drop (i + 1) es))) ≡ all
   read_more es i e front x all lt is read so_far =
-      let here : behind (map view front) (every f (trees (drop i es))) ≡ behind (map view front) (both ◌∷◌ (Some (view x)) (every f (trees (drop (i + 1) es)))) =
-      rw (member_at es i e lt is, read) refl in
-      ap (λ xs. behind xs (every f (trees (drop (i + 1) es)))) (map-append view front (x ∷ [])) ∙ sym (behind_both (map view front) (view x) _) ∙ sym here ∙ so_far
+      ap (λ xs. behind xs (every f (trees (drop (i + 1) es)))) (map-append view front (x ∷ []))
+      ∙ read_one_more es i e (map view front) (view x) all lt is read so_far
 
   pub read_none : (es : List Sexp) (i : ℕ) (e : Sexp) (front : List A) (all : Option (List A)) → i < length es → e ≡ get_or es i e → f (tree e) ≡ None
       → behind front (every f (trees (drop i es))) ≡ all → all ≡ None

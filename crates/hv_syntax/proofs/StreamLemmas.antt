@@ -40,12 +40,17 @@ ended_none (lost ts) e = ap lost e
 ended_none (upto ts p r) e = ap (λ x. upto x p r) e
 
 module _ {A X : Type 0} (f : Tree → Option A) (view : X → A) (t : Tree) (r r' : Rest) (first : r ≡ add t r') (all : Option (List A)) where
+  pub read_one_next : (front : List A) (a : A) → f t ≡ Some a → behind front (every f (here r)) ≡ all
+      → behind (front ++ a ∷ []) (every f (here r')) ≡ all
+  read_one_next front a read so_far =
+      let one : behind front (every f (here r)) ≡ behind front (both ◌∷◌ (Some a) (every f (here r'))) =
+      ap (λ z. behind front (every f z)) (ap here first ∙ here_add t r') ∙ ap (λ z. behind front (both ◌∷◌ z (every f (here r')))) read in
+      sym (behind_both f view front a _) ∙ sym one ∙ so_far
+
   pub read_next : (front : List X) (x : X) → f t ≡ Some (view x) → behind (map view front) (every f (here r)) ≡ all
       → behind (map view (front ++ x ∷ [])) (every f (here r')) ≡ all
   read_next front x read so_far =
-      let one : behind (map view front) (every f (here r)) ≡ behind (map view front) (both ◌∷◌ (Some (view x)) (every f (here r'))) =
-      ap (λ z. behind (map view front) (every f z)) (ap here first ∙ here_add t r') ∙ ap (λ z. behind (map view front) (both ◌∷◌ z (every f (here r')))) read in
-      ap (λ xs. behind xs (every f (here r'))) (map-append view front (x ∷ [])) ∙ sym (behind_both f view (map view front) (view x) _) ∙ sym one ∙ so_far
+      ap (λ xs. behind xs (every f (here r'))) (map-append view front (x ∷ [])) ∙ read_one_next (map view front) (view x) read so_far
 
   pub read_no_next : (front : List A) → f t ≡ None → behind front (every f (here r)) ≡ all → all ≡ None
   read_no_next front read so_far =

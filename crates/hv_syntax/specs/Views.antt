@@ -5,6 +5,7 @@ use Rattle.hv_syntax.specs.declared.word.Placed.{Placed}
 use Rattle.hv_syntax.specs.declared.term.TermText.{TermText}
 use Rattle.hv_syntax.specs.declared.term.TermText.TheVariants as terms
 use Rattle.hv_syntax.specs.declared.term.AtomText.{AtomText}
+use Rattle.hv_syntax.specs.declared.term.LentAtom.{LentAtom}
 use Rattle.hv_syntax.specs.declared.typed.TypeText.{TypeText}
 use Rattle.hv_syntax.specs.declared.typed.TypeText.TheVariants as types
 use Rattle.hv_syntax.specs.declared.typed.TypedText.{TypedText}
@@ -12,6 +13,7 @@ use Rattle.hv_syntax.specs.declared.variable.VariableText.{VariableText}
 use Rattle.hv_syntax.specs.declared.formula.FormulaText.{FormulaText, fold-FormulaText}
 use Rattle.hv_syntax.specs.declared.formula.FormulaText.TheOpen.{FormulaText-F}
 use Rattle.hv_syntax.specs.declared.literal.LiteralText.{LiteralText}
+use Rattle.hv_syntax.specs.declared.literal.LentLiteral.{LentLiteral}
 use Rattle.hv_syntax.specs.declared.effect.ItemText.{ItemText, fold-ItemText}
 use Rattle.hv_syntax.specs.declared.effect.ItemText.TheOpen.{ItemText-F}
 use Rattle.hv_syntax.specs.declared.effect.EffectText.{EffectText}
@@ -26,6 +28,9 @@ term_view (terms.Variable p) = variable (word_view p)
 
 abbrev pub atom_view : AtomText → Atom
 atom_view a = atom_with (word_view a.symbol) (map term_view a.terms.items)
+
+abbrev pub lent_atom_view : LentAtom → Atom
+lent_atom_view a = atom_with (word_view a.symbol) (map term_view a.terms.now)
 
 abbrev pub type_view : TypeText → TypeOf
 type_view types.Object = no_type
@@ -53,6 +58,9 @@ formula_view = fold-FormulaText Formula formula_step
 
 abbrev pub literal_view : LiteralText → Literal
 literal_view l = literal l.is_positive (atom_view l.atom)
+
+abbrev pub lent_literal_view : LentLiteral → Literal
+lent_literal_view l = literal l.is_positive (lent_atom_view l.atom)
 
 -- one level, with each item inside already seen
 abbrev pub item_step : ItemText-F Item → Item

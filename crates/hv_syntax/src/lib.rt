@@ -7,6 +7,7 @@ mod effect;
 mod fault;
 mod field;
 mod formula;
+mod init;
 mod laws;
 mod list;
 mod literal;
@@ -32,13 +33,14 @@ pub use domain::DomainText;
 pub use effect::{EffectText, ItemText};
 pub use fault::{SyntaxFault, SyntaxKind};
 pub use formula::FormulaText;
+pub use init::{InitLiterals, InitText};
 pub use laws::{
     a_domain_or_a_fault, a_problem_or_a_fault, a_text_says_one_thing, a_value_or_a_fault,
     atoms_are_spelled, effects_are_spelled, faults_are_first, fields_are_pairs,
     formulas_are_spelled, letter_case_decides_nothing, networks_are_spelled, sections_stand_once,
     texts_are_spelled, typed_lists_are_spelled,
 };
-pub use literal::LiteralText;
+pub use literal::{LentLiteral, LiteralText};
 pub use method::MethodText;
 pub use network::{ConstraintText, NetworkText, PairText, SubtaskText};
 pub use predicate::PredicateText;
@@ -54,7 +56,7 @@ pub use print_law::{
 pub use problem::{HtnText, ProblemText};
 pub use read::{read_domain, read_problem};
 pub use task::TaskText;
-pub use term::{AtomText, TermText};
+pub use term::{AtomText, LentAtom, TermText};
 pub use typed::{TypeText, TypedText};
 pub use variable::VariableText;
 pub use word::Placed;

@@ -5,13 +5,16 @@ ghost use Rattle.hv_text.specs.Trees.{tree, trees};
 ghost use Rattle.hv_syntax.specs.inside.Reading.{Gives, every};
 ghost use Rattle.hv_syntax.specs.Literals.{is_constant, are_constants};
 ghost use Rattle.hv_syntax.specs.inside.Literals.{literal_of, ground_literal_of};
-ghost use Rattle.hv_syntax.specs.Views.{term_view, atom_view, literal_view};
+ghost use Rattle.hv_syntax.specs.Views.{term_view, lent_atom_view, literal_view};
+ghost use Rattle.hv_syntax.specs.Views.{lent_literal_view};
+ghost use Rattle.hv_syntax.specs.ProblemViews.{init_view};
 
 mod stream;
 
+use crate::init::InitText;
 use crate::list::negated;
 use crate::refusal::Refusal;
-use crate::term::{AtomText, TermText, read_atom};
+use crate::term::{AtomText, LentAtom, TermText, read_atom};
 use hv_text::Sexp;
 use std::alloc::Global;
 pub(crate) use stream::read_ground_literals_at;
@@ -24,18 +27,37 @@ pub struct LiteralText<'s> {
 }
 
 impl<'s> LiteralText<'s> {
+    /// The same, lent.
+    pub fn lend(&self) -> LentLiteral<'_, 's>
+        ensures { lent_literal_view result ≡ literal_view self.now }
+    {
+        LentLiteral {
+            is_positive: self.is_positive,
+            atom: self.atom.lend(),
+        }
+    }
+}
+
+/// An atom, or the negation of one, lent.
+#[derive(Clone, Copy)]
+pub struct LentLiteral<'a, 's> {
+    pub(crate) is_positive: bool,
+    pub(crate) atom: LentAtom<'a, 's>,
+}
+
+impl<'a, 's> LentLiteral<'a, 's> {
     /// Whether the atom stands without `not`.
-    pub fn is_positive(&self) -> bool
-        ensures { result ≡ (literal_view self.now).is_positive }
+    pub fn is_positive(self) -> bool
+        ensures { result ≡ (lent_literal_view self.entry).is_positive }
     {
         self.is_positive
     }
 
     /// The atom.
-    pub fn atom(&self) -> &AtomText<'s>
-        ensures { atom_view result.now ≡ (literal_view self.now).atom }
+    pub fn atom(self) -> LentAtom<'a, 's>
+        ensures { lent_atom_view result ≡ (lent_literal_view self.entry).atom }
     {
-        &self.atom
+        self.atom
     }
 }
 
@@ -98,13 +120,13 @@ fn read_ground_literal<'s>(alloc: Global, e: &Sexp<'s>) -> Result<LiteralText<'s
 pub(crate) fn read_ground_literals<'s>(
     alloc: Global,
     es: &[Sexp<'s>],
-) -> Result<Vec<LiteralText<'s>>, Refusal>
-    ensures { Gives (λ v. map literal_view v.items) result
-        (every ground_literal_of (trees es.now)) }
+) -> Result<InitText<'s>, Refusal>
+    ensures { Gives init_view result (every ground_literal_of (trees es.now)) }
 {
-    let mut literals = Vec::new(alloc);
+    let mut literals = InitText::new(alloc)?;
     for e in es {
-        literals.push(read_ground_literal(alloc, e)?)?;
+        let literal = read_ground_literal(alloc, e)?;
+        literals.push(literal.lend())?;
     }
     Ok(literals)
 }

@@ -10,9 +10,8 @@ ghost use Rattle.hv_syntax.specs.inside.Problems.{htn_of, goal_of, problem_secti
 ghost use Rattle.hv_syntax.specs.inside.Problems.{problem_section, parts_from, assembled, whole};
 ghost use Rattle.hv_syntax.specs.inside.Problems.{problem_of};
 ghost use Rattle.hv_syntax.specs.Views.{word_view, typed_view, variable_view, formula_view};
-ghost use Rattle.hv_syntax.specs.Views.{literal_view};
 ghost use Rattle.hv_syntax.specs.NetworkViews.{network_view};
-ghost use Rattle.hv_syntax.specs.ProblemViews.{htn_view, problem_section_view, parts_view};
+ghost use Rattle.hv_syntax.specs.ProblemViews.{htn_view, init_view, problem_section_view, parts_view};
 ghost use Rattle.hv_syntax.specs.ProblemViews.{problem_view};
 
 mod stream;
@@ -20,8 +19,9 @@ mod stream;
 use crate::fault::{SyntaxFault, SyntaxKind};
 use crate::field::{Slot, field, is_field_list};
 use crate::formula::{FormulaText, read_formula};
+use crate::init::InitText;
 use crate::list::only;
-use crate::literal::{LiteralText, read_ground_literals};
+use crate::literal::read_ground_literals;
 use crate::network::{NetworkText, read_network};
 use crate::refusal::Refusal;
 use crate::section::{
@@ -74,7 +74,7 @@ pub struct ProblemText<'s> {
     requirements: Vec<Placed<'s>>,
     objects: Vec<TypedText<'s>>,
     htn: HtnText<'s>,
-    init: Vec<LiteralText<'s>>,
+    init: InitText<'s>,
     goal: Option<FormulaText<'s>>,
 }
 
@@ -115,8 +115,8 @@ impl<'s> ProblemText<'s> {
     }
 
     /// The literals of the initial state, as written.
-    pub fn init(&self) -> &[LiteralText<'s>]
-        ensures { map literal_view result.now ≡ (problem_view self.now).init }
+    pub fn init(&self) -> &InitText<'s>
+        ensures { init_view result.now ≡ (problem_view self.now).init }
     {
         &self.init
     }
@@ -136,7 +136,7 @@ pub enum ProblemSection<'s> {
     Requirements(Vec<Placed<'s>>),
     Objects(Vec<TypedText<'s>>),
     Htn(HtnText<'s>),
-    Init(Vec<LiteralText<'s>>),
+    Init(InitText<'s>),
     Goal(FormulaText<'s>),
 }
 
@@ -147,7 +147,7 @@ pub(crate) struct ProblemParts<'s> {
     requirements: Vec<Placed<'s>>,
     objects: Vec<TypedText<'s>>,
     htn: Option<HtnText<'s>>,
-    init: Option<Vec<LiteralText<'s>>>,
+    init: Option<InitText<'s>>,
     goal: Option<FormulaText<'s>>,
 }
 

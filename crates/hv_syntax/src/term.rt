@@ -4,7 +4,7 @@ ghost use Rattle.std.specs.Prelude.{◌≡◌, map};
 ghost use Rattle.hv_text.specs.Trees.{tree, trees};
 ghost use Rattle.hv_syntax.specs.inside.Reading.{Gives, every};
 ghost use Rattle.hv_syntax.specs.inside.Terms.{term_of, atom_of};
-ghost use Rattle.hv_syntax.specs.Views.{word_view, term_view, atom_view};
+ghost use Rattle.hv_syntax.specs.Views.{word_view, term_view, atom_view, lent_atom_view};
 
 use crate::refusal::Refusal;
 use crate::word::{Placed, Sort, read_symbol, sort_of};
@@ -38,6 +38,39 @@ impl<'s> AtomText<'s> {
         ensures { map term_view result.now ≡ (atom_view self.now).terms }
     {
         &self.terms
+    }
+
+    /// The same, lent.
+    pub fn lend(&self) -> LentAtom<'_, 's>
+        ensures { lent_atom_view result ≡ atom_view self.now }
+    {
+        LentAtom {
+            symbol: self.symbol,
+            terms: &self.terms,
+        }
+    }
+}
+
+/// A symbol and its terms, lent.
+#[derive(Clone, Copy)]
+pub struct LentAtom<'a, 's> {
+    pub(crate) symbol: Placed<'s>,
+    pub(crate) terms: &'a [TermText<'s>],
+}
+
+impl<'a, 's> LentAtom<'a, 's> {
+    /// The predicate, or the name of the task.
+    pub fn symbol(self) -> Placed<'s>
+        ensures { word_view result ≡ (lent_atom_view self.entry).symbol }
+    {
+        self.symbol
+    }
+
+    /// The terms, as written.
+    pub fn terms(self) -> &'a [TermText<'s>]
+        ensures { map term_view result.now ≡ (lent_atom_view self.entry).terms }
+    {
+        self.terms
     }
 }
 

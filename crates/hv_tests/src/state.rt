@@ -13,6 +13,7 @@ use hv_text::{Word, read_words};
 use hv_world::{
     ActionId, Atom, Binding, Formula, GroundActions, ObjectId, PredicateId, TaskName, Term, World,
 };
+use smallvec::SmallVec;
 use std::alloc::Global;
 
 // Two trucks, one object that is none, and no ghost.
@@ -105,7 +106,7 @@ fn state_of<S: State>(alloc: Global, domain: &[u8], problem: &[u8]) -> Option<S>
 }
 
 fn atom(alloc: Global, predicate: usize, terms: &[Term]) -> Option<Atom> {
-    let terms = Vec::from_slice(alloc, terms).ok()?;
+    let terms = SmallVec::from_slice(alloc, terms).ok()?;
     Some(Atom {
         predicate: PredicateId(predicate),
         terms,

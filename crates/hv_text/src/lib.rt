@@ -6,6 +6,7 @@ mod at;
 mod cursor;
 mod fault;
 mod files;
+mod headed;
 mod hints;
 mod io;
 mod laws;
@@ -22,6 +23,7 @@ mod words;
 pub use at::Cursor;
 pub use fault::{MOST_BYTES, MOST_OPEN, TextFault, TextKind};
 pub use files::{FromReader, ToWriter};
+pub use headed::Headed;
 pub use hints::Hints;
 pub use io::{DeviceFault, ReadFault, Sink, Source, WriteFault, read_all, write_all, write_parts};
 pub use laws::{

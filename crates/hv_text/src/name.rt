@@ -120,8 +120,7 @@ impl<'s> Name<'s> {
     pub fn is(self, word: &[u8]) -> bool
         ensures { result ≡ bytes_eq (text_of self.entry) (lower word.now) }
     {
-        self.bytes.len() == word.len()
-            && (self.bytes == word || self.bytes.eq_ignore_ascii_case(word))
+        self.bytes.len() == word.len() && self.bytes.eq_ignore_ascii_case(word)
     }
 
     /// The word as it was written.
@@ -153,6 +152,7 @@ impl PartialEq for Name<'_> {
 
     // Most names are written alike each time, and bytes cost less to compare than letters; of names
     // that differ most differ in length.
+    #[inline(always)]
     fn eq(&self, other: &Self) -> bool {
         self.bytes.len() == other.bytes.len()
             && (self.bytes == other.bytes || self.bytes.eq_ignore_ascii_case(other.bytes))

@@ -63,6 +63,15 @@ pub least-if : (b : Bool) (k : StaticKind) (s : Side) (w : WordAt) → fault_if 
 least-if true k s w = refl
 least-if false k s w = refl
 
+-- the part of a value that comes next of those that are left
+pub faults_left : {Y : Type 0} (faults : Y → List StaticFault) (left rest : List Y) (y : Y) (found this next all : Option StaticFault) → left ≡ y ∷ rest
+    → this ≡ least (faults y) → next ≡ earlier found this → earlier found (least (flat_map faults left)) ≡ all → earlier next (least (flat_map faults rest)) ≡ all
+faults_left faults left rest y found this next all split this_is next_is so_far =
+    ap (λ a. earlier a (least (flat_map faults rest))) (next_is ∙ ap (earlier found) this_is)
+    ∙ earlier_assoc found (least (faults y)) (least (flat_map faults rest))
+    ∙ ap (earlier found) (sym (least-append (faults y) (flat_map faults rest)))
+    ∙ ap (λ ys. earlier found (least (flat_map faults ys))) (sym split) ∙ so_far
+
 -- the loop over the parts of a value
 module _ {X Y : Type 0} (view : X → Y) (faults : Y → List StaticFault) where
   abbrev pub of_all : List X → Option StaticFault
@@ -72,10 +81,7 @@ module _ {X Y : Type 0} (view : X → Y) (faults : Y → List StaticFault) where
       → this ≡ least (faults (view x)) → next ≡ earlier found this → earlier found (of_all (drop i xs)) ≡ all → earlier next (of_all (drop (i + 1) xs)) ≡ all
   faults_next xs i x found this next all lt is this_is next_is so_far =
       let split : drop i xs ≡ x ∷ drop (i + 1) xs = drop_more xs i x lt ∙ ap (λ y. y ∷ drop (i + 1) xs) (sym is) in
-      ap (λ a. earlier a (of_all (drop (i + 1) xs))) (next_is ∙ ap (earlier found) this_is)
-      ∙ earlier_assoc found (least (faults (view x))) (of_all (drop (i + 1) xs))
-      ∙ ap (earlier found) (sym (least-append (faults (view x)) (flat_map faults (map view (drop (i + 1) xs)))))
-      ∙ ap (λ ys. earlier found (of_all ys)) (sym split) ∙ so_far
+      faults_left faults (map view (drop i xs)) (map view (drop (i + 1) xs)) (view x) found this next all (ap (map view) split) this_is next_is so_far
 
   pub faults_end : (xs : List X) (i : ℕ) (found all : Option StaticFault) → length xs ≤ i → earlier found (of_all (drop i xs)) ≡ all → found ≡ all
   faults_end xs i found all le so_far = sym (earlier-none_right found) ∙ ap (λ ys. earlier found (of_all ys)) (sym (drop_all i xs le)) ∙ so_far

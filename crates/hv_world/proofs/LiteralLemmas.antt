@@ -22,29 +22,27 @@ module _ {X : Type 0} (xs : List X) (i : ℕ) (x : X) (less : i < length xs) (is
       ∙ ap (λ v. map shown old ++ v ∷ others) is_value
       ∙ ap (λ ys. map shown old ++ map value (map view ys)) (sym split) ∙ so_far
 
-  module _ {T : Type 0} (view : X → text.Literal) (k : Known) (scope : Scope) (shown : T → Atom) (old : List T) (all : List Atom)
-      (so_far : map shown old ++ added k scope (map view (drop i xs)) ≡ all) where
-    abbrev pub others : List Atom
-    others = added k scope (map view (drop (i + 1) xs))
+-- the literal that comes next of those that are left
+module _ {T : Type 0} (k : Known) (scope : Scope) (shown : T → Atom) (old : List T) (all : List Atom)
+    (left rest : List text.Literal) (l : text.Literal) (next : left ≡ l ∷ rest) (so_far : map shown old ++ added k scope left ≡ all) where
+  whole : map shown old ++ cond l.is_positive (atom_in k scope l.atom ∷ added k scope rest) (added k scope rest) ≡ all
+  whole = first l.is_positive refl ∙ ap (λ ys. map shown old ++ added k scope ys) (sym next) ∙ so_far
+    where
+      first : (b : Bool) → l.is_positive ≡ b
+          → map shown old ++ cond l.is_positive (atom_in k scope l.atom ∷ added k scope rest) (added k scope rest)
+          ≡ map shown old ++ added k scope (l ∷ rest)
+      first true e = rw e refl
+      first false e = rw e refl
 
-    whole : map shown old ++ cond (view x).is_positive (atom_in k scope (view x).atom ∷ others) others ≡ all
-    whole = first (view x).is_positive refl ∙ ap (λ ys. map shown old ++ added k scope (map view ys)) (sym split) ∙ so_far
-      where
-        first : (b : Bool) → (view x).is_positive ≡ b
-            → map shown old ++ cond (view x).is_positive (atom_in k scope (view x).atom ∷ others) others
-            ≡ map shown old ++ added k scope (map view (x ∷ drop (i + 1) xs))
-        first true e = rw e refl
-        first false e = rw e refl
+  -- the atom of a literal that is no negation
+  pub atom_more : (new : List T) (t : T) → new ≡ old ++ t ∷ [] → shown t ≡ atom_in k scope l.atom → l.is_positive ≡ true
+      → map shown new ++ added k scope rest ≡ all
+  atom_more new t pushed is_atom positive =
+      ap (λ ts. map shown ts ++ added k scope rest) pushed ∙ ap (λ vs. vs ++ added k scope rest) (map-append shown old (t ∷ []))
+      ∙ append_assoc (map shown old) (shown t ∷ []) (added k scope rest)
+      ∙ ap (λ v. map shown old ++ v ∷ added k scope rest) is_atom
+      ∙ ap (λ b. map shown old ++ cond b (atom_in k scope l.atom ∷ added k scope rest) (added k scope rest)) (sym positive) ∙ whole
 
-    -- the atom of a literal that is no negation
-    pub atom_more : (new : List T) (t : T) → new ≡ old ++ t ∷ [] → shown t ≡ atom_in k scope (view x).atom → (view x).is_positive ≡ true
-        → map shown new ++ others ≡ all
-    atom_more new t pushed is_atom positive =
-        ap (λ ts. map shown ts ++ others) pushed ∙ ap (λ vs. vs ++ others) (map-append shown old (t ∷ []))
-        ∙ append_assoc (map shown old) (shown t ∷ []) others
-        ∙ ap (λ v. map shown old ++ v ∷ others) is_atom
-        ∙ ap (λ b. map shown old ++ cond b (atom_in k scope (view x).atom ∷ others) others) (sym positive) ∙ whole
-
-    -- a negation has none
-    pub none_more : (view x).is_positive ≡ false → map shown old ++ others ≡ all
-    none_more negative = ap (λ b. map shown old ++ cond b (atom_in k scope (view x).atom ∷ others) others) (sym negative) ∙ whole
+  -- a negation has none
+  pub none_more : l.is_positive ≡ false → map shown old ++ added k scope rest ≡ all
+  none_more negative = ap (λ b. map shown old ++ cond b (atom_in k scope l.atom ∷ added k scope rest) (added k scope rest)) (sym negative) ∙ whole

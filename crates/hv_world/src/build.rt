@@ -50,7 +50,7 @@ fn typing_in<'s>(
     let types = tables.type_count()?;
     let mut parents = type_pairs(alloc, tables, domain.types())?;
     add_eithers_pairs(tables, &mut parents)?;
-    let mut declared = Vec::new(alloc);
+    let mut declared = Vec::with_capacity(alloc, tables.objects.len())?;
     add_object_pairs(tables, &mut declared, domain.constants())?;
     add_object_pairs(tables, &mut declared, problem.objects())?;
     Types::new(alloc, types, tables.objects.len(), parents, declared)

@@ -1,6 +1,7 @@
 //! Formulas over numbers.
 
 use crate::id::{ObjectId, PredicateId, TaskName, TypeId};
+use smallvec::SmallVec;
 
 /// A term: an object, or a variable. The variables in scope are numbered from 0: first the
 /// parameters as written, then those of the quantifiers around, the outermost first.
@@ -10,11 +11,18 @@ pub enum Term {
     Variable(usize),
 }
 
-/// A predicate and its terms.
+// What stands where a short list of terms has room left.
+impl Default for Term {
+    fn default() -> Term {
+        Term::Object(ObjectId(0))
+    }
+}
+
+/// A predicate and its terms. Mostly these are one or two, which take no allocation.
 #[derive(Drop)]
 pub struct Atom {
     pub predicate: PredicateId,
-    pub terms: Vec<Term>,
+    pub terms: SmallVec<Term, 2>,
 }
 
 /// A formula, as preconditions and goals have it (PDDL's goal description).
@@ -42,7 +50,7 @@ pub enum Formula {
 #[derive(Drop)]
 pub struct Subtask {
     pub name: TaskName,
-    pub terms: Vec<Term>,
+    pub terms: SmallVec<Term, 2>,
 }
 
 /// A constraint: two terms are one object, or they are not.

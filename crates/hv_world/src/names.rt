@@ -99,9 +99,10 @@ impl<'s> Names<'s> {
         Ok(())
     }
 
-    // The place of a name that stands at an index of the table.
+    /// The place of a name that stands at an index of the table. Where each name stands once, that is
+    /// the index.
     #[inline(always)]
-    fn place_at(&self, index: usize, name: Name<'s>) -> Option<usize>
+    pub(crate) fn place_at(&self, index: usize, name: Name<'s>) -> Option<usize>
         ensures { IfSome result (λ p. places_by self.now (text_of name.entry) ≡ Some p) }
     {
         let (other, place) = self.places.get_index(index)?;
@@ -139,6 +140,30 @@ impl<'s> Names<'s> {
         ensures { IfSome result (λ p. places_by self.now (text_of name.entry) ≡ Some p) }
     {
         self.place_at(other.saturating_add(1), name)
+    }
+
+    /// Where a name stands first, if that is the place behind this one, or this one.
+    #[inline(always)]
+    pub(crate) fn near(&self, other: usize, name: Name<'s>) -> Option<usize>
+        ensures { IfSome result (λ p. places_by self.now (text_of name.entry) ≡ Some p) }
+    {
+        match self.behind(other, name) {
+            Some(place) => Some(place),
+            None => self.place_at(other, name),
+        }
+    }
+
+    /// Where a name stands first. The place of another is looked at before all.
+    pub(crate) fn place_like(&self, other: Option<usize>, name: Name<'s>) -> Option<usize>
+        ensures { result ≡ places_by self.now (text_of name.entry) }
+    {
+        if let Some(other) = other {
+            let same = self.place_at(other, name);
+            if same.is_some() {
+                return same;
+            }
+        }
+        self.place(name)
     }
 
     /// Where a name stands first. The place behind another name's is looked at before all.
@@ -195,6 +220,24 @@ pub(crate) fn place_of<'s>(
         return Some(second);
     }
     names.get_index_of(&name)
+}
+
+/// As `place_of`, where the place of another name is looked at before all: many names of a list
+/// have one type, and many atoms one predicate.
+pub(crate) fn place_like<'s>(
+    names: &IndexSet<Name<'s>, Seeded>,
+    hints: &Hints,
+    other: Option<usize>,
+    name: Name<'s>,
+) -> Option<usize>
+    ensures { result ≡ place_in (map text_of names.now.keys) (text_of name.entry) }
+{
+    if let Some(other) = other {
+        if stands_at(names, other, name) {
+            return Some(other);
+        }
+    }
+    place_of(names, hints, name)
 }
 
 /// As `place_of`, where the place behind another name's is looked at before all. What texts list

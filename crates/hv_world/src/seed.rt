@@ -42,6 +42,18 @@ pub(crate) fn with_typed(start: Seeded, list: &[TypedText<'_>]) -> Seeded
     seed
 }
 
+/// A start with the names of a typed list taken in.
+pub(crate) fn with_listed(start: Seeded, list: &[TypedText<'_>]) -> Seeded
+    ensures { start_of result
+        ≡ with_taken_in (start_of start) (variables (map typed_view list.now)) }
+{
+    let mut seed = start;
+    for typed in list {
+        seed.take_in(&typed.name().name());
+    }
+    seed
+}
+
 /// A start with the names of variables taken in.
 pub(crate) fn with_variables(start: Seeded, list: &[VariableText<'_>]) -> Seeded
     ensures { start_of result

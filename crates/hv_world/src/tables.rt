@@ -17,8 +17,8 @@ pub(crate) mod sections;
 mod sight;
 pub(crate) mod words;
 
-use crate::id::{PredicateId, TaskName};
-use crate::names::{Names, hints_of, place_behind, place_of};
+use crate::id::{PredicateId, TaskName, TypeId};
+use crate::names::{Names, hints_of, place_behind, place_like};
 use crate::tables::eithers::either_types;
 use crate::tables::sections::declarations;
 use crate::tables::sight::{object_names, type_names};
@@ -174,20 +174,24 @@ impl<'s> Tables<'s> {
         })
     }
 
-    /// The number of a type, where it is declared.
-    pub(crate) fn type_at(&self, name: Name<'s>) -> Option<usize>
+    /// The number of a type, where it is declared. Another is looked at before all.
+    pub(crate) fn type_like(&self, other: Option<TypeId>, name: Name<'s>) -> Option<usize>
         ensures place { result ≡ place_in (known_by self.now).types (text_of name.entry) }
         ensures known { is_some result ≡ is_among (known_by self.now).types (text_of name.entry) }
     {
-        place_of(&self.types.names, &self.types.hints, name)
+        let guess = match other {
+            Some(of) => Some(of.0),
+            None => None,
+        };
+        place_like(&self.types.names, &self.types.hints, guess, name)
     }
 
     /// The number of a type with a name; of one that is not declared, the number behind the last
-    /// of them.
-    pub(crate) fn type_number(&self, name: Name<'s>) -> usize
+    /// of them. Another is looked at before all.
+    pub(crate) fn type_number(&self, other: Option<TypeId>, name: Name<'s>) -> usize
         ensures { result ≡ number_in (known_by self.now).types (text_of name.entry) }
     {
-        match self.type_at(name) {
+        match self.type_like(other, name) {
             Some(number) => number,
             None => self.types.names.len(),
         }
@@ -246,12 +250,16 @@ impl<'s> Tables<'s> {
         }
     }
 
-    /// A predicate, as it is declared first.
-    pub(crate) fn predicate(&self, name: Name<'s>) -> Option<Signature>
+    /// A predicate, as it is declared first. Another is looked at before all.
+    pub(crate) fn predicate(&self, other: Option<PredicateId>, name: Name<'s>) -> Option<Signature>
         ensures { option_map signature_view result
             ≡ (known_by self.now).predicate (text_of name.entry) }
     {
-        let place = self.predicates.places.place(name)?;
+        let guess = match other {
+            Some(predicate) => Some(predicate.0),
+            None => None,
+        };
+        let place = self.predicates.places.place_like(guess, name)?;
         let arity = self.predicates.arities.get(place)?;
         Some(Signature {
             predicate: PredicateId(place),

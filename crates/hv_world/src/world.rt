@@ -284,15 +284,30 @@ impl<'s> World<'s> {
         }
     }
 
-    /// As `task_named`, where the action declared behind another is looked at before all.
+    /// As `task_named`, where the action declared behind another and that other are looked at before
+    /// all.
     pub fn task_behind(&self, other: Option<ActionId>, name: Name<'s>) -> Option<TaskName>
         ensures { option_map name_view result
             ≡ task_named (world_view self.now) (text_of name.entry) }
     {
         if let Some(other) = other
-            && let Some(place) = self.action_names.behind(other.0, name)
+            && let Some(place) = self.action_names.near(other.0, name)
         {
             return Some(TaskName::Primitive(ActionId(place)));
+        }
+        self.task_named(name)
+    }
+
+    /// As `task_named`, where another task is looked at before all. It costs less where one task is
+    /// named again and again.
+    pub fn task_like(&self, other: Option<TaskId>, name: Name<'s>) -> Option<TaskName>
+        ensures { option_map name_view result
+            ≡ task_named (world_view self.now) (text_of name.entry) }
+    {
+        if let Some(other) = other
+            && let Some(place) = self.task_names.place_at(other.0, name)
+        {
+            return Some(TaskName::Compound(TaskId(place)));
         }
         self.task_named(name)
     }
@@ -303,6 +318,21 @@ impl<'s> World<'s> {
             ≡ method_named (world_view self.now) (text_of name.entry) }
     {
         match self.method_names.place(name) {
+            Some(place) => Some(MethodId(place)),
+            None => None,
+        }
+    }
+
+    /// As `method_named`, where another method is looked at before all.
+    pub fn method_like(&self, other: Option<MethodId>, name: Name<'s>) -> Option<MethodId>
+        ensures { option_map (λ m. m.0) result
+            ≡ method_named (world_view self.now) (text_of name.entry) }
+    {
+        let guess = match other {
+            Some(method) => Some(method.0),
+            None => None,
+        };
+        match self.method_names.place_like(guess, name) {
             Some(place) => Some(MethodId(place)),
             None => None,
         }

@@ -13,7 +13,7 @@ use Rattle.hv_plan.specs.declared.fit.LineFault.{LineFault}
 use Rattle.hv_plan.specs.declared.fit.LineFault.TheVariants as faults
 use Rattle.hv_plan.specs.declared.cause.Cause.{Cause}
 use Rattle.hv_world.specs.declared.id.ObjectId.{ObjectId}
-use Rattle.hv_plan.specs.inside.Lists.{with_lists}
+use Rattle.hv_lists.specs.Lists.{with_lists}
 use Rattle.hv_plan.specs.declared.fit.Decomposed as code
 use Rattle.hv_plan.specs.declared.fit.Grounded as code_action
 use Rattle.hv_plan.specs.declared.fit.lines.DecomposedHead as code_head

@@ -137,7 +137,7 @@ fn fit_lines<'s>(
     let mut cause = None;
     let mut room = Vec::new(alloc);
     for line in decompositions.iter() {
-        let fit = fit_line(room, world, lines.last_objects(), line);
+        let fit = fit_line(room, world, lines.before(), line);
         room = note_line(alloc, &mut lines, &mut cause, fit, line.line)?;
     }
     Ok(FittedLines { lines, cause })

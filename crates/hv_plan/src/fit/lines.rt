@@ -16,6 +16,14 @@ pub(crate) struct DecomposedLine<'a> {
     pub(crate) method: MethodId,
 }
 
+/// What lines say, with which the names of another are compared before all.
+#[derive(Clone, Copy)]
+pub(crate) struct Before<'a> {
+    pub(crate) objects: &'a [ObjectId],
+    pub(crate) task: Option<TaskId>,
+    pub(crate) method: Option<MethodId>,
+}
+
 // What a decomposition line says, without the objects.
 #[derive(Clone, Copy)]
 struct DecomposedHead {
@@ -70,11 +78,25 @@ impl DecomposedLines {
         }
     }
 
-    /// The objects of the last line.
-    pub(crate) fn last_objects(&self) -> &[ObjectId] {
-        match self.get(self.heads.len().wrapping_sub(1)) {
+    /// What the names of the line behind these are compared with before all: the objects are those
+    /// of the last line. The task and the method are those of the last but one, as two kinds of
+    /// lines often come in turn.
+    pub(crate) fn before(&self) -> Before<'_> {
+        let objects = match self.get(self.heads.len().wrapping_sub(1)) {
             Some(line) => line.objects,
             None => &[],
+        };
+        match self.heads.get(self.heads.len().wrapping_sub(2)) {
+            Some(head) => Before {
+                objects,
+                task: Some(head.task),
+                method: Some(head.method),
+            },
+            None => Before {
+                objects,
+                task: None,
+                method: None,
+            },
         }
     }
 

@@ -51,3 +51,10 @@ pub record IsLiteralRead (from : Rest) (l : Literal) (after : Rest) : Type 0 whe
   pub tree : Tree
   pub first : from ≡ add tree after
   pub spells : ground_literal_of tree ≡ Some l
+
+-- the literals so far, and with one more, which the expression that comes first spells; and what
+-- stands behind it
+pub record IsOneMoreRead (from : Rest) (old new : List Literal) (after : Rest) : Type 0 where
+  pub one : Literal
+  pub read : IsLiteralRead from one after
+  pub put : new ≡ old ++ one ∷ []

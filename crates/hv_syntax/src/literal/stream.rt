@@ -11,12 +11,14 @@ ghost use Rattle.hv_syntax.specs.Literals.{are_constants};
 ghost use Rattle.hv_syntax.specs.inside.Reading.{Gives, Fails, every, behind};
 ghost use Rattle.hv_syntax.specs.inside.Terms.{term_of};
 ghost use Rattle.hv_syntax.specs.inside.Literals.{ground_literal_of};
-ghost use Rattle.hv_syntax.specs.inside.Streams.{IsLiteralRead};
-ghost use Rattle.hv_syntax.specs.Views.{term_view, literal_view};
+ghost use Rattle.hv_syntax.specs.inside.Streams.{IsLiteralRead, IsOneMoreRead};
+ghost use Rattle.hv_syntax.specs.ProblemViews.{init_view};
+ghost use Rattle.hv_syntax.specs.Views.{term_view, lent_literal_view};
 
-use super::{LiteralText, read_ground_literal};
+use super::{LentLiteral, read_ground_literal};
+use crate::init::InitText;
 use crate::refusal::Refusal;
-use crate::term::{AtomText, TermText};
+use crate::term::{LentAtom, TermText};
 use crate::word::{Head, Placed, Sort, head_of, sort_of};
 use hv_text::{Cursor, Memory, Span, Word};
 use std::alloc::Global;
@@ -90,14 +92,13 @@ fn fill_names<'s>(from: Cursor<'s>, room: &mut Vec<TermText<'s>>) -> Result<Curs
 }
 
 // The literal that comes next, where it is a symbol and names in a list, and the place behind it;
-// None where something else comes.
-fn read_fact_at<'s>(
-    alloc: Global,
+// None where something else comes. Its terms stand in the room.
+fn read_fact_at<'r, 's>(
     from: Cursor<'s>,
-    room: &mut Vec<TermText<'s>>,
-) -> Result<Option<(LiteralText<'s>, Cursor<'s>)>, Memory>
+    room: &'r mut Vec<TermText<'s>>,
+) -> Result<Option<(LentLiteral<'r, 's>, Cursor<'s>)>, Memory>
     ensures read { IfOk result (λ o. IfSome o
-        (λ p. IsLiteralRead (rest_at from.entry) (literal_view p.0) (rest_at p.1))) }
+        (λ p. IsLiteralRead (rest_at from.entry) (lent_literal_view p.0) (rest_at p.1))) }
     ensures less { IfOk result (λ o. IfSome o (λ p. left_at p.1 < left_at from.entry)) }
 {
     let Some(begun) = begun_atom(from) else {
@@ -107,38 +108,43 @@ fn read_fact_at<'s>(
     let Some((_past, after)) = end.leave() else {
         return Ok(None);
     };
-    let terms = Vec::from_slice(alloc, room)?;
-    let literal = LiteralText {
+    let literal = LentLiteral {
         is_positive: true,
-        atom: AtomText {
+        atom: LentAtom {
             symbol: begun.symbol,
-            terms,
+            terms: room,
         },
     };
     Ok(Some((literal, after)))
 }
 
-// The literal that comes next, and the place behind it; None at the end of the list.
+// Puts the literal that comes next behind others, and answers the place behind it; None at the end
+// of the list.
 fn read_next_at<'s>(
     alloc: Global,
     from: Cursor<'s>,
     room: &mut Vec<TermText<'s>>,
-) -> Result<Option<(LiteralText<'s>, Cursor<'s>)>, Refusal>
+    literals: &mut InitText<'s>,
+) -> Result<Option<Cursor<'s>>, Refusal>
     ensures none { IfOk result (λ o. IfNone o (here (rest_at from.entry) ≡ none)) }
+    ensures same { IfOk result (λ o. IfNone o (init_view literals.new ≡ init_view literals.old)) }
     ensures read { IfOk result (λ o. IfSome o
-        (λ p. IsLiteralRead (rest_at from.entry) (literal_view p.0) (rest_at p.1))) }
-    ensures less { IfOk result (λ o. IfSome o (λ p. left_at p.1 < left_at from.entry)) }
+        (λ c. IsOneMoreRead (rest_at from.entry) (init_view literals.old) (init_view literals.new)
+        (rest_at c))) }
+    ensures less { IfOk result (λ o. IfSome o (λ c. left_at c < left_at from.entry)) }
     ensures err { IfErr result
         (λ e. Fails e (every ground_literal_of (here (rest_at from.entry)))) }
 {
-    if let Some(read) = read_fact_at(alloc, from, room)? {
-        return Ok(Some(read));
+    if let Some((literal, after)) = read_fact_at(from, room)? {
+        literals.push(literal)?;
+        return Ok(Some(after));
     }
     let Some((e, after)) = from.read_one(alloc)? else {
         return Ok(None);
     };
     let literal = read_ground_literal(alloc, &e)?;
-    Ok(Some((literal, after)))
+    literals.push(literal.lend())?;
+    Ok(Some(after))
 }
 
 /// Reads literals whose terms are names, one at a time up to the end of the list, and
@@ -150,18 +156,17 @@ fn read_next_at<'s>(
 pub(crate) fn read_ground_literals_at<'s>(
     alloc: Global,
     from: Cursor<'s>,
-) -> Result<(Vec<LiteralText<'s>>, Cursor<'s>), Refusal>
-    ensures every { Gives (λ p. map literal_view p.0.items) result
+) -> Result<(InitText<'s>, Cursor<'s>), Refusal>
+    ensures every { Gives (λ p. init_view p.0) result
         (every ground_literal_of (here (rest_at from.entry))) }
     ensures end { IfOk result (λ p. rest_at p.1 ≡ ended (rest_at from.entry)) }
     ensures less { IfOk result (λ p. left_at p.1 ≤ left_at from.entry) }
 {
     let mut cursor = from;
-    let mut literals = Vec::new(alloc);
+    let mut literals = InitText::new(alloc)?;
     let mut room = Vec::new(alloc);
-    'all: while let Some((literal, after)) = read_next_at(alloc, cursor, &mut room)? {
+    'all: while let Some(after) = read_next_at(alloc, cursor, &mut room, &mut literals)? {
         cursor = after;
-        literals.push(literal)?;
     }
     Ok((literals, cursor))
 }

@@ -98,7 +98,7 @@ fn put_method(out: &mut Vec<u8>, method: &MethodText<'_>) -> Result<(), Memory>
     put_word(out, method.name())?;
     put_parameters(out, method.parameters())?;
     out.extend_from_slice(b" :task ")?;
-    put_atom(out, method.task())?;
+    put_atom(out, method.task().lend())?;
     put_precondition(out, method.precondition())?;
     put_network(out, method.network())?;
     out.push(b')')?;

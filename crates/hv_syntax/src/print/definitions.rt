@@ -7,14 +7,14 @@ ghost use Rattle.hv_syntax.specs.Canonical.{literal_expression};
 ghost use Rattle.hv_syntax.specs.CanonicalSections.{predicate_expression, unless_empty};
 ghost use Rattle.hv_syntax.specs.CanonicalSections.{htn_section, goal_section, lines};
 ghost use Rattle.hv_syntax.specs.CanonicalSections.{canonical_domain, canonical_problem};
-ghost use Rattle.hv_syntax.specs.Views.{word_view, typed_view, formula_view, literal_view};
+ghost use Rattle.hv_syntax.specs.Views.{word_view, typed_view, formula_view};
 ghost use Rattle.hv_syntax.specs.DeclarationViews.{predicate_view};
 ghost use Rattle.hv_syntax.specs.DomainViews.{domain_view};
-ghost use Rattle.hv_syntax.specs.ProblemViews.{htn_view, problem_view};
+ghost use Rattle.hv_syntax.specs.ProblemViews.{htn_view, problem_view, init_view};
 
 use crate::domain::DomainText;
 use crate::formula::FormulaText;
-use crate::literal::LiteralText;
+use crate::init::InitText;
 use crate::predicate::PredicateText;
 use crate::print::declarations::{put_actions, put_htn, put_methods, put_predicates, put_tasks};
 use crate::print::formulas::{put_formula, put_literals};
@@ -104,9 +104,9 @@ fn put_htn_section(out: &mut Vec<u8>, htn: &HtnText<'_>) -> Result<(), Memory>
 }
 
 // Puts the section of the initial state on a line.
-fn put_init(out: &mut Vec<u8>, init: &[LiteralText<'_>]) -> Result<(), Memory>
+fn put_init(out: &mut Vec<u8>, init: &InitText<'_>) -> Result<(), Memory>
     ensures { OnOk result (out.new.items ≡ out.old.items
-        ++ lines (form (codes ":init") (each literal_expression (map literal_view init.now))
+        ++ lines (form (codes ":init") (each literal_expression (init_view init.now))
         ∷ [])) }
 {
     out.extend_from_slice(b"(:init")?;

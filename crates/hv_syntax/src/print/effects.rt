@@ -19,7 +19,7 @@ fn put_item(out: &mut Vec<u8>, item: &ItemText<'_>) -> Result<(), Memory>
         ++ text (item_expression (item_view item.now))) }
 {
     match item {
-        ItemText::Literal(literal) => put_literal(out, literal),
+        ItemText::Literal(literal) => put_literal(out, literal.lend()),
         ItemText::Forall(variables, items) => put_forall(out, variables, items),
     }
 }

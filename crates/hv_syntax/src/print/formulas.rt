@@ -5,10 +5,13 @@ ghost use Rattle.hv_syntax.specs.Values.{formulas_of, not, forall, exists, equal
 ghost use Rattle.hv_syntax.specs.Canonical.{text, spaced, each, formula_expression};
 ghost use Rattle.hv_syntax.specs.Canonical.{formula_expressions, literal_expression};
 ghost use Rattle.hv_syntax.specs.inside.Formulas.{and_all, or_all};
-ghost use Rattle.hv_syntax.specs.Views.{variable_view, term_view, formula_view, literal_view};
+ghost use Rattle.hv_syntax.specs.Views.{variable_view, term_view, formula_view};
+ghost use Rattle.hv_syntax.specs.Views.{lent_literal_view};
+ghost use Rattle.hv_syntax.specs.ProblemViews.{init_view};
 
 use crate::formula::FormulaText;
-use crate::literal::LiteralText;
+use crate::init::InitText;
+use crate::literal::LentLiteral;
 use crate::print::terms::{put_atom, put_term};
 use crate::print::variables::put_variables;
 use crate::term::TermText;
@@ -39,7 +42,7 @@ pub(crate) fn put_formula(out: &mut Vec<u8>, formula: &FormulaText<'_>) -> Resul
         ++ text (formula_expression (formula_view formula.now))) }
 {
     match formula {
-        FormulaText::Holds(atom) => put_atom(out, atom),
+        FormulaText::Holds(atom) => put_atom(out, atom.lend()),
         FormulaText::And(parts) => put_conjunction(out, parts),
         FormulaText::Or(parts) => put_disjunction(out, parts),
         FormulaText::Not(part) => put_negation(out, part),
@@ -152,9 +155,9 @@ fn put_formulas(out: &mut Vec<u8>, formulas: &[FormulaText<'_>]) -> Result<(), M
 /// # Errors
 ///
 /// `Memory` where a growth was refused.
-pub(crate) fn put_literal(out: &mut Vec<u8>, literal: &LiteralText<'_>) -> Result<(), Memory>
+pub(crate) fn put_literal(out: &mut Vec<u8>, literal: LentLiteral<'_, '_>) -> Result<(), Memory>
     ensures { OnOk result (out.new.items ≡ out.old.items
-        ++ text (literal_expression (literal_view literal.now))) }
+        ++ text (literal_expression (lent_literal_view literal.entry))) }
 {
     if literal.is_positive() {
         return put_atom(out, literal.atom());
@@ -165,16 +168,16 @@ pub(crate) fn put_literal(out: &mut Vec<u8>, literal: &LiteralText<'_>) -> Resul
     Ok(())
 }
 
-/// Puts literals, a space before each.
+/// Puts the literals of an initial state, a space before each.
 ///
 /// # Errors
 ///
 /// `Memory` where a growth was refused.
-pub(crate) fn put_literals(out: &mut Vec<u8>, literals: &[LiteralText<'_>]) -> Result<(), Memory>
+pub(crate) fn put_literals(out: &mut Vec<u8>, init: &InitText<'_>) -> Result<(), Memory>
     ensures { OnOk result (out.new.items ≡ out.old.items
-        ++ spaced (each literal_expression (map literal_view literals.now))) }
+        ++ spaced (each literal_expression (init_view init.now))) }
 {
-    for literal in literals {
+    for literal in init.iter() {
         out.push(b' ')?;
         put_literal(out, literal)?;
     }

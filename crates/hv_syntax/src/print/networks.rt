@@ -21,12 +21,12 @@ fn put_subtask(out: &mut Vec<u8>, subtask: &SubtaskText<'_>) -> Result<(), Memor
         ++ text (subtask_expression (subtask_view subtask.now))) }
 {
     match subtask.label() {
-        None => put_atom(out, subtask.task()),
+        None => put_atom(out, subtask.task().lend()),
         Some(label) => {
             out.push(b'(')?;
             put_word(out, label)?;
             out.push(b' ')?;
-            put_atom(out, subtask.task())?;
+            put_atom(out, subtask.task().lend())?;
             out.push(b')')?;
             Ok(())
         }

@@ -5,9 +5,10 @@ ghost use Rattle.hv_text.specs.Names.{text_of};
 ghost use Rattle.hv_syntax.specs.Values.{type_name};
 ghost use Rattle.hv_syntax.specs.Canonical.{text, spaced, each, word_expression, term_expression};
 ghost use Rattle.hv_syntax.specs.Canonical.{atom_expression, typed_members};
-ghost use Rattle.hv_syntax.specs.Views.{word_view, term_view, atom_view, type_view, typed_view};
+ghost use Rattle.hv_syntax.specs.Views.{word_view, term_view, lent_atom_view, type_view};
+ghost use Rattle.hv_syntax.specs.Views.{typed_view};
 
-use crate::term::{AtomText, TermText};
+use crate::term::{LentAtom, TermText};
 use crate::typed::{TypeText, TypedText};
 use crate::word::Placed;
 use hv_text::{Memory, Name};
@@ -81,9 +82,9 @@ fn put_terms(out: &mut Vec<u8>, terms: &[TermText<'_>]) -> Result<(), Memory>
 /// # Errors
 ///
 /// `Memory` where a growth was refused.
-pub(crate) fn put_atom(out: &mut Vec<u8>, atom: &AtomText<'_>) -> Result<(), Memory>
+pub(crate) fn put_atom(out: &mut Vec<u8>, atom: LentAtom<'_, '_>) -> Result<(), Memory>
     ensures { OnOk result (out.new.items ≡ out.old.items
-        ++ text (atom_expression (atom_view atom.now))) }
+        ++ text (atom_expression (lent_atom_view atom.entry))) }
 {
     out.push(b'(')?;
     put_word(out, atom.symbol())?;

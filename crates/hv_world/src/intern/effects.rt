@@ -43,7 +43,8 @@ fn checked_effect<'s>(
 {
     match item {
         ItemText::Literal(literal) => {
-            let atom = checked_atom(alloc, tables, scope, side, &[], literal.atom())?;
+            let literal = literal.lend();
+            let atom = checked_atom(alloc, tables, scope, side, None, literal.atom())?;
             let effect = Effect::Becomes(literal.is_positive(), atom.value);
             Ok(Checked::new(effect, atom.fault))
         }

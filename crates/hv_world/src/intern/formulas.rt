@@ -47,7 +47,7 @@ pub(crate) fn checked_formula<'s>(
 {
     match formula {
         FormulaText::Holds(atom) => {
-            let atom = checked_atom(alloc, tables, scope, side, &[], atom)?;
+            let atom = checked_atom(alloc, tables, scope, side, None, atom.lend())?;
             Ok(Checked::new(Formula::Holds(atom.value), atom.fault))
         }
         FormulaText::And(parts) => {

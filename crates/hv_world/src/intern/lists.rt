@@ -3,7 +3,8 @@
 ghost use Rattle.std.specs.Prelude.{◌≡◌, ◌++◌, [], None, length, map, option_map, IfOk, OnOk};
 ghost use Rattle.std.specs.List.{flat_map};
 ghost use Rattle.hv_text.specs.Names.{text_of};
-ghost use Rattle.hv_syntax.specs.Views.{typed_view, formula_view as said_formula, literal_view as said_literal};
+ghost use Rattle.hv_syntax.specs.Views.{typed_view, formula_view as said_formula};
+ghost use Rattle.hv_syntax.specs.ProblemViews.{init_view as said_init};
 ghost use Rattle.hv_syntax.specs.DeclarationViews.{predicate_view as said_predicate, task_view as said_task, method_view as said_method, action_view as said_action};
 ghost use Rattle.hv_world.specs.Scopes.{parameters};
 ghost use Rattle.hv_world.specs.declared.fault.Side.TheVariants as sides;
@@ -30,10 +31,18 @@ use crate::scope::Scope;
 use crate::tables::Tables;
 use crate::task::Task;
 use hv_syntax::{
-    ActionText, FormulaText, LiteralText, MethodText, PredicateText, TaskText, TypedText,
+    ActionText, FormulaText, InitText, MethodText, PredicateText, TaskText, TypedText,
 };
 use hv_text::{Memory, Name};
 use std::alloc::Global;
+
+// The type of the last pair.
+fn last_type<T>(pairs: &[(T, TypeId)]) -> Option<TypeId> {
+    match pairs.last() {
+        Some((_, of)) => Some(*of),
+        None => None,
+    }
+}
 
 /// The types, each with its parent.
 pub(crate) fn type_pairs<'s>(
@@ -47,8 +56,9 @@ pub(crate) fn type_pairs<'s>(
 {
     let mut pairs = Vec::new(alloc);
     for typed in list {
-        let number = TypeId(tables.type_number(typed.name().name()));
-        pairs.push((number, type_of(tables, *typed)))?;
+        let other = last_type(&pairs);
+        let number = TypeId(tables.type_number(None, typed.name().name()));
+        pairs.push((number, type_of(tables, other, *typed)))?;
     }
     Ok(pairs)
 }
@@ -65,7 +75,7 @@ fn add_either_pairs<'s>(
         ++ either_pairs (known_by tables.now) above (map text_of list.now)) }
 {
     for name in list {
-        pairs.push((TypeId(tables.type_number(*name)), TypeId(above)))?;
+        pairs.push((TypeId(tables.type_number(None, *name)), TypeId(above)))?;
     }
     Ok(())
 }
@@ -107,8 +117,9 @@ pub(crate) fn add_object_pairs<'s>(
         ++ map (object_pair (known_by tables.now)) (map typed_view list.now)) }
 {
     for typed in list {
+        let other = last_type(pairs);
         let number = tables.object_number(last_object(pairs), typed.name().name());
-        pairs.push((ObjectId(number), type_of(tables, *typed)))?;
+        pairs.push((ObjectId(number), type_of(tables, other, *typed)))?;
     }
     Ok(())
 }
@@ -221,19 +232,19 @@ pub(crate) fn checked_actions<'s>(
 pub(crate) fn checked_init<'s>(
     alloc: Global,
     tables: &Tables<'s>,
-    literals: &[LiteralText<'s>],
+    init: &InitText<'s>,
 ) -> Result<Checked<Vec<Atom>>, Memory>
     ensures value { IfOk result
         (λ c. map atom_view c.value.items
-        ≡ added (known_by tables.now) (parameters []) (map said_literal literals.now)) }
+        ≡ added (known_by tables.now) (parameters []) (said_init init.now)) }
     ensures fault { IfOk result
         (λ c. c.fault
         ≡ least (literals_faults (known_by tables.now) sides.Problem (parameters [])
-        (map said_literal literals.now))) }
+        (said_init init.now))) }
 {
     let names = Names::none(alloc);
     let scope = Scope::Parameters(&names, 0);
-    checked_literals(alloc, tables, &scope, Side::Problem, literals)
+    checked_literals(alloc, tables, &scope, Side::Problem, init)
 }
 
 /// The goal, where there is one, and its first fault: no variable is bound around it.

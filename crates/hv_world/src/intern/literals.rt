@@ -1,7 +1,7 @@
 //! The atoms that literals make true, and the first fault of literals.
 
 ghost use Rattle.std.specs.Prelude.{◌≡◌, map, IfOk};
-ghost use Rattle.hv_syntax.specs.Views.{literal_view as said_literal};
+ghost use Rattle.hv_syntax.specs.ProblemViews.{init_view as said_init};
 ghost use Rattle.hv_world.specs.Faults.{least};
 ghost use Rattle.hv_world.specs.StaticRules.{literals_faults};
 ghost use Rattle.hv_world.specs.Views.{atom_view};
@@ -10,21 +10,13 @@ ghost use Rattle.hv_world.specs.inside.Tables.{known_by, scope_view};
 
 use crate::checked::Checked;
 use crate::fault::{Side, earlier};
-use crate::formula::{Atom, Term};
+use crate::formula::Atom;
 use crate::intern::terms::checked_atom;
 use crate::scope::Scope;
 use crate::tables::Tables;
-use hv_syntax::LiteralText;
+use hv_syntax::InitText;
 use hv_text::Memory;
 use std::alloc::Global;
-
-// The terms of the last of some atoms.
-fn last_terms(atoms: &[Atom]) -> &[Term] {
-    match atoms.last() {
-        Some(atom) => &atom.terms,
-        None => &[],
-    }
-}
 
 /// The atoms of those literals that are no negations, and the first fault of all.
 ///
@@ -36,21 +28,20 @@ pub(crate) fn checked_literals<'s>(
     tables: &Tables<'s>,
     scope: &Scope<'_, 's>,
     side: Side,
-    literals: &[LiteralText<'s>],
+    init: &InitText<'s>,
 ) -> Result<Checked<Vec<Atom>>, Memory>
     ensures value { IfOk result
         (λ c. map atom_view c.value.items
-        ≡ added (known_by tables.now) (scope_view scope.now) (map said_literal literals.now)) }
+        ≡ added (known_by tables.now) (scope_view scope.now) (said_init init.now)) }
     ensures fault { IfOk result
         (λ c. c.fault
         ≡ least (literals_faults (known_by tables.now) side (scope_view scope.now)
-        (map said_literal literals.now))) }
+        (said_init init.now))) }
 {
-    let mut atoms = Vec::new(alloc);
+    let mut atoms = Vec::with_capacity(alloc, init.len())?;
     let mut found = None;
-    for literal in literals {
-        let others = last_terms(&atoms);
-        let checked = checked_atom(alloc, tables, scope, side, others, literal.atom())?;
+    for literal in init.iter() {
+        let checked = checked_atom(alloc, tables, scope, side, atoms.last(), literal.atom())?;
         found = earlier(found, checked.fault);
         if literal.is_positive() {
             atoms.push(checked.value)?;

@@ -66,7 +66,7 @@ pub(crate) fn checked_task<'s>(
         arity,
         unknown: StaticKind::UnknownTask,
     };
-    let terms = checked_application(alloc, tables, scope, side, head, &[], task)?;
+    let terms = checked_application(alloc, tables, scope, side, head, &[], task.lend())?;
     Ok(Checked {
         value: Subtask {
             name,
@@ -111,7 +111,7 @@ fn checked_subtask<'s>(
         arity,
         unknown: StaticKind::UnknownTask,
     };
-    let terms = checked_application(alloc, tables, scope, side, head, others, task)?;
+    let terms = checked_application(alloc, tables, scope, side, head, others, task.lend())?;
     Ok(Checked {
         value: Subtask {
             name,

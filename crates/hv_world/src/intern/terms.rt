@@ -1,7 +1,7 @@
 //! Terms and atoms over numbers, each with its first fault.
 
 ghost use Rattle.std.specs.Prelude.{◌≡◌, ◌++◌, not, length, map, IfOk};
-ghost use Rattle.hv_syntax.specs.Views.{word_view, term_view as said_term, atom_view as said_atom};
+ghost use Rattle.hv_syntax.specs.Views.{word_view, term_view as said_term, lent_atom_view as said_atom};
 ghost use Rattle.hv_world.specs.Faults.{least, fault_if};
 ghost use Rattle.hv_world.specs.Names.{is_among, number_in, number_or};
 ghost use Rattle.hv_world.specs.Scopes.{size, variable_in, is_bound};
@@ -18,8 +18,9 @@ use crate::formula::{Atom, Term};
 use crate::id::{ObjectId, PredicateId};
 use crate::scope::Scope;
 use crate::tables::Tables;
-use hv_syntax::{AtomText, Placed, TermText};
+use hv_syntax::{LentAtom, Placed, TermText};
 use hv_text::Memory;
+use smallvec::SmallVec;
 use std::alloc::Global;
 
 // The object that a word names, and the fault of one that is none. Where another object stood in
@@ -146,7 +147,7 @@ fn checked_terms<'s>(
     side: Side,
     others: &[Term],
     terms: &[TermText<'s>],
-) -> Result<Checked<Vec<Term>>, Memory>
+) -> Result<Checked<SmallVec<Term, 2>>, Memory>
     ensures value { IfOk result
         (λ c. map term_view c.value.items
         ≡ terms_in (known_by tables.now) (scope_view scope.now) (map said_term terms.now)) }
@@ -155,12 +156,18 @@ fn checked_terms<'s>(
         ≡ least (terms_faults (known_by tables.now) side (scope_view scope.now)
         (map said_term terms.now))) }
 {
-    let mut numbered = Checked::with_capacity(alloc, terms.len())?;
+    let mut numbered = SmallVec::with_capacity(alloc, terms.len())?;
+    let mut found = None;
     for term in terms {
-        let other = others.get(numbered.value.len()).copied();
-        numbered.push(checked_term(tables, scope, side, other, *term)?)?;
+        let other = others.get(numbered.len()).copied();
+        let checked = checked_term(tables, scope, side, other, *term)?;
+        found = earlier(found, checked.fault);
+        numbered.push(checked.value)?;
     }
-    Ok(numbered)
+    Ok(Checked {
+        value: numbered,
+        fault: found,
+    })
 }
 
 /// What is known of a name that has terms: how many it takes, where it is declared, and what its
@@ -198,17 +205,17 @@ pub(crate) fn checked_application<'s>(
     side: Side,
     head: Head,
     others: &[Term],
-    atom: &AtomText<'s>,
-) -> Result<Checked<Vec<Term>>, Memory>
+    atom: LentAtom<'_, 's>,
+) -> Result<Checked<SmallVec<Term, 2>>, Memory>
     ensures value { IfOk result
         (λ c. map term_view c.value.items
-        ≡ terms_in (known_by tables.now) (scope_view scope.now) (said_atom atom.now).terms) }
+        ≡ terms_in (known_by tables.now) (scope_view scope.now) (said_atom atom.entry).terms) }
     ensures fault { IfOk result
         (λ c. c.fault
-        ≡ least (head_faults head.unknown side (said_atom atom.now).symbol head.arity
-        (length (said_atom atom.now).terms)
+        ≡ least (head_faults head.unknown side (said_atom atom.entry).symbol head.arity
+        (length (said_atom atom.entry).terms)
         ++ terms_faults (known_by tables.now) side (scope_view scope.now)
-        (said_atom atom.now).terms)) }
+        (said_atom atom.entry).terms)) }
 {
     let fault = head_fault(head, side, atom.symbol(), atom.terms().len());
     let terms = checked_terms(alloc, tables, scope, side, others, atom.terms())?;
@@ -218,7 +225,16 @@ pub(crate) fn checked_application<'s>(
     })
 }
 
-/// An atom and its first fault; `others` are the terms of the atom before it, if there is one.
+// The predicate and the terms of an atom, if there is one.
+fn guesses_of(other: Option<&Atom>) -> (Option<PredicateId>, &[Term]) {
+    match other {
+        Some(atom) => (Some(atom.predicate), atom.terms.as_slice()),
+        None => (None, &[]),
+    }
+}
+
+/// An atom and its first fault. Its names are compared before all with those of another, or with
+/// what is declared behind these.
 ///
 /// # Errors
 ///
@@ -228,18 +244,19 @@ pub(crate) fn checked_atom<'s>(
     tables: &Tables<'s>,
     scope: &Scope<'_, 's>,
     side: Side,
-    others: &[Term],
-    atom: &AtomText<'s>,
+    other: Option<&Atom>,
+    atom: LentAtom<'_, 's>,
 ) -> Result<Checked<Atom>, Memory>
     ensures value { IfOk result
         (λ c. atom_view c.value
-        ≡ atom_in (known_by tables.now) (scope_view scope.now) (said_atom atom.now)) }
+        ≡ atom_in (known_by tables.now) (scope_view scope.now) (said_atom atom.entry)) }
     ensures fault { IfOk result
         (λ c. c.fault
         ≡ least (atom_faults (known_by tables.now) side (scope_view scope.now)
-        (said_atom atom.now))) }
+        (said_atom atom.entry))) }
 {
-    let (predicate, arity) = match tables.predicate(atom.symbol().name()) {
+    let (guess, others) = guesses_of(other);
+    let (predicate, arity) = match tables.predicate(guess, atom.symbol().name()) {
         Some(signature) => (signature.predicate, Some(signature.arity)),
         None => (PredicateId(0), None),
     };

@@ -26,18 +26,22 @@ fn object_type(tables: &Tables<'_>) -> usize
     ensures { result ≡ number_in (known_by tables.now).types (codes "object") }
 {
     match Name::new(b"object") {
-        Some(name) => tables.type_number(name),
+        Some(name) => tables.type_number(None, name),
         None => unreachable!(),
     }
 }
 
-/// The number of the type of a name.
-pub(crate) fn type_of<'s>(tables: &Tables<'s>, typed: TypedText<'s>) -> TypeId
+/// The number of the type of a name. Another type is looked at before all.
+pub(crate) fn type_of<'s>(
+    tables: &Tables<'s>,
+    other: Option<TypeId>,
+    typed: TypedText<'s>,
+) -> TypeId
     ensures { type_number result ≡ type_of (known_by tables.now) (typed_view typed.entry) }
 {
     match typed.of() {
         TypeText::Object => TypeId(object_type(tables)),
-        TypeText::Named(word) => TypeId(tables.type_number(word.name())),
+        TypeText::Named(word) => TypeId(tables.type_number(other, word.name())),
     }
 }
 
@@ -55,10 +59,12 @@ fn either_of<'s>(alloc: Global, tables: &Tables<'s>, words: &[Placed<'s>]) -> Re
     }
 }
 
-/// The type that a word names, and the fault of one that is not declared.
+/// The type that a word names, and the fault of one that is not declared. Another type is looked at
+/// before all.
 pub(crate) fn checked_type_word<'s>(
     tables: &Tables<'s>,
     side: Side,
+    other: Option<TypeId>,
     word: Placed<'s>,
 ) -> Checked<TypeId>
     ensures value { type_number result.value
@@ -66,7 +72,7 @@ pub(crate) fn checked_type_word<'s>(
     ensures fault { result.fault
         ≡ least (type_word_faults (known_by tables.now) side (word_view word.entry)) }
 {
-    let found = tables.type_at(word.name());
+    let found = tables.type_like(other, word.name());
     let is_known = found.is_some();
     let number = match found {
         Some(number) => number,
@@ -84,17 +90,18 @@ fn types_fault<'s>(tables: &Tables<'s>, side: Side, words: &[Placed<'s>]) -> Opt
 {
     let mut found = None;
     for word in words {
-        let checked = checked_type_word(tables, side, *word);
+        let checked = checked_type_word(tables, side, None, *word);
         found = earlier(found, checked.fault);
     }
     found
 }
 
-// The type of a variable, and the first fault of its names.
+// The type of a variable, and the first fault of its names. Another type is looked at before all.
 fn checked_type<'s>(
     alloc: Global,
     tables: &Tables<'s>,
     side: Side,
+    other: Option<TypeId>,
     variable: &VariableText<'s>,
 ) -> Result<Checked<TypeId>, Memory>
     ensures value { IfOk result
@@ -109,7 +116,7 @@ fn checked_type<'s>(
             value: TypeId(0),
             fault: None,
         }),
-        [word] => Ok(checked_type_word(tables, side, *word)),
+        [word] => Ok(checked_type_word(tables, side, other, *word)),
         words => Ok(Checked {
             value: either_of(alloc, tables, words)?,
             fault: types_fault(tables, side, words),
@@ -133,7 +140,8 @@ fn checked_types<'s>(
 {
     let mut types = Checked::with_capacity(alloc, list.len())?;
     for variable in list {
-        types.push(checked_type(alloc, tables, side, variable)?)?;
+        let other = types.value.last().copied();
+        types.push(checked_type(alloc, tables, side, other, variable)?)?;
     }
     Ok(types)
 }

@@ -11,7 +11,7 @@ ghost use Rattle.hv_world.specs.Names.{with_names, by_sight};
 ghost use Rattle.hv_world.specs.Known.{both_types, variables};
 ghost use Rattle.hv_world.specs.inside.Seeds.{start_from, with_taken_in, written_names};
 
-use crate::seed::with_typed;
+use crate::seed::{with_listed, with_typed};
 use hv_syntax::{TypeText, TypedText};
 use hv_text::{Memory, Name, Seeded};
 use indexmap::IndexSet;
@@ -98,13 +98,13 @@ pub(crate) fn object_names<'s>(
 ) -> Result<IndexSet<Name<'s>, Seeded>, Memory>
     ensures seed { IfOk result
         (λ t. start_of (hasher_of t)
-        ≡ with_taken_in (start_from (flat_map written_names (map typed_view constants.now)))
-        (flat_map written_names (map typed_view objects.now))) }
+        ≡ with_taken_in (start_from (variables (map typed_view constants.now)))
+        (variables (map typed_view objects.now))) }
     ensures keys { IfOk result
         (λ t. map text_of t.keys
         ≡ by_sight (variables (map typed_view constants.now ++ map typed_view objects.now))) }
 {
-    let seed = with_typed(with_typed(Seeded::new(), constants), objects);
+    let seed = with_listed(with_listed(Seeded::new(), constants), objects);
     let most = constants.len().saturating_add(objects.len());
     let mut names = IndexSet::with_capacity_and_hasher(alloc, most, seed)?;
     add_names(&mut names, constants)?;

@@ -12,7 +12,7 @@ loop-number-preserved c =
     let xs = c.args.subtasks.now in
     let one : n - 1 + 1 ≡ n = omega (arith, c.loop-number-test.true) in
     let low : n - 1 < length xs = omega (arith, c.loop-number-test.true, c.loop-number.invariant.0) in
-    let terms = c.deref.ensures.value in (
+    let terms = c.deref.ensures in (
       omega (arith, c.loop-number.invariant.0),
       c.write_terms.ensures.size ∙ c.loop-number.invariant.1,
       λ i lt. subtask_more i (n - 1) n (map subtask_view xs) _ _ _ _ one (from_place subtask_view xs (n - 1) c.index-subtasks-number.result low)

@@ -22,7 +22,7 @@ returns c = λ ss says there.
           let objects : w.in_ok-objects-in-Some.objects.items ≡ fixed_objects (is_marked w.deref.result.now) 0 (map term_view w.deref-in-Some.result.now) = w.in_ok-objects-in-Some.ensures in
           ap (key_with (name_view name)) (ap (λ v. v.items) w.objects-is ∙ objects
           ∙ ap (λ l. fixed_objects (is_marked l) 0 (map term_view w.deref-in-Some.result.now)) w.deref.ensures.value
-          ∙ ap (λ l. fixed_objects (is_marked marks) 0 (map term_view l)) w.deref-in-Some.ensures.value
+          ∙ ap (λ l. fixed_objects (is_marked marks) 0 (map term_view l)) w.deref-in-Some.ensures
           ∙ fixed_objects_same (is_marked marks) (is_fixed ss (name_view name)) fixed 0 xs)
       | in-None w ↦
           let all : P None = subst (λ o. P (option_map (λ v. v.items) (option_copied o))) w.in-None.is row in

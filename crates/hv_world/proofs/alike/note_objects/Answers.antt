@@ -27,12 +27,12 @@ returns c = λ ss says n.
           let items : c.match-marks_of.row.items ≡ kept_marks xs 0 marks =
           ap (λ v. v.items) w.row-is ∙ w.in_ok-row-in-Some.ensures
           ∙ ap (λ l. kept_marks (map term_view w.deref-in-Some-3.result.now) 0 l) w.deref-in-Some-2.ensures.value
-          ∙ ap (λ l. kept_marks (map term_view l) 0 marks) w.deref-in-Some-3.ensures.value in
+          ∙ ap (λ l. kept_marks (map term_view l) 0 marks) w.deref-in-Some-3.ensures in
           row_kept ss s (name_view name) marks c.match-marks_of.row.items (same_itself (name_view name)) fixed (λ k. ap (λ l. is_marked l k) items ∙ kept_are xs marks k)
       | in-None+in_ok-row-in-None w ↦
           let all : P None = subst (λ o. P (option_map (λ v. v.items) (option_copied o))) w.in-None.is row in
           let items : c.match-marks_of.row.items ≡ map is_object xs =
-          ap (λ v. v.items) w.row-is ∙ w.in_ok-row-in-None.ensures ∙ ap (λ l. map is_object (map term_view l)) w.deref-in-None.ensures.value in
+          ap (λ v. v.items) w.row-is ∙ w.in_ok-row-in-None.ensures ∙ ap (λ l. map is_object (map term_view l)) w.deref-in-None.ensures in
           row_made ss s (name_view name) c.match-marks_of.row.items (same_itself (name_view name)) all (λ k. ap (λ l. is_marked l k) items ∙ marked_objects_are xs k)
     ] in
     let there : get is_name new n ≡ cond (is_name name n) (Some c.match-marks_of.row) (get is_name old n) =
@@ -52,7 +52,7 @@ returns-then-are_kept c = λ ss says n.
     let fixed : P (Some row.items) = subst (λ o. P (option_map (λ v. v.items) o)) known (says name) in
     let kept : kept_marks xs 0 row.items ≡ row.items =
     subst (λ l. kept_marks xs 0 l ≡ l) c.deref.ensures.value
-    (subst (λ l. kept_marks (map term_view l) 0 c.deref.result.now ≡ c.deref.result.now) c.deref-in-Some.ensures.value (c.are_kept.ensures c.if-are_kept.true)) in
+    (subst (λ l. kept_marks (map term_view l) 0 c.deref.result.now ≡ c.deref.result.now) c.deref-in-Some.ensures (c.are_kept.ensures c.if-are_kept.true)) in
     let after : RowSays (ss ++ s ∷ []) (name_view name) (Some row.items) =
     row_kept ss s (name_view name) row.items row.items (same_itself (name_view name)) fixed (λ k. ap (λ l. is_marked l k) (sym kept) ∙ kept_are xs row.items k) in
     subst (λ o. RowSays (ss ++ s ∷ []) (name_view n) (option_map (λ v. v.items) o)) (looked_up name n old.entries (Some row) known)

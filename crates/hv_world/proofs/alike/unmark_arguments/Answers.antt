@@ -13,7 +13,7 @@ loop-subtask-preserved c =
     let more = take_more subtask_view c.args.subtasks.now l.subtask-index s c.loop-subtask-test.true ∙ ap (λ z. ss ++ subtask_view z ∷ []) (sym c.subtask-item.is) in (
       c.unmark.ensures.len ∙ l.invariant.0,
       λ k. c.unmark.ensures.marks k
-          ∙ ap (λ xs. is_marked l.marks k && not (has_variable k (map term_view xs))) c.deref.ensures.value
+          ∙ ap (λ xs. is_marked l.marks k && not (has_variable k (map term_view xs))) c.deref.ensures
           ∙ ap (λ b. b && not (has_variable k (map term_view s.terms.items))) (l.invariant.1 k)
           ∙ off_twice (is_marked c.args.marks.now k) (is_argument k ss) (has_variable k (map term_view s.terms.items))
           ∙ ap (λ b. is_marked c.args.marks.now k && not b) (sym (argument_more k ss (subtask_view s)) ∙ ap (is_argument k) (sym more)),

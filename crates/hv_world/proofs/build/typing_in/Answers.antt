@@ -19,7 +19,7 @@ pub new-requires-clause-declared : goal.new-requires-clause-declared
 new-requires-clause-declared c =
     let k = known_by c.args.tables.now in
     let types : length k.types + length k.eithers ≡ c.in_ok-types.types = sym c.in_ok-types.ensures in
-    let objects = length-map c.args.tables.now.objects.keys text_of ∙ sym c.len.ensures.len in
+    let objects = length-map c.args.tables.now.objects.keys text_of ∙ sym c.len-2.ensures.len in
     let added =
-    both_added (object_pair k) (map typed_view c.constants.result.now) (map typed_view c.objects.result.now) (ap (map (λ p. (p.0.0, p.1.0))) c.new-declared.ensures.items) c.in_ok-add_object_pairs.ensures c.in_ok-add_object_pairs-2.ensures in
+    both_added (object_pair k) (map typed_view c.constants.result.now) (map typed_view c.objects.result.now) (ap (map (λ p. (p.0.0, p.1.0))) c.in_ok-declared.ensures.items) c.in_ok-add_object_pairs.ensures c.in_ok-add_object_pairs-2.ensures in
     pairs_below (λ p. (p.0.0, p.1.0)) c.add_object_pairs-2.new.pairs.items _ _ _ _ _ (added ∙ of_both (λ vs ws. map (object_pair k) (vs ++ ws)) c.constants.ensures c.objects.ensures) c.requires.declared objects types

@@ -22,8 +22,8 @@ returns c o le lt B g is =
     let size : length into ≡ length before = sym (ap length known) ∙ length-map (map term_view before) (object_of B) ∙ length-map before term_view in
     let read : atom_read c.of_numbers.result ≡ ground_atom predicate (into ++ c.args.from ∷ []) = c.of_numbers.ensures ∙ ap (ground_atom predicate) (numbers_written into (length before) c.args.from size c.if-count-ge-MOST_TERMS.false) in
     let passed : IsPassedOver (λ h. is_listed rows h ≡ true) (ground_atom predicate (into ++ c.args.from ∷ [])) c.next_possible.result = subst (λ h. IsPassedOver (λ k. is_listed rows k ≡ true) h c.next_possible.result) read c.next_possible.ensures in
-    let split = sym c.deref.ensures.value ∙ found.ensures.cases.0 in
+    let split = sym c.deref.ensures ∙ found.ensures.cases.0 in
     let last : object_of B (term_view found.field-0-0.now) ≡ o = ap (λ t. object_of B (term_view t)) found.field-0-0-is ∙ ap (slice_index B) c.if-last-parameter.false ∙ is in
     let never : is_listed rows (atom_under B a) ≡ false = never_with rows predicate c.args.atom.now.terms.items before found.field-0-0.now into c.args.from o c.next_possible.result B split c.if-count-ge-MOST_TERMS.false known last passed le lt in
-    let many : length a.terms ≤ 3 = omega (arith, c.if-count-ge-MOST_TERMS.false, found.ensures.cases.1, ap length c.deref.ensures.value, length-map c.args.atom.now.terms.items term_view) in
+    let many : length a.terms ≤ 3 = omega (arith, c.if-count-ge-MOST_TERMS.false, found.ensures.cases.1, ap length c.deref.ensures, length-map c.args.atom.now.terms.items term_view) in
     subst (λ ever. is_possible ever B a ≡ false) (sym c.requires) (if_true (nat_le (length a.terms) 3) (is_listed rows (atom_under B a)) true (le-leb _ _ many) ∙ never)

@@ -17,5 +17,5 @@ returns-in-Some c =
     let child = sym c.child.ensures ∙ ap (option_map work_view) c.in-Some.is in
     if_told p c.args.parameter c.object_at.result (λ n e.
     foretells p c.args.self.now.placed ss refl j _ c.requires c.row-row.result.now c.row-row.ensures c.if-row-ne1.false c.args.position c.args.parameter n
-    (subst (λ (ts : List Term). slice_get (map term_view ts) c.args.position ≡ Some (variable c.args.parameter)) c.deref.ensures.value at)
+    (subst (λ (ts : List Term). slice_get (map term_view ts) c.args.position ≡ Some (variable c.args.parameter)) c.deref.ensures at)
     (ap (λ x. slice_get (objects_of x) c.args.position) child ∙ sym c.object_at.ensures ∙ e))

@@ -1,5 +1,5 @@
-use Rattle.std.proofs.Common.{◌≡◌, ◌++◌, drop, map}
-use Rattle.hv_syntax.specs.Views.{literal_view as said_literal}
+use Rattle.std.proofs.Common.{◌≡◌, ◌++◌, map}
+use Rattle.hv_syntax.specs.ProblemViews.{init_view as said_init, literals_left}
 use Rattle.hv_world.specs.Faults.{earlier, least}
 use Rattle.hv_world.specs.StaticRules.{literals_faults}
 use Rattle.hv_world.specs.inside.Tables.{known_by, scope_view}
@@ -9,6 +9,6 @@ use Rattle.hv_world.proofs.intern.literals.checked_literals.Given as goal
 
 abbrev pub invariant-loop-literal : goal.invariant-loop-literal
 invariant-loop-literal l =
-    (map atom_view l.atoms.items ++ added (known_by l.tables) (scope_view l.scope) (map said_literal (drop l.literal-index l.literals)) ≡ added (known_by l.tables) (scope_view l.scope) (map said_literal l.literals))
-    × (earlier l.found (least (literals_faults (known_by l.tables) l.side (scope_view l.scope) (map said_literal (drop l.literal-index l.literals))))
-    ≡ least (literals_faults (known_by l.tables) l.side (scope_view l.scope) (map said_literal l.literals)))
+    (map atom_view l.atoms.items ++ added (known_by l.tables) (scope_view l.scope) (literals_left l.literal-iterator) ≡ added (known_by l.tables) (scope_view l.scope) (said_init l.init))
+    × (earlier l.found (least (literals_faults (known_by l.tables) l.side (scope_view l.scope) (literals_left l.literal-iterator)))
+    ≡ least (literals_faults (known_by l.tables) l.side (scope_view l.scope) (said_init l.init)))

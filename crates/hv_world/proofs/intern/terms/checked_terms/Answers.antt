@@ -13,4 +13,4 @@ loop-term-preserved c =
     let a = c.args in
     let k = known_by a.tables.now in
     let scope = scope_view a.scope.now in
-    one_more said_term (term_in k scope) term_view (term_faults k a.side scope) a.terms.now l.term-index c.term-item.result l.numbered.value.items l.numbered.fault l.invariant (omega arith) c.term-item.is c.in_ok-checked_term.ensures.value c.in_ok-checked_term.ensures.fault c.in_ok-push.ensures.value c.in_ok-push.ensures.fault
+    one_more said_term (term_in k scope) term_view (term_faults k a.side scope) a.terms.now l.term-index c.term-item.result l.numbered.items l.found l.invariant (omega arith) c.term-item.is c.in_ok-checked.ensures.value c.in_ok-checked.ensures.fault c.in_ok-push.ensures.ok c.earlier-found.ensures

@@ -10,5 +10,5 @@ pub returns : goal.returns
 returns c =
     let w = world_view c.args.self.now in
     let n = text_of c.args.name in
-    let place : place_in (action_names w.actions) n ≡ Some c.in-Some-behind.place = sym (c.args.self.now.of_actions n) ∙ c.in-Some-behind.ensures in
-    sym (action_named w c.args.self.now.sound.named.tasks n c.in-Some-behind.place place)
+    let place : place_in (action_names w.actions) n ≡ Some c.in-Some-near.place = sym (c.args.self.now.of_actions n) ∙ c.in-Some-near.ensures in
+    sym (action_named w c.args.self.now.sound.named.tasks n c.in-Some-near.place place)

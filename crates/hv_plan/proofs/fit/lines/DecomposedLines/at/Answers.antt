@@ -1,6 +1,6 @@
 use Rattle.std.proofs.Common.{◌∙◌, Some, sym}
 use Rattle.hv_plan.specs.inside.FitViews.{headed}
-use Rattle.hv_plan.proofs.ListLemmas.{with_at}
+use Rattle.hv_lists.proofs.Heads.{with_at}
 use Rattle.hv_plan.proofs.fit.lines.DecomposedLines.at.Goals as goal
 
 pub returns : goal.returns

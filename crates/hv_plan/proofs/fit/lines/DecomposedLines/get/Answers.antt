@@ -1,7 +1,7 @@
 use Rattle.std.proofs.Common.{◌≤◌, length, sym, arith}
 use Rattle.std.proofs.lemmas.Option.{slice_get_past}
 use Rattle.hv_plan.specs.inside.FitViews.{headed, decomposed_lines}
-use Rattle.hv_plan.proofs.ListLemmas.{with_length}
+use Rattle.hv_lists.proofs.Heads.{with_length}
 use Rattle.hv_plan.proofs.fit.lines.DecomposedLines.get.Goals as goal
 
 pub returns-else-place-len : goal.returns-else-place-len

@@ -1,7 +1,7 @@
 use Rattle.std.proofs.Common.{◌∙◌}
 use Rattle.hv_plan.specs.inside.FitViews.{headed}
-use Rattle.hv_plan.specs.inside.Lists.{with_lists}
-use Rattle.hv_plan.proofs.ListLemmas.{with_more}
+use Rattle.hv_lists.specs.Lists.{with_lists}
+use Rattle.hv_lists.proofs.Heads.{with_more}
 use Rattle.hv_plan.proofs.fit.lines.DecomposedLines.push.Goals as goal
 
 pub returns-clause-lines : goal.returns-clause-lines

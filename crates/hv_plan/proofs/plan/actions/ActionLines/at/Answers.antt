@@ -1,6 +1,6 @@
 use Rattle.std.proofs.Common.{◌≡◌, ◌<◌, ◌∙◌, Some, ap, length, sym, rules, arith}
 use Rattle.hv_plan.specs.LineViews.{headed_action, actions_view}
-use Rattle.hv_plan.proofs.ListLemmas.{with_length, with_at}
+use Rattle.hv_lists.proofs.Heads.{with_length, with_at}
 use Rattle.hv_plan.proofs.plan.actions.ActionLines.at.Goals as goal
 
 pub index-head-requires : goal.index-head-requires

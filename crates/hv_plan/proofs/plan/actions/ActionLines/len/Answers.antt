@@ -1,6 +1,6 @@
 use Rattle.std.proofs.Common.{◌≡◌, ◌∙◌, length, sym, rules}
 use Rattle.hv_plan.specs.LineViews.{headed_action}
-use Rattle.hv_plan.proofs.ListLemmas.{with_length}
+use Rattle.hv_lists.proofs.Heads.{with_length}
 use Rattle.hv_plan.proofs.plan.actions.ActionLines.len.Goals as goal
 
 pub returns-clause-count : goal.returns-clause-count

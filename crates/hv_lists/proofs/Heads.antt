@@ -1,7 +1,7 @@
 -- Heads that have lists.
 use Rattle.std.proofs.Common.{◌≡◌, ℕ, zero, suc, ◌<◌, List, [], ◌∷◌, ◌++◌, Some, slice_get, length, get_or, drop, refl, ap, sym, ◌∙◌, arith}
 use Rattle.std.specs.Prelude.{slice_index_or}
-use Rattle.hv_plan.specs.inside.Lists.{with_lists}
+use Rattle.hv_lists.specs.Lists.{with_lists}
 
 -- heads with lists: how many they are, which stands at a place, and one more behind them
 pub with_length : {H T X : Type 0} (f : H → List T → X) (hs : List H) (ls : List (List T)) → length (with_lists f hs ls) ≡ length hs
