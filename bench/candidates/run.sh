@@ -3,5 +3,5 @@
 # Wants rt and python3. It works in a folder of its own under /tmp and leaves nothing in the repository.
 . "$(dirname "$0")/../harness.sh"
 
-words=none build hv_match
+words=none build hv_reading hv_match
 python3 "$here/measure.py" "$work/crates/bench/out/bench" "$work"

@@ -2,8 +2,8 @@
 use Rattle.std.proofs.Common.{◌≡◌, ◌⊎◌, inl, inr, ℕ, Bool, true, false, List, Option, None, Some, Result, Ok, Err, IfOk, IfErr, refl, sym, subst}
 use Rattle.hv_text.specs.declared.span.Span.{Span}
 use Rattle.hv_syntax.specs.Values.{Domain, Problem}
-use Rattle.hv_syntax.specs.Texts.{IsDomainText, IsDomainFault, IsProblemText, IsProblemFault}
-use Rattle.hv_syntax.specs.declared.fault.SyntaxKind.{SyntaxKind}
+use Rattle.hv_reading.specs.Texts.{IsDomainText, IsDomainFault, IsProblemText, IsProblemFault}
+use Rattle.hv_reading.specs.declared.fault.SyntaxKind.{SyntaxKind}
 use Rattle.hv_world.specs.Faults.{memory_fault}
 use Rattle.hv_world.specs.StaticRules.{first_fault}
 use Rattle.hv_world.specs.Worlds.{World, world_of}

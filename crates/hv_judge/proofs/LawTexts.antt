@@ -2,10 +2,10 @@
 use Rattle.std.proofs.Common.{◌≡◌, ◌≢◌, inl, inr, ◌↔◌, ℕ, List, Some, None, refl, sym, ◌∙◌, ap, subst}
 use Rattle.hv_text.specs.declared.fault.TextKind.TheVariants as texts
 use Rattle.hv_text.specs.declared.span.Span.{Span}
-use Rattle.hv_syntax.specs.declared.fault.SyntaxKind.{SyntaxKind}
-use Rattle.hv_syntax.specs.declared.fault.SyntaxKind.TheVariants as kinds
+use Rattle.hv_reading.specs.declared.fault.SyntaxKind.{SyntaxKind}
+use Rattle.hv_reading.specs.declared.fault.SyntaxKind.TheVariants as kinds
 use Rattle.hv_syntax.specs.Values.{Domain, Problem}
-use Rattle.hv_syntax.specs.Texts.{IsDomainText, IsDomainFault, IsProblemText, IsProblemFault, IsOwnFaultBy}
+use Rattle.hv_reading.specs.Texts.{IsDomainText, IsDomainFault, IsProblemText, IsProblemFault, IsOwnFaultBy}
 use Rattle.hv_world.specs.declared.fault.StaticFault.{StaticFault}
 use Rattle.hv_world.specs.StaticRules.{IsStatic, first_fault}
 use Rattle.hv_plan.specs.Values.{Plan}

@@ -16,10 +16,10 @@ use Rattle.hv_answer.specs.declared.answer.FaultKind.TheVariants as faults
 use Rattle.hv_answer.specs.declared.answer.Fault.{Fault}
 use Rattle.hv_answer.specs.declared.answer.Place.TheVariants.{At}
 use Rattle.hv_answer.specs.Places.{fault_nowhere, fault_on}
-use Rattle.hv_syntax.specs.declared.fault.SyntaxKind.{SyntaxKind}
-use Rattle.hv_syntax.specs.declared.fault.SyntaxKind.TheVariants as kinds
+use Rattle.hv_reading.specs.declared.fault.SyntaxKind.{SyntaxKind}
+use Rattle.hv_reading.specs.declared.fault.SyntaxKind.TheVariants as kinds
 use Rattle.hv_syntax.specs.Values.{Domain, Problem}
-use Rattle.hv_syntax.specs.Texts.{IsDomainText, IsDomainFault, IsProblemText, IsProblemFault}
+use Rattle.hv_reading.specs.Texts.{IsDomainText, IsDomainFault, IsProblemText, IsProblemFault}
 use Rattle.hv_world.specs.declared.fault.Side.{Side}
 use Rattle.hv_world.specs.declared.fault.Side.TheVariants as sides
 use Rattle.hv_world.specs.declared.fault.StaticKind.{StaticKind}

@@ -1,7 +1,7 @@
 -- The verdict of three texts and a limit, and what the judge may answer.
 use Rattle.std.specs.Prelude.{◌≡◌, ℕ, List, None}
 use Rattle.hv_syntax.specs.Values.{Domain, Problem}
-use Rattle.hv_syntax.specs.Texts.{IsDomainText, IsProblemText}
+use Rattle.hv_reading.specs.Texts.{IsDomainText, IsProblemText}
 use Rattle.hv_world.specs.StaticRules.{IsStatic}
 use Rattle.hv_world.specs.Worlds.{World, world_of}
 use Rattle.hv_plan.specs.Values.{Plan}

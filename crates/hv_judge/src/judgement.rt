@@ -14,7 +14,7 @@ use crate::verdict::judge_plan;
 use hv_answer::{Answer, Fault, Verdict, Which};
 use hv_certificate::Certificate;
 use hv_plan::{plans_are_small, read_plan};
-use hv_syntax::{SyntaxFault, read_domain, read_problem};
+use hv_reading::{SyntaxFault, read_domain, read_problem};
 use hv_text::{MOST_BYTES, Memory};
 use hv_world::{Side, StaticFault, World};
 use std::alloc::Global;

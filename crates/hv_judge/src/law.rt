@@ -11,7 +11,7 @@ use hv_certificate::certificates_are_their_texts;
 use hv_match::counts_are_one;
 use hv_order::certified_plans::certified_plans_are_solved;
 use hv_plan::{a_plan_has_one_tree, a_plan_or_a_fault, a_tree_or_a_cause};
-use hv_syntax::{a_domain_or_a_fault, a_problem_or_a_fault, a_text_says_one_thing};
+use hv_reading::{a_domain_or_a_fault, a_problem_or_a_fault, a_text_says_one_thing};
 use hv_world::a_world_or_a_fault;
 
 /// Three texts and a limit have one verdict: the same text is rejected, for the same fault at the

@@ -12,7 +12,7 @@ use crate::running::RunFault;
 use hv_answer::{Fault, Verdict, Which, write_verdict};
 use hv_certificate::{CertFault, print_cert, read_cert};
 use hv_plan::{PlanFault, print_plan, read_plan};
-use hv_syntax::{SyntaxFault, print_domain, print_problem, read_domain, read_problem};
+use hv_reading::{SyntaxFault, print_domain, print_problem, read_domain, read_problem};
 use hv_text::{MOST_BYTES, ReadFault, Sink, Source, read_all, write_all};
 use std::alloc::Global;
 

@@ -7,7 +7,7 @@ ghost use Rattle.hv_judge.specs.Rejections.{fault_in, reported, reported_static,
 use hv_answer::{Fault, FaultKind, Place};
 use hv_certificate::CertFault;
 use hv_plan::PlanFault;
-use hv_syntax::SyntaxKind;
+use hv_reading::SyntaxKind;
 use hv_text::{MOST_BYTES, Span, TextKind, place};
 use hv_world::StaticKind;
 

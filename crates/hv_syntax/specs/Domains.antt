@@ -1,10 +1,6 @@
 -- The sections of domains.
-use Rattle.std.specs.Prelude.{ℕ, ◌||◌, List, [], ◌∷◌, ◌++◌, codes, if◌then◌else◌}
-use Rattle.hv_syntax.specs.declared.section.Standing.{Standing}
-use Rattle.hv_syntax.specs.declared.section.Standing.TheVariants as standings
-use Rattle.hv_syntax.specs.Words.{is}
+use Rattle.std.specs.Prelude.{List, [], ◌∷◌, ◌++◌}
 use Rattle.hv_syntax.specs.Values.{WordAt, Typed, Predicate, Task, Method, Action, Domain}
-use Rattle.hv_syntax.specs.Sections.{is_unsupported}
 
 -- what a section of a domain says
 pub data DomainSection : Type 0 where
@@ -15,16 +11,6 @@ pub data DomainSection : Type 0 where
   has_task : Task → DomainSection
   has_method : Method → DomainSection
   has_action : Action → DomainSection
-
--- which heads may stand in a domain, and how often
-abbrev pub domain_standing : List ℕ → Standing
-domain_standing w =
-    if is w (codes ":requirements") || is w (codes ":types") || is w (codes ":constants")
-    || is w (codes ":predicates") then standings.Once else
-    if is w (codes ":task") || is w (codes ":method")
-    || is w (codes ":action") then standings.Often else
-    if is_unsupported w then standings.Unsupported else
-    standings.Unknown
 
 -- a domain of this name without sections
 abbrev pub no_domain : WordAt → Domain

@@ -1,12 +1,6 @@
 -- The sections of problems, and what they have said together.
-use Rattle.std.specs.Prelude.{ℕ, ◌||◌, List, [], ◌∷◌, Option, Some, None, codes, if◌then◌else◌}
-use Rattle.hv_syntax.specs.declared.field.Slot.{Slot}
-use Rattle.hv_syntax.specs.declared.field.Slot.TheVariants as slots
-use Rattle.hv_syntax.specs.declared.section.Standing.{Standing}
-use Rattle.hv_syntax.specs.declared.section.Standing.TheVariants as standings
-use Rattle.hv_syntax.specs.Words.{is}
-use Rattle.hv_syntax.specs.Values.{WordAt, Typed, Formula, Literal, Htn}
-use Rattle.hv_syntax.specs.Sections.{is_unsupported}
+use Rattle.std.specs.Prelude.{List, [], Option, Some, None}
+use Rattle.hv_syntax.specs.Values.{WordAt, Typed, Formula, Literal, Htn, Problem}
 
 -- what a section of a problem says
 pub data ProblemSection : Type 0 where
@@ -16,21 +10,6 @@ pub data ProblemSection : Type 0 where
   has_htn : Htn → ProblemSection
   has_init : List Literal → ProblemSection
   has_goal : Formula → ProblemSection
-
--- the fields that an initial network may have
-abbrev pub htn_slots : List Slot
-htn_slots =
-    slots.Parameters ∷ slots.Subtasks ∷ slots.OrderedSubtasks ∷ slots.Ordering ∷ slots.Constraints
-    ∷ []
-
--- which heads may stand in a problem, and how often
-abbrev pub problem_standing : List ℕ → Standing
-problem_standing w =
-    if is w (codes ":domain") || is w (codes ":requirements") || is w (codes ":objects")
-    || is w (codes ":htn") || is w (codes ":init") || is w (codes ":goal")
-    then standings.Once else
-    if is_unsupported w then standings.Unsupported else
-    standings.Unknown
 
 -- what the sections of a problem have said so far
 pub record Parts : Type 0 where
@@ -54,3 +33,24 @@ add_part p (has_objects vs) = record p { objects = vs }
 add_part p (has_htn h) = record p { htn = Some h }
 add_part p (has_init ls) = record p { init = Some ls }
 add_part p (has_goal f) = record p { goal = Some f }
+
+-- the problem of this name and these parts: `:domain`, `:htn` and `:init` must be among them
+abbrev pub assembled_by : WordAt → Parts → Option WordAt → Option Htn → Option (List Literal)
+    → Option Problem
+assembled_by n p None h ls = None
+assembled_by n p (Some d) None ls = None
+assembled_by n p (Some d) (Some h) None = None
+assembled_by n p (Some d) (Some h) (Some ls) =
+    Some (record {
+      name = n;
+      domain = d;
+      requirements = p.requirements;
+      objects = p.objects;
+      htn = h;
+      init = ls;
+      goal = p.goal;
+    })
+
+-- the same, by what the parts have
+abbrev pub assembled : WordAt → Parts → Option Problem
+assembled n p = assembled_by n p p.domain p.htn p.init

@@ -56,7 +56,7 @@ impl<'s> InitText<'s> {
     /// # Errors
     ///
     /// `Memory` where a growth was refused.
-    pub(crate) fn new(alloc: Global) -> Result<InitText<'s>, Memory>
+    pub fn new(alloc: Global) -> Result<InitText<'s>, Memory>
         ensures { IfOk result (λ i. init_view i ≡ []) }
     {
         Ok(InitText {
@@ -101,7 +101,7 @@ impl<'s> InitText<'s> {
     /// # Errors
     ///
     /// `Memory` where a growth was refused, or where all literals together would have 2^32 terms.
-    pub(crate) fn push(&mut self, literal: LentLiteral<'_, 's>) -> Result<(), Memory>
+    pub fn push(&mut self, literal: LentLiteral<'_, 's>) -> Result<(), Memory>
         ensures { OnOk result
             (init_view self.new ≡ init_view self.old ++ lent_literal_view literal.entry ∷ []) }
     {

@@ -1,23 +1,10 @@
 //! Literals.
 
-ghost use Rattle.std.specs.Prelude.{◌≡◌, map};
-ghost use Rattle.hv_text.specs.Trees.{tree, trees};
-ghost use Rattle.hv_syntax.specs.inside.Reading.{Gives, every};
-ghost use Rattle.hv_syntax.specs.Literals.{is_constant, are_constants};
-ghost use Rattle.hv_syntax.specs.inside.Literals.{literal_of, ground_literal_of};
-ghost use Rattle.hv_syntax.specs.Views.{term_view, lent_atom_view, literal_view};
-ghost use Rattle.hv_syntax.specs.Views.{lent_literal_view};
-ghost use Rattle.hv_syntax.specs.ProblemViews.{init_view};
+ghost use Rattle.std.specs.Prelude.{◌≡◌};
+ghost use Rattle.hv_syntax.specs.Values.{literal};
+ghost use Rattle.hv_syntax.specs.Views.{atom_view, lent_atom_view, literal_view, lent_literal_view};
 
-mod stream;
-
-use crate::init::InitText;
-use crate::list::negated;
-use crate::refusal::Refusal;
-use crate::term::{AtomText, LentAtom, TermText, read_atom};
-use hv_text::Sexp;
-use std::alloc::Global;
-pub(crate) use stream::read_ground_literals_at;
+use crate::term::{AtomText, LentAtom};
 
 /// An atom, or the negation of one.
 #[derive(Drop)]
@@ -27,6 +14,13 @@ pub struct LiteralText<'s> {
 }
 
 impl<'s> LiteralText<'s> {
+    /// The literal of this atom, which stands without `not` where it is positive.
+    pub fn new(is_positive: bool, atom: AtomText<'s>) -> LiteralText<'s>
+        ensures { literal_view result ≡ literal is_positive (atom_view atom.entry) }
+    {
+        LiteralText { is_positive, atom }
+    }
+
     /// The same, lent.
     pub fn lend(&self) -> LentLiteral<'_, 's>
         ensures { lent_literal_view result ≡ literal_view self.now }
@@ -46,6 +40,13 @@ pub struct LentLiteral<'a, 's> {
 }
 
 impl<'a, 's> LentLiteral<'a, 's> {
+    /// The literal of this atom, which stands without `not` where it is positive.
+    pub fn new(is_positive: bool, atom: LentAtom<'a, 's>) -> LentLiteral<'a, 's>
+        ensures { lent_literal_view result ≡ literal is_positive (lent_atom_view atom.entry) }
+    {
+        LentLiteral { is_positive, atom }
+    }
+
     /// Whether the atom stands without `not`.
     pub fn is_positive(self) -> bool
         ensures { result ≡ (lent_literal_view self.entry).is_positive }
@@ -59,74 +60,4 @@ impl<'a, 's> LentLiteral<'a, 's> {
     {
         self.atom
     }
-}
-
-/// Reads a literal: an atom, or `(not atom)`.
-///
-/// # Errors
-///
-/// `NoSpelling` where the expression is none, and `Memory`.
-pub(crate) fn read_literal<'s>(alloc: Global, e: &Sexp<'s>) -> Result<LiteralText<'s>, Refusal>
-    ensures { Gives literal_view result (literal_of (tree e.now)) }
-{
-    match negated(e) {
-        Some(part) => Ok(LiteralText {
-            is_positive: false,
-            atom: read_atom(alloc, part)?,
-        }),
-        None => Ok(LiteralText {
-            is_positive: true,
-            atom: read_atom(alloc, e)?,
-        }),
-    }
-}
-
-fn is_constant(term: TermText<'_>) -> bool
-    ensures { result ≡ is_constant (term_view term.entry) }
-{
-    match term {
-        TermText::Constant(_) => true,
-        TermText::Variable(_) => false,
-    }
-}
-
-fn are_constants(terms: &[TermText<'_>]) -> bool
-    ensures { result ≡ are_constants (map term_view terms.now) }
-{
-    for term in terms {
-        if !is_constant(*term) {
-            return false;
-        }
-    }
-    true
-}
-
-// A literal whose terms are names.
-fn read_ground_literal<'s>(alloc: Global, e: &Sexp<'s>) -> Result<LiteralText<'s>, Refusal>
-    ensures { Gives literal_view result (ground_literal_of (tree e.now)) }
-{
-    let literal = read_literal(alloc, e)?;
-    if !are_constants(literal.atom.terms()) {
-        return Err(Refusal::NoSpelling);
-    }
-    Ok(literal)
-}
-
-/// Reads literals whose terms are names, one after another.
-///
-/// # Errors
-///
-/// `NoSpelling` where one of the expressions is none, and `Memory`.
-pub(crate) fn read_ground_literals<'s>(
-    alloc: Global,
-    es: &[Sexp<'s>],
-) -> Result<InitText<'s>, Refusal>
-    ensures { Gives init_view result (every ground_literal_of (trees es.now)) }
-{
-    let mut literals = InitText::new(alloc)?;
-    for e in es {
-        let literal = read_ground_literal(alloc, e)?;
-        literals.push(literal.lend())?;
-    }
-    Ok(literals)
 }

@@ -1,17 +1,12 @@
 //! Predicates.
 
 ghost use Rattle.std.specs.Prelude.{◌≡◌, map};
-ghost use Rattle.hv_text.specs.Trees.{tree, trees};
-ghost use Rattle.hv_syntax.specs.inside.Reading.{Gives, every};
-ghost use Rattle.hv_syntax.specs.inside.Declarations.{predicate_of};
+ghost use Rattle.hv_syntax.specs.Values.{predicate};
 ghost use Rattle.hv_syntax.specs.Views.{word_view, variable_view};
 ghost use Rattle.hv_syntax.specs.DeclarationViews.{predicate_view};
 
-use crate::refusal::Refusal;
-use crate::variable::{VariableText, read_typed_variables};
-use crate::word::{Placed, read_symbol};
-use hv_text::Sexp;
-use std::alloc::Global;
+use crate::variable::VariableText;
+use crate::word::Placed;
 
 /// A predicate, and its parameters.
 #[derive(Drop)]
@@ -21,6 +16,14 @@ pub struct PredicateText<'s> {
 }
 
 impl<'s> PredicateText<'s> {
+    /// The predicate of this name and these parameters.
+    pub fn new(name: Placed<'s>, parameters: Vec<VariableText<'s>>) -> PredicateText<'s>
+        ensures { predicate_view result
+            ≡ predicate (word_view name.entry) (map variable_view parameters.entry.items) }
+    {
+        PredicateText { name, parameters }
+    }
+
     /// Its name.
     pub fn name(&self) -> Placed<'s>
         ensures { word_view result ≡ (predicate_view self.now).name }
@@ -34,39 +37,4 @@ impl<'s> PredicateText<'s> {
     {
         &self.parameters
     }
-}
-
-// A symbol and variables with their types, between parentheses.
-fn read_predicate<'s>(alloc: Global, e: &Sexp<'s>) -> Result<PredicateText<'s>, Refusal>
-    ensures { Gives predicate_view result (predicate_of (tree e.now)) }
-{
-    let Sexp::List(members, _) = e else {
-        return Err(Refusal::NoSpelling);
-    };
-    match members.as_slice() {
-        [] => Err(Refusal::NoSpelling),
-        [symbol, others @ ..] => {
-            let name = read_symbol(symbol)?;
-            let parameters = read_typed_variables(alloc, others)?;
-            Ok(PredicateText { name, parameters })
-        }
-    }
-}
-
-/// Reads predicates, one after another.
-///
-/// # Errors
-///
-/// `NoSpelling` where one of the expressions is none, and `Memory`.
-pub(crate) fn read_predicates<'s>(
-    alloc: Global,
-    es: &[Sexp<'s>],
-) -> Result<Vec<PredicateText<'s>>, Refusal>
-    ensures { Gives (λ v. map predicate_view v.items) result (every predicate_of (trees es.now)) }
-{
-    let mut predicates = Vec::new(alloc);
-    for e in es {
-        predicates.push(read_predicate(alloc, e)?)?;
-    }
-    Ok(predicates)
 }

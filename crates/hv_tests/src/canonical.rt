@@ -2,7 +2,7 @@
 
 use crate::texts::LINES;
 use hv_plan::{print_plan, read_plan};
-use hv_syntax::{print_domain, print_problem, read_domain, read_problem};
+use hv_reading::{print_domain, print_problem, read_domain, read_problem};
 use std::alloc::Global;
 use std::test::Fail;
 

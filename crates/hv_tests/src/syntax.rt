@@ -1,10 +1,8 @@
 //! What is read of domains and problems, and the first faults of their texts.
 
 use crate::texts::{DOMAINS, PROBLEMS, nested, place_in};
-use hv_syntax::{
-    DomainText, FormulaText, MethodText, NetworkText, ProblemText, SyntaxKind, read_domain,
-    read_problem,
-};
+use hv_reading::{SyntaxKind, read_domain, read_problem};
+use hv_syntax::{DomainText, FormulaText, MethodText, NetworkText, ProblemText};
 use hv_text::TextKind;
 use std::alloc::Global;
 use std::test::Fail;

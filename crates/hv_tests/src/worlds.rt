@@ -6,7 +6,7 @@ ghost use Rattle.hv_plan.specs.BuiltTrees.{tree_view};
 ghost use Rattle.hv_plan.specs.PlanTrees.{IsTreeIn};
 
 use hv_plan::{PlanText, Tree, read_plan};
-use hv_syntax::{read_domain, read_problem};
+use hv_reading::{read_domain, read_problem};
 use hv_text::Name;
 use hv_world::{ObjectId, TypeId, World};
 use std::alloc::Global;

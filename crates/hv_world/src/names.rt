@@ -170,13 +170,7 @@ impl<'s> Names<'s> {
     pub(crate) fn place_behind(&self, other: Option<usize>, name: Name<'s>) -> Option<usize>
         ensures { result ≡ places_by self.now (text_of name.entry) }
     {
-        if let Some(other) = other {
-            let next = self.behind(other, name);
-            if next.is_some() {
-                return next;
-            }
-        }
-        self.place(name)
+        self.place_like(next_to(other), name)
     }
 }
 
@@ -191,6 +185,11 @@ pub(crate) fn hints_of(alloc: Global, names: &IndexSet<Name<'_>, Seeded>) -> Res
         hints.note(*name, place);
     }
     Ok(hints)
+}
+
+// The place behind another.
+fn next_to(other: Option<usize>) -> Option<usize> {
+    Some(other?.saturating_add(1))
 }
 
 // Whether a name stands at a place of a set.
@@ -251,13 +250,7 @@ pub(crate) fn place_behind<'s>(
 ) -> Option<usize>
     ensures { result ≡ place_in (map text_of names.now.keys) (text_of name.entry) }
 {
-    if let Some(other) = other {
-        let next = other.saturating_add(1);
-        if stands_at(names, next, name) {
-            return Some(next);
-        }
-    }
-    place_of(names, hints, name)
+    place_like(names, hints, next_to(other), name)
 }
 
 /// The first of these words that has one of its name before it.

@@ -1,7 +1,7 @@
 //! The first static fault of a domain and a problem, and its place.
 
 use crate::texts::{PLAIN, place_in};
-use hv_syntax::{read_domain, read_problem};
+use hv_reading::{read_domain, read_problem};
 use hv_text::Memory;
 use hv_world::{Side, StaticFault, StaticKind, World};
 use std::alloc::Global;

@@ -226,7 +226,7 @@ pub(crate) fn checked_application<'s>(
 }
 
 // The predicate and the terms of an atom, if there is one.
-fn guesses_of(other: Option<&Atom>) -> (Option<PredicateId>, &[Term]) {
+fn parts_of(other: Option<&Atom>) -> (Option<PredicateId>, &[Term]) {
     match other {
         Some(atom) => (Some(atom.predicate), atom.terms.as_slice()),
         None => (None, &[]),
@@ -255,7 +255,7 @@ pub(crate) fn checked_atom<'s>(
         ≡ least (atom_faults (known_by tables.now) side (scope_view scope.now)
         (said_atom atom.entry))) }
 {
-    let (guess, others) = guesses_of(other);
+    let (guess, others) = parts_of(other);
     let (predicate, arity) = match tables.predicate(guess, atom.symbol().name()) {
         Some(signature) => (signature.predicate, Some(signature.arity)),
         None => (PredicateId(0), None),

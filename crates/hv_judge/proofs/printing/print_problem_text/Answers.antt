@@ -1,6 +1,6 @@
 use Rattle.std.proofs.Common.{◌++◌, ap, ◌∙◌}
 use Rattle.hv_syntax.specs.ProblemViews.{problem_view}
-use Rattle.hv_syntax.specs.CanonicalSections.{canonical_problem}
+use Rattle.hv_reading.specs.CanonicalSections.{canonical_problem}
 use Rattle.hv_answer.specs.declared.answer.Which.TheVariants as texts
 use Rattle.hv_judge.specs.Prints.{IsPrint, IsDone, IsTextRejection}
 use Rattle.hv_judge.proofs.PrintingLemmas.{printed_problem, rejected_problem}

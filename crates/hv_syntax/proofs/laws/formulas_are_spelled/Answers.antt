@@ -1,5 +1,0 @@
-use Rattle.hv_syntax.proofs.SpellingLemmas.{formula_table}
-use Rattle.hv_syntax.proofs.laws.formulas_are_spelled.Goals as goal
-
-pub returns : goal.returns
-returns c = formula_table

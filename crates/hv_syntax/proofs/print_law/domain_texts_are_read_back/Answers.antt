@@ -1,8 +1,0 @@
-use Rattle.hv_syntax.proofs.ReadBack.{domain_back, domain_only}
-use Rattle.hv_syntax.proofs.print_law.domain_texts_are_read_back.Goals as goal
-
-pub returns-clause-some : goal.returns-clause-some
-returns-clause-some c = domain_back c.expressions_are_tidy.ensures c.texts_have_what_they_spell.ensures
-
-pub returns-clause-only : goal.returns-clause-only
-returns-clause-only c = domain_only c.expressions_are_tidy.ensures c.texts_have_what_they_spell.ensures c.a_text_has_one_reading.ensures

@@ -1,5 +1,0 @@
-use Rattle.hv_syntax.proofs.AgainDomains.{domain_again}
-use Rattle.hv_syntax.proofs.print_law.domains_are_read_again.Goals as goal
-
-pub returns : goal.returns
-returns c = domain_again

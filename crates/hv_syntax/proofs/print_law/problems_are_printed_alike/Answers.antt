@@ -1,5 +1,0 @@
-use Rattle.hv_syntax.proofs.Alike.{problems_alike}
-use Rattle.hv_syntax.proofs.print_law.problems_are_printed_alike.Goals as goal
-
-pub returns : goal.returns
-returns c = problems_alike

@@ -1,5 +1,0 @@
-use Rattle.hv_syntax.proofs.ReadBackProblems.{problem_found}
-use Rattle.hv_syntax.proofs.print_law.problems_are_read_wherever_they_stand.Goals as goal
-
-pub returns : goal.returns
-returns c = problem_found

@@ -1,5 +1,0 @@
-use Rattle.hv_syntax.proofs.TextWords.{text_pieces}
-use Rattle.hv_syntax.proofs.print_law.texts_have_the_words_of_their_expressions.Goals as goal
-
-pub returns : goal.returns
-returns c = text_pieces

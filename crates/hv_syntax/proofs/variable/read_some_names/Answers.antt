@@ -1,5 +1,0 @@
-use Rattle.hv_syntax.proofs.VariableLemmas.{they_are_some}
-use Rattle.hv_syntax.proofs.variable.read_some_names.Goals as goal
-
-pub returns-in-len1-up : goal.returns-in-len1-up
-returns-in-len1-up c = rw (they_are_some c.args.es.now c.in-len1-up.len_at_least) c.read_names.ensures
