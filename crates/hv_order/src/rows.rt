@@ -15,7 +15,7 @@ ghost use Rattle.hv_order.specs.inside.Runs.{ArePlanRows};
 use crate::first::first_without;
 use crate::memory::Memory;
 use crate::plan_nodes::PlanNodes;
-use crate::runs::{Row, build, count_runs, least_finish, least_finish_counted};
+use crate::runs::{Row, build, count_runs, least_finish_counted};
 use crate::solve::new_memo;
 use crate::solved::certificate_of;
 use hv_certificate::Certificate;
@@ -138,7 +138,7 @@ impl<'a, 's, 'm, 'p, 't, 'c, 'd> Rows<'a, 's, 'm, 'p, 't, 'c, 'd> {
         requires start { start ≤ last self.now }
         ensures { IsLeastFinishOf self.now node start result }
     {
-        least_finish(&self.nodes, &self.rows, node as usize, start)
+        self.least_finish_counted(node, start).0
     }
 
     /// How many different answers `least_finish` gives for the starts of a node, none

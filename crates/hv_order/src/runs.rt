@@ -193,16 +193,6 @@ pub fn find<N: Nodes>(nodes: &N, rows: &[Row], node: usize, start: u32) -> Found
     find_in(nodes, &rows[node], node, start)
 }
 
-/// The least finish of a node for a start, by the rows of the nodes.
-pub fn least_finish<N: Nodes>(nodes: &N, rows: &[Row], node: usize, start: u32) -> Option<u32>
-    requires rows { AreRows (N.facts nodes.now) rows.now }
-    requires node { node < length rows.now }
-    requires start { start ≤ (N.facts nodes.now).last }
-    ensures { IsLeast ((N.facts nodes.now).fits node start) (N.facts nodes.now).last result }
-{
-    find(nodes, rows, node, start).run.finish
-}
-
 /// The least finish of a node for a start, and how many runs of its row were looked at.
 pub fn least_finish_counted<N: Nodes>(
     nodes: &N,

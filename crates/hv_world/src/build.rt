@@ -244,11 +244,16 @@ impl<'s> World<'s> {
             (λ f. (f ≡ memory_fault)
             ⊎ (first_fault (domain_view domain.now) (problem_view problem.now) ≡ Some f)) }
     {
-        let tables = Tables::of(alloc, domain, problem)?;
-        let numbered = Numbered::of(alloc, &tables, domain, problem)?;
+        // Both are large, and are handed on below.
+        let tables = Box::new(alloc, Tables::of(alloc, domain, problem)?)?;
+        let numbered = Box::new(alloc, Numbered::of(alloc, &tables, domain, problem)?)?;
         match first_fault(alloc, &tables, domain, problem, &numbered)? {
             Some(fault) => Err(fault),
-            None => Ok(World::of_tables(alloc, tables, domain, problem, numbered)?),
+            None => {
+                let tables = Box::into_inner(tables);
+                let numbered = Box::into_inner(numbered);
+                Ok(World::of_tables(alloc, tables, domain, problem, numbered)?)
+            }
         }
     }
 

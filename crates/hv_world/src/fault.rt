@@ -6,6 +6,7 @@ ghost use Rattle.hv_world.specs.Faults.{earlier, fault_if};
 
 use hv_syntax::Placed;
 use hv_text::{Memory, Span};
+use std::alloc::AllocFailed;
 
 /// The kinds of static faults.
 #[derive(Clone, Copy, Debug, PartialEq, Eq)]
@@ -59,6 +60,21 @@ impl From<Memory> for StaticFault {
     ghost from_gives = { λ _ f. f ≡ memory_fault };
 
     fn from(_refused: Memory) -> StaticFault {
+        StaticFault {
+            kind: StaticKind::Memory,
+            side: Side::Domain,
+            span: Span { start: 0, past: 0 },
+        }
+    }
+}
+
+impl<T: Drop> From<AllocFailed<T>> for StaticFault {
+    ghost use Rattle.std.specs.Prelude.{◌≡◌};
+    ghost use Rattle.hv_world.specs.Faults.{memory_fault};
+
+    ghost from_gives = { λ _ f. f ≡ memory_fault };
+
+    fn from(_refused: AllocFailed<T>) -> StaticFault {
         StaticFault {
             kind: StaticKind::Memory,
             side: Side::Domain,
