@@ -1,30 +1,28 @@
 -- Expressions that are read one at a time.
 use Rattle.std.proofs.Common.{◌≡◌, ◌||◌, ℕ, true, List, [], ◌∷◌, ◌++◌, map, Option, Some, None, Result, Ok, refl, sym, ap, ◌∙◌}
 use Rattle.std.proofs.lemmas.List.{append-nil, append_assoc, map-append}
-use Rattle.std.specs.Prelude.{codes, option_map, option_and_then}
+use Rattle.std.specs.Prelude.{option_map, option_and_then}
 use Rattle.hv_text.specs.Trees.{Tree, Trees, word, list, none, more, place_of}
 use Rattle.hv_text.specs.Rests.{Rest, last, lost, upto, add, enclose, here, ended}
 use Rattle.hv_text.specs.declared.span.Span.{Span}
 use Rattle.hv_reading.specs.inside.Reading.{both, every, behind}
-use Rattle.hv_syntax.specs.Values.{WordAt, word_at, Typed, Literal, literal, Term, constant, variable, atom_with}
+use Rattle.hv_syntax.specs.Values.{WordAt, word_at, Literal, literal, Term, constant, variable, atom_with}
 use Rattle.hv_reading.specs.Literals.{is_constant, are_constants}
 use Rattle.hv_reading.specs.inside.Terms.{term_of, atom_of}
 use Rattle.hv_reading.specs.inside.Lists.{behind_not}
 use Rattle.hv_reading.specs.declared.word.Head.TheVariants as word_heads
-use Rattle.hv_reading.specs.Words.{is, head_of}
-use Rattle.hv_reading.specs.inside.Literals.{literal_by, literal_of, if_ground, ground_literal_of}
+use Rattle.hv_reading.specs.Words.{head_of}
+use Rattle.hv_reading.specs.inside.Literals.{literal_by, literal_of, if_ground}
 use Rattle.hv_reading.specs.Sections.{headed, is_head, occurs}
 use Rattle.hv_reading.specs.inside.Sections.{refused, section_of, sections_from, sections_of}
 use Rattle.hv_reading.specs.declared.section.Standing.{Standing}
-use Rattle.hv_syntax.specs.Problems.{ProblemSection, has_init, has_objects}
+use Rattle.hv_syntax.specs.Problems.{ProblemSection}
 use Rattle.hv_reading.specs.Standings.{problem_standing}
-use Rattle.hv_reading.specs.inside.TypedLists.{typed_list_of}
 use Rattle.hv_reading.specs.inside.Problems.{problem_section_by, problem_section}
 use Rattle.hv_reading.specs.inside.Streams.{head_word, heads, has_head, IsBegun, IsSectionRead, IsLiteralRead}
 use Rattle.hv_reading.specs.declared.section.Standing.TheVariants as standings
 use Rattle.hv_reading.specs.declared.fault.SyntaxKind.{SyntaxKind}
 use Rattle.hv_reading.proofs.Lists.{behind_both}
-use Rattle.hv_reading.proofs.SpellingLemmas.{same_word}
 
 pub here_add : (t : Tree) (r : Rest) → here (add t r) ≡ more t (here r)
 here_add t (last ts) = refl
@@ -35,11 +33,6 @@ pub ended_add : (t : Tree) (r : Rest) → ended (add t r) ≡ ended r
 ended_add t (last ts) = refl
 ended_add t (lost ts) = refl
 ended_add t (upto ts e r) = refl
-
-ended_twice : (r : Rest) → ended (ended r) ≡ ended r
-ended_twice (last ts) = refl
-ended_twice (lost ts) = refl
-ended_twice (upto ts e r) = refl
 
 pub ended_none : (r : Rest) → here r ≡ none → r ≡ ended r
 ended_none (last ts) e = ap last e
@@ -92,11 +85,8 @@ module _ {S : Type 0} (standing : List ℕ → Standing) (spelled : List ℕ →
   listed_read hs t from after w us x s st f h k fresh p by =
       record { tree = t; first = f; head = ap head_word (sym h); is_section = is_section_of t w us x hs (sym h) (ap (λ z. refused z (has_head w hs)) (sym k) ∙ fresh) (ap (λ z. spelled w z us) (sym p) ∙ by) }
 
-once_standing : (w v : List ℕ) → w ≡ v → problem_standing v ≡ standings.Once → problem_standing w ≡ standings.Once
-once_standing w v e h = ap problem_standing e ∙ h
-
 -- a section of problems that stands once, and was read one part at a time
-once_read : (x : ProblemSection) (hs : List (List ℕ)) (start place : Span) (w : List ℕ) (from m e after : Rest) (p : ℕ) → from ≡ enclose start (add (word w place) m)
+pub once_read : (x : ProblemSection) (hs : List (List ℕ)) (start place : Span) (w : List ℕ) (from m e after : Rest) (p : ℕ) → from ≡ enclose start (add (word w place) m)
     → problem_standing w ≡ standings.Once → refused standings.Once (has_head w hs) ≡ None → ((s : Span) → problem_section_by w s (here m) ≡ Some x)
     → ended e ≡ ended m → e ≡ upto none p after → IsSectionRead problem_section hs from x w after
 once_read x hs start place w from (last us) e after p f o fresh by k q = absurd (never (sym k ∙ ap ended q))
@@ -118,28 +108,6 @@ once_read x hs start place w from (upto us n b) e after p f o fresh by k q =
       head = refl;
       is_section = is_section_of problem_standing problem_section_by t w us x hs refl may (by (place_of t));
     }
-
-init_by : (w : List ℕ) (us : Trees) (ls : List Literal) → w ≡ codes ":init" → every ground_literal_of us ≡ Some ls → (s : Span) → problem_section_by w s us ≡ Some (has_init ls)
-init_by w us ls e r s = rw (e, r) refl
-
-objects_by : (w : List ℕ) (us : Trees) (vs : List Typed) → w ≡ codes ":objects" → typed_list_of us ≡ Some vs → (s : Span) → problem_section_by w s us ≡ Some (has_objects vs)
-objects_by w us vs e r s = rw (e, r) refl
-
--- `:init`, that was read one literal at a time
-pub init_read : (hs : List (List ℕ)) (start place : Span) (w : List ℕ) (ls : List Literal) (from m e after : Rest) (p : ℕ) → from ≡ enclose start (add (word w place) m)
-    → is w (codes ":init") ≡ true → refused standings.Once (has_head w hs) ≡ None → every ground_literal_of (here m) ≡ Some ls → e ≡ ended m → e ≡ upto none p after
-    → IsSectionRead problem_section hs from (has_init ls) w after
-init_read hs start place w ls from m e after p f h fresh r k q =
-    let word_is : w ≡ codes ":init" = same_word w (codes ":init") h in
-    once_read (has_init ls) hs start place w from m e after p f (once_standing w (codes ":init") word_is refl) fresh (init_by w (here m) ls word_is r) (ap ended k ∙ ended_twice m) q
-
--- `:objects`, that was read one name at a time
-pub objects_read : (hs : List (List ℕ)) (start place : Span) (w : List ℕ) (vs : List Typed) (from m e after : Rest) (p : ℕ) → from ≡ enclose start (add (word w place) m)
-    → is w (codes ":objects") ≡ true → refused standings.Once (has_head w hs) ≡ None → (here e ≡ none → typed_list_of (here m) ≡ Some vs) → ended e ≡ ended m → e ≡ upto none p after
-    → IsSectionRead problem_section hs from (has_objects vs) w after
-objects_read hs start place w vs from m e after p f h fresh r k q =
-    let word_is : w ≡ codes ":objects" = same_word w (codes ":objects") h in
-    once_read (has_objects vs) hs start place w from m e after p f (once_standing w (codes ":objects") word_is refl) fresh (objects_by w (here m) vs word_is (r (ap here q))) k q
 
 module _ {V S : Type 0} (section : List Tree → Tree → Result S (SyntaxKind × Span)) (add_one : V → S → V) where
   -- one more section

@@ -1,14 +1,15 @@
 //! Problems read one section at a time, `:objects` one name and `:init` one literal at a time.
 
-ghost use Rattle.std.specs.Prelude.{◌≡◌, ◌<◌, [], true, Ok, IfOk, IfNone, IfSome, codes, map};
+ghost use Rattle.std.specs.Prelude.{◌≡◌, ◌<◌, ◌≤◌, [], Ok, Some, IfOk, IfNone, IfSome, map};
 ghost use Rattle.hv_text.specs.Names.{text_of};
 ghost use Rattle.hv_text.specs.Trees.{word, none};
 ghost use Rattle.hv_text.specs.Rests.{last, add, enclose, here, ended};
 ghost use Rattle.hv_text.specs.Cursors.{rest_at, left_at};
-ghost use Rattle.hv_reading.specs.Words.{is};
+ghost use Rattle.hv_reading.specs.Standings.{problem_standing};
 ghost use Rattle.hv_reading.specs.inside.Streams.{IsSectionRead};
 ghost use Rattle.hv_syntax.specs.Problems.{no_parts};
 ghost use Rattle.hv_reading.specs.inside.Problems.{parts_from, problem_of, problem_section};
+ghost use Rattle.hv_reading.specs.inside.Problems.{problem_section_by};
 ghost use Rattle.hv_syntax.specs.ProblemViews.{problem_section_view, parts_view, problem_view};
 
 use super::{read_members, standing_of, whole};
@@ -51,61 +52,60 @@ fn begun_section<'s>(from: Cursor<'s>) -> Option<BegunSection<'s>>
     }
 }
 
-// The rest of `:init`, one literal at a time.
-fn read_init_at<'s>(
+// What stands behind `:init` or `:objects`, one part at a time, and the place there. It is the whole
+// section where that is the end of its list. None where another word heads the list.
+fn read_parts_at<'s>(
     alloc: Global,
-    from: Cursor<'s>,
     begun: BegunSection<'s>,
-    heads: &[Name<'s>],
-) -> Result<SectionRead<'s, ProblemSection<'s>>, Refusal>
-    requires begun { rest_at from ≡ enclose begun.start
-        (add (word (text_of begun.name) begun.place) (rest_at begun.members)) }
-    requires head { is (text_of begun.name) (codes ":init") ≡ true }
-    ensures read { IfOk result
-        (λ r. IsSectionRead problem_section (map text_of heads.now) (rest_at from.entry)
-        (problem_section_view r.section) (text_of r.head) (rest_at r.after)) }
-    ensures less { IfOk result (λ r. left_at r.after < left_at begun.entry.members) }
+) -> Result<Option<(ProblemSection<'s>, Cursor<'s>)>, Refusal>
+    ensures once { IfOk result (λ o. IfSome o
+        (λ _. problem_standing (text_of begun.entry.name) ≡ Standing.Once)) }
+    ensures section { IfOk result (λ o. IfSome o (λ p. here (rest_at p.1) ≡ none → (s : Span)
+        → problem_section_by (text_of begun.entry.name) s (here (rest_at begun.entry.members))
+        ≡ Some (problem_section_view p.0))) }
+    ensures end { IfOk result (λ o. IfSome o
+        (λ p. ended (rest_at p.1) ≡ ended (rest_at begun.entry.members))) }
+    ensures less { IfOk result (λ o. IfSome o
+        (λ p. left_at p.1 ≤ left_at begun.entry.members)) }
 {
-    if !may_stand(Standing::Once, begun.name, heads) {
-        return Err(Refusal::NoSpelling);
+    if begun.name.is(b":init") {
+        let (literals, end) = read_ground_literals_at(alloc, begun.members)?;
+        return Ok(Some((ProblemSection::Init(literals), end)));
     }
-    let (literals, end) = read_ground_literals_at(alloc, begun.members)?;
-    match end.leave() {
-        None => Err(Refusal::NoSpelling),
-        Some((_past, after)) => Ok(SectionRead {
-            section: ProblemSection::Init(literals),
-            head: begun.name,
-            after,
-        }),
+    if begun.name.is(b":objects") {
+        let (objects, end) = read_typed_list_at(alloc, begun.members)?;
+        return Ok(Some((ProblemSection::Objects(objects), end)));
     }
+    Ok(None)
 }
 
-// The rest of `:objects`, one name at a time.
-fn read_objects_at<'s>(
+// `:init` or `:objects`, where one of them comes next, behind those with these heads.
+fn read_in_parts_at<'s>(
     alloc: Global,
     from: Cursor<'s>,
-    begun: BegunSection<'s>,
     heads: &[Name<'s>],
-) -> Result<SectionRead<'s, ProblemSection<'s>>, Refusal>
-    requires begun { rest_at from ≡ enclose begun.start
-        (add (word (text_of begun.name) begun.place) (rest_at begun.members)) }
-    requires head { is (text_of begun.name) (codes ":objects") ≡ true }
-    ensures read { IfOk result
+) -> Result<Option<SectionRead<'s, ProblemSection<'s>>>, Refusal>
+    ensures read { IfOk result (λ o. IfSome o
         (λ r. IsSectionRead problem_section (map text_of heads.now) (rest_at from.entry)
-        (problem_section_view r.section) (text_of r.head) (rest_at r.after)) }
-    ensures less { IfOk result (λ r. left_at r.after < left_at begun.entry.members) }
+        (problem_section_view r.section) (text_of r.head) (rest_at r.after))) }
+    ensures less { IfOk result (λ o. IfSome o (λ r. left_at r.after < left_at from.entry)) }
 {
+    let Some(begun) = begun_section(from) else {
+        return Ok(None);
+    };
+    let Some((section, end)) = read_parts_at(alloc, begun)? else {
+        return Ok(None);
+    };
     if !may_stand(Standing::Once, begun.name, heads) {
         return Err(Refusal::NoSpelling);
     }
-    let (objects, end) = read_typed_list_at(alloc, begun.members)?;
     match end.leave() {
         None => Err(Refusal::NoSpelling),
-        Some((_past, after)) => Ok(SectionRead {
-            section: ProblemSection::Objects(objects),
+        Some((_past, after)) => Ok(Some(SectionRead {
+            section,
             head: begun.name,
             after,
-        }),
+        })),
     }
 }
 
@@ -150,15 +150,10 @@ fn read_section_at<'s>(
         (problem_section_view r.section) (text_of r.head) (rest_at r.after))) }
     ensures less { IfOk result (λ o. IfSome o (λ r. left_at r.after < left_at from.entry)) }
 {
-    if let Some(begun) = begun_section(from) {
-        if begun.name.is(b":init") {
-            return Ok(Some(read_init_at(alloc, from, begun, heads)?));
-        }
-        if begun.name.is(b":objects") {
-            return Ok(Some(read_objects_at(alloc, from, begun, heads)?));
-        }
+    match read_in_parts_at(alloc, from, heads)? {
+        Some(read) => Ok(Some(read)),
+        None => read_listed_at(alloc, from, heads),
     }
-    read_listed_at(alloc, from, heads)
 }
 
 // The sections up to the end of the list, and the place there.
