@@ -15,11 +15,11 @@ use Rattle.std.proofs.lemmas.List.Quantifiers.{all_pairs_push}
 use Rattle.hv_lists.proofs.Contained.{contains_first, none_in_empty, in_tail}
 use Rattle.hv_world.specs.declared.id.TypeId.{TypeId}
 use Rattle.hv_world.specs.declared.id.ObjectId.{ObjectId}
-use Rattle.hv_world.specs.declared.lists.TypesOf.{TypesOf}
+use Rattle.hv_world.specs.declared.lists.direct.DirectTypes.{DirectTypes}
 use Rattle.hv_world.specs.Types.{Typing, Reaches, same, up, Of, object_numbers}
 use Rattle.hv_lists.specs.Lists.{Once}
 use Rattle.hv_world.specs.inside.Bases.{AreShared}
-use Rattle.hv_world.specs.inside.TypeLists.{list_of, type_numbers, declared_lists, object_lists, AreSeconds, Climbs, stays, steps, ClimbsFrom, AscendsBelow, IsPut, IsPutAbove, AreMembersBelow}
+use Rattle.hv_world.specs.inside.TypeLists.{list_of, type_numbers, direct_lists, object_lists, AreSeconds, AreInOrder, Climbs, stays, steps, ClimbsFrom, AscendsBelow, IsPut, IsPutAbove, AreMembersBelow}
 
 -- a number whose list has a member has a list
 pub has_list : (lists : List (List ℕ)) (t x : ℕ) → Contains (list_of lists t) x → t < length lists
@@ -517,11 +517,40 @@ grouped_more f numbers pairs i p lists a v d b lt e within grew h = grouped_more
 pub second_within : {P : Type 0} (numbers : P → ℕ × ℕ) (pairs : List P) (types : ℕ) → All (λ p. (numbers p).1 < types) pairs → (a b : ℕ) → Contains (map numbers pairs) (a, b) → b < types
 second_within numbers pairs types all a b m = All-contains (λ q. q.1 < types) (map numbers pairs) (a, b) (All-map (λ q. q.1 < types) numbers pairs all) m
 
+-- one in a list of one
+only_one : (y x : ℕ) → Contains (y ∷ []) x → x ≡ y
+only_one y x (zero, lt, e) = sym e
+only_one y x (suc k, lt, e) = let within : suc k < 1 = lt in omega (arith, within)
+
+-- what is declared of each object stands at the place of its number
+pub seconds_in_order : (pairs : List (ObjectId × TypeId)) → AreInOrder pairs → AreSeconds (map (λ p. (p.0.0, p.1.0)) pairs) (map (λ p. p.1.0 ∷ []) pairs)
+seconds_in_order pairs h a b =
+    let other : ObjectId × TypeId = (record { 0 = a }, record { 0 = b }) in
+    let p : ObjectId × TypeId = get_or pairs a other in
+    let lists : List (List ℕ) = map (λ p. p.1.0 ∷ []) pairs in
+    let numbers : List (ℕ × ℕ) = map (λ p. (p.0.0, p.1.0)) pairs in
+    let listed : a < length pairs → list_of lists a ≡ p.1.0 ∷ [] = λ lt. get_or-map (λ p. p.1.0 ∷ []) pairs a other [] lt in
+    let paired : a < length pairs → get_or numbers a (a, b) ≡ (p.0.0, p.1.0) = λ lt. get_or-map (λ p. (p.0.0, p.1.0)) pairs a other (a, b) lt in (
+      λ m.
+          let long : a < length lists = has_list lists a b m in
+          let lt : a < length pairs = omega (arith, long, length-map pairs (λ p. p.1.0 ∷ [])) in
+          let is : b ≡ p.1.0 = only_one p.1.0 b (subst (λ xs. Contains xs b) (listed lt) m) in
+          let at : p.0.0 ≡ a = h a other lt in
+          (a, omega (arith, lt, length-map {B = ℕ × ℕ} pairs (λ p. (p.0.0, p.1.0))), paired lt ∙ ap (λ n. (n, p.1.0)) at ∙ ap (λ n. (a, n)) (sym is)),
+      λ m.
+          let lt : m.0 < length pairs = let within = m.1 in omega (arith, within, length-map {B = ℕ × ℕ} pairs (λ p. (p.0.0, p.1.0))) in
+          let q : ObjectId × TypeId = get_or pairs m.0 other in
+          let is : (q.0.0, q.1.0) ≡ (a, b) = sym (get_or-map (λ p. (p.0.0, p.1.0)) pairs m.0 other (a, b) lt) ∙ m.2 in
+          let at : m.0 ≡ a = sym (h m.0 other lt) ∙ ap (λ u. u.0) is in
+          let listed_there : list_of lists m.0 ≡ q.1.0 ∷ [] = get_or-map (λ p. p.1.0 ∷ []) pairs m.0 other [] lt in
+          let has : Contains (list_of lists m.0) b = subst (λ xs. Contains xs b) (sym (listed_there ∙ ap (λ u. u.1 ∷ []) is)) (contains_first b []) in
+          subst (λ k. Contains (list_of lists k) b) at has,
+    )
+
 -- what waits at first is what is declared of the object
-pub starts_are : (direct read : List TypesOf) (n : ℕ) (v : TypesOf) (waiting all of : List TypeId)
-    → n < length direct → read ≡ direct → v ≡ get_or read n v → of ≡ v.types.items → waiting ≡ [] → all ≡ waiting ++ of → type_numbers all ≡ list_of (declared_lists direct) n
-starts_are direct read n v waiting all of lt read_is v_is of_is none all_is =
-    ap type_numbers (all_is ∙ ap (λ ts. ts ++ of) none ∙ of_is ∙ ap (λ u. u.types.items) v_is ∙ ap (λ l. (get_or l n v).types.items) read_is) ∙ sym (get_or-map (λ u. type_numbers u.types.items) direct n v [] lt)
+pub starts_are : (direct : DirectTypes) (n : ℕ) (waiting all : List TypeId) → waiting ≡ [] → type_numbers all ≡ type_numbers waiting ++ list_of (direct_lists direct) n
+    → type_numbers all ≡ list_of (direct_lists direct) n
+starts_are direct n waiting all none all_is = all_is ∙ ap (λ ts. type_numbers ts ++ list_of (direct_lists direct) n) none
 
 pub put_above_as : (parents parents' : List (List ℕ)) (starts starts' : List ℕ) (n : ℕ) (old old' new : List (List ℕ)) → parents ≡ parents' → starts ≡ starts' → old ≡ old'
     → IsPutAbove parents starts n old new → IsPutAbove parents' starts' n old' new

@@ -1,17 +1,19 @@
 //! Lists of the objects of types.
 
-ghost use Rattle.std.specs.Prelude.{◌≡◌, ◌<◌, ◌+◌, ◌↔◌, ℕ, [], length, map, IsTrue, IfOk, OnOk};
+ghost use Rattle.std.specs.Prelude.{◌≡◌, ◌<◌, ◌+◌, ◌++◌, ◌↔◌, ℕ, [], length, map, vec_len, IsTrue, IfOk, OnOk};
 ghost use Rattle.std.specs.List.{All, Contains};
 ghost use Rattle.hv_world.specs.Types.{Typing, typing, object_numbers};
 ghost use Rattle.hv_world.specs.Ranges.{range_view, IsRange};
-ghost use Rattle.hv_world.specs.inside.TypeLists.{list_of, type_numbers, type_lists, declared_lists, object_lists, AllAscend, AreSeconds, AscendsBelow, IsPut, IsPutAbove, AreMembersBelow};
+ghost use Rattle.hv_world.specs.inside.TypeLists.{list_of, type_numbers, type_lists, object_lists, AllAscend, AreSeconds, AscendsBelow, IsPut, IsPutAbove, AreMembersBelow};
 ghost use Rattle.hv_world.specs.inside.Bases.{AreShared};
+
+mod direct;
 
 use crate::bases::{bases, contracted};
 use crate::id::{ObjectId, TypeId};
+use crate::lists::direct::DirectTypes;
 use crate::range::Range;
 use hv_text::Memory;
-use smallvec::SmallVec;
 use std::alloc::Global;
 
 // What it may cost to put all objects into their lists: a step up from a type to a parent costs
@@ -101,43 +103,6 @@ pub(crate) fn parents_by_type(
     Ok(lists)
 }
 
-/// The types that are declared of an object. Mostly it is one, which takes no allocation.
-#[derive(Drop)]
-pub(crate) struct TypesOf {
-    types: SmallVec<TypeId, 1>,
-}
-
-// No types, for each of so many objects.
-fn no_types(alloc: Global, objects: usize) -> Result<Vec<TypesOf>, Memory>
-    ensures size { IfOk result (λ lists. length lists.items ≡ objects) }
-    ensures empty { IfOk result (λ lists. All (λ o. o.types.items ≡ []) lists.items) }
-{
-    let mut lists = Vec::with_capacity(alloc, objects)?;
-    for _ in 0..objects {
-        let types = SmallVec::new(alloc);
-        lists.push(TypesOf { types })?;
-    }
-    Ok(lists)
-}
-
-// The declared types of each object.
-fn types_by_object(
-    alloc: Global,
-    objects: usize,
-    pairs: &[(ObjectId, TypeId)],
-) -> Result<Vec<TypesOf>, Memory>
-    requires { All (λ p. p.0.0 < objects) pairs.now }
-    ensures size { IfOk result (λ lists. length lists.items ≡ objects) }
-    ensures lists { IfOk result
-        (λ lists. AreSeconds (map (λ p. (p.0.0, p.1.0)) pairs.now) (declared_lists lists.items)) }
-{
-    let mut lists = no_types(alloc, objects)?;
-    for (object, of) in pairs {
-        lists[object.0].types.push(*of)?;
-    }
-    Ok(lists)
-}
-
 // Whether an ascending list, in which nothing is behind the object, has it: at its end.
 fn is_at_end(objects: &[ObjectId], object: ObjectId) -> bool
     requires { AscendsBelow (object.0 + 1) (object_numbers objects.now) }
@@ -160,6 +125,19 @@ fn put(list: &mut Vec<ObjectId>, object: ObjectId) -> Result<bool, Memory>
     }
     list.push(object)?;
     Ok(true)
+}
+
+// Puts the parents of a type behind others, one by one: mostly it is one, for which a push costs less
+// than a slice that is copied.
+#[inline(always)]
+fn push_all(types: &mut Vec<TypeId>, parents: &[TypeId]) -> Result<(), Memory>
+    ensures items { OnOk result (types.new.items ≡ types.old.items ++ parents.now) }
+    ensures len { OnOk result (vec_len types.new ≡ vec_len types.old + length parents.now) }
+{
+    for parent in parents {
+        types.push(*parent)?;
+    }
+    Ok(())
 }
 
 // Puts an object into the lists of the waiting types and of all above them. Says what it
@@ -186,7 +164,7 @@ fn put_above(
         cost = cost.saturating_add(1);
         if put(&mut members[at.0], object)? {
             cost = cost.saturating_add(PLACE);
-            waiting.extend_from_slice(&parents[at.0])?;
+            push_all(waiting, &parents[at.0])?;
         }
     }
     Ok(cost)
@@ -208,13 +186,13 @@ fn members(
         (object_lists lists.items)) }
 {
     let above = parents_by_type(alloc, types, parents)?;
-    let direct = types_by_object(alloc, objects, declared)?;
+    let direct = DirectTypes::new(alloc, objects, declared)?;
     let mut members = no_lists(alloc, types)?;
     let mut waiting = Vec::new(alloc);
     let mut cost = 0usize;
-    for (number, of) in direct.iter().enumerate() {
+    for number in 0..objects {
         let object = ObjectId(number);
-        waiting.extend_from_slice(of.types.as_slice())?;
+        direct.push_to(number, &mut waiting)?;
         let climb = put_above(object, &mut waiting, &above, &mut members)?;
         put(&mut members[0], object)?;
         cost = cost.saturating_add(climb);

@@ -193,6 +193,7 @@ fn next_to(other: Option<usize>) -> Option<usize> {
 }
 
 // Whether a name stands at a place of a set.
+#[inline(always)]
 fn stands_at<'s>(names: &IndexSet<Name<'s>, Seeded>, place: usize, name: Name<'s>) -> bool
     ensures { result ≡ true
         → place_in (map text_of names.now.keys) (text_of name.entry) ≡ Some place }
@@ -223,6 +224,7 @@ pub(crate) fn place_of<'s>(
 
 /// As `place_of`, where the place of another name is looked at before all: many names of a list
 /// have one type, and many atoms one predicate.
+#[inline(always)]
 pub(crate) fn place_like<'s>(
     names: &IndexSet<Name<'s>, Seeded>,
     hints: &Hints,

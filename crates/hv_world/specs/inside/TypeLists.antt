@@ -5,7 +5,9 @@ use Rattle.std.specs.List.Sorted.{IsStrictlyIncreasing}
 use Rattle.std.specs.Global.{Vec}
 use Rattle.hv_world.specs.declared.id.TypeId.{TypeId}
 use Rattle.hv_world.specs.declared.id.ObjectId.{ObjectId}
-use Rattle.hv_world.specs.declared.lists.TypesOf.{TypesOf}
+use Rattle.hv_world.specs.declared.lists.direct.TypesOf.{TypesOf}
+use Rattle.hv_world.specs.declared.lists.direct.DirectTypes.{DirectTypes}
+use Rattle.hv_world.specs.declared.lists.direct.DirectTypes.TheVariants as directs
 use Rattle.hv_world.specs.Types.{Typing, Of, object_numbers}
 
 -- the list of a number; none past the end
@@ -21,6 +23,14 @@ type_lists = map (λ v. type_numbers v.items)
 -- the types that are declared of each object
 abbrev pub declared_lists : List TypesOf → List (List ℕ)
 declared_lists = map (λ o. type_numbers o.types.items)
+
+abbrev pub direct_lists : DirectTypes → List (List ℕ)
+direct_lists (directs.InOrder declared) = map (λ p. p.1.0 ∷ []) declared.now
+direct_lists (directs.Listed lists) = declared_lists lists.items
+
+-- each object stands at the place of its number
+abbrev pub AreInOrder : List (ObjectId × TypeId) → Type 0
+AreInOrder declared = (k : ℕ) (p : ObjectId × TypeId) → k < length declared → (slice_index_or declared k p).0.0 ≡ k
 
 abbrev pub object_lists : List (Vec ObjectId) → List (List ℕ)
 object_lists = map (λ v. object_numbers v.items)

@@ -25,6 +25,7 @@ use std::alloc::Global;
 
 // The object that a word names, and the fault of one that is none. Where another object stood in
 // its place, the one declared behind that is looked at before all.
+#[inline(always)]
 fn checked_object<'s>(
     tables: &Tables<'s>,
     side: Side,
@@ -84,6 +85,7 @@ fn checked_variable<'s>(
 }
 
 // A term and its fault.
+#[inline(always)]
 fn checked_term<'s>(
     tables: &Tables<'s>,
     scope: &Scope<'_, 's>,
@@ -179,6 +181,7 @@ pub(crate) struct Head {
 }
 
 // The fault of a name with so many terms.
+#[inline(always)]
 fn head_fault(head: Head, side: Side, word: Placed<'_>, count: usize) -> Option<StaticFault>
     ensures { result ≡ least (head_faults head.unknown side (word_view word.entry) head.arity
         count) }

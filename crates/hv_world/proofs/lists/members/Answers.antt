@@ -2,7 +2,7 @@ use Rattle.std.proofs.Common.{◌≡◌, ◌<◌, ◌+◌, arith, length, ap, sy
 use Rattle.std.specs.List.{Contains}
 use Rattle.std.proofs.lemmas.List.{length-map, take_at}
 use Rattle.hv_world.specs.Types.{typing, object_numbers}
-use Rattle.hv_world.specs.inside.TypeLists.{list_of, type_numbers, type_lists, declared_lists, object_lists, AscendsBelow, AreMembersBelow}
+use Rattle.hv_world.specs.inside.TypeLists.{list_of, type_numbers, type_lists, direct_lists, object_lists, AscendsBelow, AreMembersBelow}
 use Rattle.hv_world.proofs.TypeLemmas.{no_objects, all_empty, next_object, second_within, starts_are, put_above_as, object_put, at_map, set_map}
 use Rattle.hv_world.proofs.lists.members.Goals as goal
 
@@ -11,18 +11,17 @@ loop-number-init c =
     let none = c.in_ok-members.members.items in (
       c.new-waiting.ensures.items,
       no_objects _ (object_lists none) (length-map none (λ v. object_numbers v.items) ∙ c.in_ok-members.ensures.size) (all_empty (λ o. o.0) none c.in_ok-members.ensures.empty),
+      c.in_ok-direct.ensures,
     )
 
 pub put_above-requires-clause-waiting : goal.put_above-requires-clause-waiting
 put_above-requires-clause-waiting c =
-    let direct = c.in_ok-direct.direct.items in
+    let direct = c.loop-number.direct-1 in
     let n = c.loop-number.number in
-    let lt : n < length direct = omega (arith, ap length c.deref-of-items.ensures.value) in
-    let starts : type_numbers c.extend_from_slice.new.self.items ≡ list_of (declared_lists direct) n =
-    starts_are direct c.deref-of-items.result.now n c.of-item.result c.loop-number.waiting.items _ c.as_slice.result.now lt c.deref-of-items.ensures.value c.of-item.is c.as_slice.ensures c.loop-number.invariant.0 c.in_ok-extend_from_slice.ensures.items in
+    let starts = starts_are direct n c.loop-number.waiting.items c.push_to.new.types.items c.loop-number.invariant.0 c.in_ok-push_to.ensures in
     λ t m.
-    let stands : Contains (list_of (declared_lists direct) n) t = subst (λ ts. Contains ts t) starts m in
-    let below = second_within (λ p. (p.0.0, p.1.0)) c.args.declared.now c.args.types (λ k d k_lt. (c.requires.declared k d k_lt).1) n t ((c.in_ok-direct.ensures.lists n t).0 stands) in
+    let stands : Contains (list_of (direct_lists direct) n) t = subst (λ ts. Contains ts t) starts m in
+    let below = second_within (λ p. (p.0.0, p.1.0)) c.args.declared.now c.args.types (λ k d k_lt. (c.requires.declared k d k_lt).1) n t ((c.loop-number.invariant.2 n t).0 stands) in
     omega (arith, below, c.in_ok-above.ensures.size, ap length c.deref.ensures.value)
 
 pub put_above-requires-clause-parents : goal.put_above-requires-clause-parents
@@ -48,26 +47,25 @@ put-requires c =
 
 pub loop-number-preserved : goal.loop-number-preserved
 loop-number-preserved c =
-    let direct = c.in_ok-direct.direct.items in
+    let direct = c.loop-number.direct-1 in
     let above = c.in_ok-above.above.items in
     let n = c.loop-number.number in
     let old = c.loop-number.members.items in
     let mid = c.put_above.new.members in
     let new = c.put.new.list in
     let object = c.index_mut.result.now in
-    let lt : n < length direct = omega (arith, ap length c.deref-of-items.ensures.value) in
-    let starts : type_numbers c.extend_from_slice.new.self.items ≡ list_of (declared_lists direct) n =
-    starts_are direct c.deref-of-items.result.now n c.of-item.result c.loop-number.waiting.items _ c.as_slice.result.now lt c.deref-of-items.ensures.value c.of-item.is c.as_slice.ensures c.loop-number.invariant.0 c.in_ok-extend_from_slice.ensures.items in
+    let lt : n < c.args.objects = c.loop-number-test.true in
+    let starts = starts_are direct n c.loop-number.waiting.items c.push_to.new.types.items c.loop-number.invariant.0 c.in_ok-push_to.ensures in
     let long : length mid ≡ c.loop-number.members.len = omega (arith, c.put_above.auto.members, c.deref_mut.ensures.len) in
     let mid_is = take_at mid (drop (length mid) old) c.loop-number.members.len long in
     let some : 0 < length mid = omega (arith, c.put_above.auto.members, ap length c.deref_mut.ensures.value, c.loop-number.invariant.1.size, length-map old (λ v. object_numbers v.items), c.requires.object) in
-    let climbed = put_above_as _ (type_lists above) _ (list_of (declared_lists direct) n) n _ (object_lists old) (object_lists mid) (ap type_lists c.deref.ensures.value) starts (ap object_lists c.deref_mut.ensures.value) c.in_ok-climb.ensures.members in
+    let climbed = put_above_as _ (type_lists above) _ (list_of (direct_lists direct) n) n _ (object_lists old) (object_lists mid) (ap type_lists c.deref.ensures.value) starts (ap object_lists c.deref_mut.ensures.value) c.in_ok-climb.ensures.members in
     let put = object_put n mid object new c.in_ok-put.field-0 some (c.index_mut.ensures.value ∙ ap (λ ls. get_or ls 0 object) mid_is) c.in_ok-put.ensures in
-    let next = next_object (typing c.args.types c.args.objects c.args.parents.now c.args.declared.now) (type_lists above) (declared_lists direct) (object_lists old) (object_lists mid) n c.in_ok-put.field-0 (object_numbers new.items)
-    c.requires.object (omega (arith, lt, c.in_ok-direct.ensures.size)) c.in_ok-above.ensures.lists c.in_ok-direct.ensures.lists c.loop-number.invariant.1 climbed put in
-    (c.in_ok-climb.ensures.waiting, subst (AreMembersBelow (n + 1) (typing c.args.types c.args.objects c.args.parents.now c.args.declared.now)) (sym (ap (λ ls. object_lists (set ls 0 new)) mid_is ∙ set_map (λ o. o.0) mid 0 new)) next)
+    let next = next_object (typing c.args.types c.args.objects c.args.parents.now c.args.declared.now) (type_lists above) (direct_lists direct) (object_lists old) (object_lists mid) n c.in_ok-put.field-0 (object_numbers new.items)
+    c.requires.object lt c.in_ok-above.ensures.lists c.loop-number.invariant.2 c.loop-number.invariant.1 climbed put in
+    (c.in_ok-climb.ensures.waiting, subst (AreMembersBelow (n + 1) (typing c.args.types c.args.objects c.args.parents.now c.args.declared.now)) (sym (ap (λ ls. object_lists (set ls 0 new)) mid_is ∙ set_map (λ o. o.0) mid 0 new)) next, c.loop-number.invariant.2)
 
 pub returns : goal.returns
 returns c =
-    let all : c.loop-number.number ≡ c.args.objects = omega (arith, c.loop-number-test.false, c.loop-number.auto.number-end, ap length c.deref-of-items.ensures.value, c.in_ok-direct.ensures.size) in
+    let all : c.loop-number.number ≡ c.args.objects = omega (arith, c.loop-number-test.false, c.loop-number.auto.number-end) in
     subst (λ n. AreMembersBelow n (typing c.args.types c.args.objects c.args.parents.now c.args.declared.now) (object_lists c.loop-number.members.items)) all c.loop-number.invariant.1

@@ -36,7 +36,7 @@ climb-smaller-in-Continue-branch-2 c =
     let less = less_to_climb _ _ _ _ _ _ _ at c.climb.invariant c.in-Some.ensures.items c.index-members-at.result c.put.new.list c.in_ok-put.field-0 c.if-branch.true c.in_ok-put.ensures size in
     let above : type_numbers c.deref.result.now ≡ list_of (type_lists ps) at.0 =
     ap type_numbers c.deref.ensures.value ∙ ap (λ v. type_numbers v.items) c.index-parents-at.is ∙ sym (at_map (λ t. t.0) ps at.0 _ lt) in
-    omega (arith, less, c.in-Some.ensures.len, c.in_ok-extend_from_slice.ensures.len, ap length above, length-map c.deref.result.now (λ t. t.0))
+    omega (arith, less, c.in-Some.ensures.len, c.in_ok-push_all.ensures.len, ap length above, length-map c.deref.result.now (λ t. t.0))
 
 pub climb-preserved-in-Continue-branch-2 : goal.climb-preserved-in-Continue-branch-2
 climb-preserved-in-Continue-branch-2 c =
@@ -46,7 +46,7 @@ climb-preserved-in-Continue-branch-2 c =
     let above : type_numbers c.deref.result.now ≡ list_of (type_lists ps) at.0 =
     ap type_numbers c.deref.ensures.value ∙ ap (λ v. type_numbers v.items) c.index-parents-at.is ∙ sym (at_map (λ t. t.0) ps at.0 _ lt) in
     let long = length-map c.args.members.now (λ v. object_numbers v.items) in
-    rw (c.in_ok-extend_from_slice.ensures.items)
+    rw (c.in_ok-push_all.ensures.items)
     (goes_on _ _ _ _ _ _ _ at c.climb.invariant c.in-Some.ensures.items c.index-members-at.result c.put.new.list c.in_ok-put.field-0 c.if-branch.true c.in_ok-put.ensures c.deref.result.now above
     (λ t m. omega (arith, c.requires.parents at.0 t m, c.requires.size, long)))
 

@@ -1,6 +1,6 @@
 use Rattle.std.proofs.Common.{◌≡◌, [], length}
 use Rattle.std.specs.List.{All}
-use Rattle.hv_world.proofs.lists.no_types.Given as goal
+use Rattle.hv_world.proofs.lists.direct.no_types.Given as goal
 
 -- there are as many lists as turns, all empty
 abbrev pub invariant-loop : goal.invariant-loop

@@ -1,9 +1,9 @@
 use Rattle.std.proofs.Common.{◌≡◌, ◌<◌, ◌++◌, ◌∷◌, [], arith, length, get_or, ap, ◌∙◌, refl, map, subst}
 use Rattle.std.proofs.lemmas.List.{length-set, take_all}
-use Rattle.hv_world.specs.declared.lists.TypesOf.{TypesOf}
+use Rattle.hv_world.specs.declared.lists.direct.TypesOf.{TypesOf}
 use Rattle.hv_world.specs.inside.TypeLists.{declared_lists, AreSeconds}
 use Rattle.hv_world.proofs.TypeLemmas.{group_none, all_empty_by, grouped_more_by}
-use Rattle.hv_world.proofs.lists.types_by_object.Goals as goal
+use Rattle.hv_world.proofs.lists.direct.types_by_object.Goals as goal
 
 pub loop-object-init : goal.loop-object-init
 loop-object-init c = (c.in_ok-lists.ensures.size, group_none _ (all_empty_by (λ o. o.types.items) (λ t. t.0) c.in_ok-lists.lists.items c.in_ok-lists.ensures.empty))

@@ -1,6 +1,6 @@
 use Rattle.std.proofs.Common.{◌≡◌, length, map, take}
 use Rattle.hv_world.specs.inside.TypeLists.{declared_lists, AreSeconds}
-use Rattle.hv_world.proofs.lists.types_by_object.Given as goal
+use Rattle.hv_world.proofs.lists.direct.types_by_object.Given as goal
 
 -- the lists have the pairs so far
 abbrev pub invariant-loop-object : goal.invariant-loop-object
