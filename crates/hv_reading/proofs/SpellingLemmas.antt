@@ -1,5 +1,5 @@
 -- What the table spells is what is read.
-use Rattle.std.proofs.Common.{◌≡◌, ℕ, nat_le, Bool, true, false, List, [], ◌∷◌, ◌++◌, length, Option, Some, None, ◌↔◌, option_map, refl, sym, ap, ◌∙◌, subst, codes, if◌then◌else◌}
+use Rattle.std.proofs.Common.{◌≡◌, ◌<◌, arith, ℕ, nat_le, Bool, true, false, List, [], ◌∷◌, ◌++◌, length, Option, Some, None, ◌↔◌, option_map, refl, sym, ap, ◌∙◌, subst, codes, if◌then◌else◌}
 use Rattle.std.specs.Prelude.{IfSome, option_and_then}
 use Rattle.std.proofs.lemmas.Bool.{le-leb, leb-true}
 use Rattle.std.proofs.lemmas.List.{append-nil, append_assoc}
@@ -377,3 +377,11 @@ formula_is_spelled = formula_spelled
 
 pub formula_table : (t : Tree) (f : Formula) → SpellsFormula t f ↔ (formula_of t ≡ Some f)
 formula_table = agree formula_of SpellsFormula formula_read formula_spelled
+
+-- a longer word is another
+never_true : (b : Bool) → (b ≡ true → ⊥) → b ≡ false
+never_true true h = absurd (h refl)
+never_true false h = refl
+
+pub longer : (w a : List ℕ) → length a < length w → is w a ≡ false
+longer w a lt = never_true (is w a) (λ same. let long : length w ≡ length a = ap length (same_word w a same) in omega (arith, lt, long))

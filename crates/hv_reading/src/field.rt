@@ -53,6 +53,23 @@ fn slot_of(name: Name<'_>) -> Slot
     Slot::Other
 }
 
+// Whether a keyword names this slot: the few words of one are compared, and not those of all.
+fn is_named(name: Name<'_>, slot: Slot) -> bool
+    ensures { result ≡ same_slot (slot_of (text_of name.entry)) slot }
+{
+    match slot {
+        Slot::Parameters => name.is(b":parameters"),
+        Slot::Task => name.is(b":task"),
+        Slot::Precondition => name.is(b":precondition"),
+        Slot::Effect => name.is(b":effect"),
+        Slot::Subtasks => name.is(b":subtasks") || name.is(b":tasks"),
+        Slot::OrderedSubtasks => name.is(b":ordered-subtasks") || name.is(b":ordered-tasks"),
+        Slot::Ordering => name.is(b":ordering") || name.is(b":order"),
+        Slot::Constraints => name.is(b":constraints"),
+        Slot::Other => false,
+    }
+}
+
 fn same_slot(a: Slot, b: Slot) -> bool
     ensures { result ≡ same_slot a b }
 {
@@ -89,7 +106,7 @@ pub(crate) fn field<'a, 's>(slot: Slot, es: &'a [Sexp<'s>]) -> Option<&'a Sexp<'
         let Sexp::Word(name, _) = key else {
             return None;
         };
-        if same_slot(slot_of(*name), slot) {
+        if is_named(*name, slot) {
             return Some(value);
         }
         rest = others;

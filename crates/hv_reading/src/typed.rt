@@ -36,6 +36,7 @@ fn give_type<'s>(
         ++ with_type (type_view of.entry) (map word_view waiting.now)) }
     ensures err { IfErr result (λ e. e ≡ Refusal.Memory) }
 {
+    found.reserve(waiting.len())?;
     for name in waiting {
         found.push(TypedText::new(*name, of))?;
     }

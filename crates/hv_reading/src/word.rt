@@ -5,7 +5,7 @@ ghost use Rattle.hv_text.specs.Names.{text_of};
 ghost use Rattle.hv_text.specs.Bytes.{lower};
 ghost use Rattle.hv_text.specs.Trees.{tree, place_of};
 ghost use Rattle.hv_reading.specs.inside.Reading.{Gives};
-ghost use Rattle.hv_reading.specs.Words.{sort_of, is_sort, head_of, is_the_word};
+ghost use Rattle.hv_reading.specs.Words.{sort_of, is_sort, symbol_if_name, head_of, is_the_word};
 ghost use Rattle.hv_reading.specs.inside.Words.{symbol_of, sorted_word_of};
 ghost use Rattle.hv_syntax.specs.Views.{word_view};
 
@@ -70,8 +70,8 @@ pub(crate) fn is_sort(name: Name<'_>, sort: Sort) -> bool
     }
 }
 
-/// What a word says at the head of a list.
-pub(crate) fn head_of(name: Name<'_>) -> Head
+// What a word says at the head of a list, compared with each word of formulas and effects.
+fn head_by_words(name: Name<'_>) -> Head
     ensures { result ≡ head_of (text_of name.entry) }
 {
     if name.is(b"and") {
@@ -98,9 +98,28 @@ pub(crate) fn head_of(name: Name<'_>) -> Head
     if name.is(b"=") {
         return Head::Equal;
     }
+    head_of_other(name)
+}
+
+// What a word that is none of those of formulas and effects says at the head of a list.
+fn head_of_other(name: Name<'_>) -> Head
+    ensures { result ≡ symbol_if_name (sort_of (text_of name.entry)) }
+{
     match sort_of(name) {
         Sort::Name => Head::Symbol,
         _ => Head::Other,
+    }
+}
+
+/// What a word says at the head of a list.
+pub(crate) fn head_of(name: Name<'_>) -> Head
+    ensures { result ≡ head_of (text_of name.entry) }
+{
+    // None of the words of formulas and effects is longer.
+    if name.written().len() <= 6 {
+        head_by_words(name)
+    } else {
+        head_of_other(name)
     }
 }
 
