@@ -227,7 +227,22 @@ fn job_of(alloc: Global, words: &[String]) -> Result<Job, JobFault>
     job(alloc, &words)
 }
 
+// Pieces of memory of at most so many bytes are kept for later as they are freed. It is somewhat
+// less than 2 MiB, so that a list which doubles to there and beyond is moved by the system, and not
+// copied.
+const KEPT: usize = 2_000_000;
+
+// Has the C library keep pieces of memory that are freed for those that are asked for later. It
+// gives pieces of 128 KiB and more back to the system, and freeing one raises that bound to its
+// size. Each page that comes anew is a fault, and these are a third of the time of a short run. The
+// piece that is freed here is not written to, so it takes no page. Where it is refused, a run takes
+// longer and is else the same.
+fn keep_freed(alloc: Global) {
+    let _room: Result<Vec<u8>, _> = Vec::with_capacity(alloc, KEPT);
+}
+
 fn main(rt: HostRuntime) -> ExitCode {
+    keep_freed(rt.alloc());
     let words: io::Result<Vec<String>> = env::args(&rt).and_then(|words| Ok(words.collect(
         rt.alloc(),
     )?));
