@@ -14,32 +14,33 @@ import subprocess
 import sys
 import tempfile
 
-COUNTS = (10_000, 40_000)
+COUNTS = (25_000, 100_000)
 MOST_GROWTH = 5
 MOST_TIMES = 2
 
-# Prints so many names of seven letters whose hash, as src/hints.rt of hv_text has it, falls into the first of twice as many places.
+# Prints so many names of seven letters and digits whose hash, as src/hints.rt of hv_text has it, falls into the first of twice as many places.
 FINDER = r"""
 #include <stdint.h>
 #include <stdio.h>
 #include <stdlib.h>
 int main(int argc, char **argv) {
     uint64_t wanted = strtoull(argv[1], 0, 10), found = 0;
-    for (uint64_t front = 0; found < wanted && front < 26 * 26 * 26 * 26 * 26; front++) {
+    const char *letters = "abcdefghijklmnopqrstuvwxyz0123456789";
+    for (uint64_t front = 0; found < wanted && front < 36 * 36 * 36 * 36 * 26; front++) {
         char name[8] = {0};
         uint64_t hash = 0, rest = front;
         for (int at = 0; at < 5; at++) {
-            name[at] = 'a' + rest % 26;
-            rest /= 26;
+            name[at] = letters[rest % 36];
+            rest /= 36;
             hash = (hash ^ (uint64_t)name[at]) * 0x9e3779b97f4a7c15u;
         }
-        for (int one = 'a'; one <= 'z'; one++) {
-            uint64_t half = (hash ^ (uint64_t)one) * 0x9e3779b97f4a7c15u;
-            for (int two = 'a'; two <= 'z' && found < wanted; two++) {
-                uint64_t whole = (half ^ (uint64_t)two) * 0x9e3779b97f4a7c15u;
+        for (const char *one = letters; *one; one++) {
+            uint64_t half = (hash ^ (uint64_t)*one) * 0x9e3779b97f4a7c15u;
+            for (const char *two = letters; *two && found < wanted; two++) {
+                uint64_t whole = (half ^ (uint64_t)*two) * 0x9e3779b97f4a7c15u;
                 if (((whole >> 32) * 2 * wanted) >> 32 == 0) {
-                    name[5] = one;
-                    name[6] = two;
+                    name[5] = *one;
+                    name[6] = *two;
                     puts(name);
                     found++;
                 }
