@@ -5,13 +5,7 @@
 #[cfg(test)]
 mod candidates;
 #[cfg(test)]
-mod canonical;
-#[cfg(test)]
-mod plan;
-#[cfg(test)]
 mod state;
-#[cfg(test)]
-mod syntax;
 #[cfg(test)]
 mod text;
 #[cfg(test)]

@@ -1,24 +1,10 @@
-//! Trees of plans in a world, and why the lines of a plan form none.
+//! Trees of plans in a world.
 
 use crate::texts::{ONE, PLAN1, TRANSPORT};
 use crate::worlds::{plan_of, tree_of, world_of};
-use hv_plan::{Child, Node, Tree, TreeFault, read_plan};
-use hv_world::{ObjectId, World};
+use hv_plan::{Child, Node, Tree};
+use hv_world::ObjectId;
 use std::alloc::Global;
-use std::test::Fail;
-
-// The number of the cause for which a plan has no tree in a world, and the line; both 0 where it
-// has one.
-fn cause(alloc: Global, world: &World<'static>, text: &[u8]) -> (u32, u32) {
-    match read_plan(alloc, text) {
-        Err(_) => (1, 0),
-        Ok(plan) => match Tree::build(alloc, world, &plan) {
-            Ok(_) => (0, 0),
-            Err(TreeFault::Memory) => (2, 0),
-            Err(TreeFault::Cause(cause)) => (cause.kind.number(), cause.line),
-        },
-    }
-}
 
 // Whether the action of a place in plan order is this one, with these objects.
 fn is_action(tree: &Tree<'_, '_>, place: usize, action: usize, objects: &[ObjectId]) -> bool {
@@ -113,191 +99,14 @@ fn a_tree_says_what_the_lines_say(rt: HostRuntime) {
     assert_eq!(rt; is_as_said(rt.alloc()), Some((true, true, true)));
 }
 
-// The lines of the worked plan for the package.
-const DELIVERY: [&str; 7] = [
-    "1 load t1 p1 a",
-    "2 drive t1 a b",
-    "3 unload t1 p1 b",
-    "root 10",
-    "10 deliver p1 b -> m-deliver 11 1 12 3",
-    "11 goto t1 a -> m-there",
-    "12 goto t1 b -> m-drive 2",
-];
-
-// Changed lines of that plan by their places, with the number of the cause and its line.
-type Misdelivery = (&'static [(usize, &'static str)], u32, u32);
-
-const MISDELIVERIES: [Misdelivery; 17] = [
-    // arguments of another type
-    (&[(0, "1 load p1 t1 a")], 58, 2),
-    // fewer arguments
-    (&[(1, "2 drive t1 a")], 57, 3),
-    // an action line of a task
-    (&[(0, "1 deliver p1 b")], 59, 2),
-    // a decomposition line of an action
-    (&[(5, "11 drive t1 a b -> m-drive")], 60, 7),
-    // a method for another task
-    (&[(5, "11 goto t1 a -> m-deliver")], 61, 7),
-    // fewer children
-    (&[(5, "11 goto t1 a -> m-drive")], 62, 7),
-    // a child of no line
-    (&[(6, "12 goto t1 b -> m-drive 7")], 51, 8),
-    // a child of two lines
-    (&[(5, "11 goto t1 a -> m-drive 2")], 52, 8),
-    // lines that are not reached
-    (
-        &[(
-            6,
-            "12 goto t1 b -> m-drive 2\n20 goto t1 a -> m-drive 21\n21 goto t1 a -> m-drive 20",
-        )],
-        53,
-        9,
-    ),
-    // children of other names
-    (
-        &[
-            (4, "10 deliver p1 b -> m-deliver 11 1 12 2"),
-            (6, "12 goto t1 b -> m-drive 3"),
-        ],
-        63,
-        6,
-    ),
-    // an argument that is no object
-    (&[(1, "2 drive t1 a c")], 56, 3),
-    // an id of two lines
-    (&[(2, "1 unload t1 p1 b")], 50, 4),
-    // a name that nothing has
-    (&[(0, "1 lift t1 p1 a")], 54, 2),
-    // a method that nothing has
-    (&[(5, "11 goto t1 a -> m-fly")], 55, 7),
-    // a smaller number on a later line
-    (
-        &[(1, "2 drive t1 a c"), (5, "11 fly t1 a -> m-there")],
-        54,
-        7,
-    ),
-    // an unknown name before an unknown object
-    (&[(0, "1 lift t1 p1 c")], 54, 2),
-    // an unknown object before a wrong count
-    (&[(0, "1 load p1 c")], 56, 2),
-];
-
-// The line of a place, or the one that stands for it.
-fn line_at<'a>(place: usize, line: &'a str, others: &[(usize, &'a str)]) -> &'a str {
-    for (changed, other) in others {
-        if *changed == place {
-            return other;
-        }
-    }
-    line
-}
-
-// The plan for the package with other lines in some places.
-fn delivery_with(alloc: Global, others: &[(usize, &'static str)]) -> Result<String, Fail> {
-    let mut text = String::new(alloc);
-    text.push_str("==>\n")?;
-    for (place, line) in DELIVERY.iter().enumerate() {
-        text.push_str(line_at(place, line, others))?;
-        text.push_str("\n")?;
-    }
-    text.push_str("<==")?;
-    Ok(text)
-}
-
-// The first of some plans for the package that has another cause than the one beside
-// it, by its place.
-fn misjudged(alloc: Global) -> Result<Option<usize>, Fail> {
-    let Some(world) = world_of(alloc, TRANSPORT, ONE) else {
-        return Ok(Some(0));
-    };
-    for (place, (others, number, line)) in MISDELIVERIES.iter().enumerate() {
-        let text = delivery_with(alloc, others)?;
-        if cause(alloc, &world, text.as_bytes()) != (*number, *line) {
-            return Ok(Some(place));
-        }
-    }
-    Ok(None)
-}
-
-#[test]
-fn finds_each_cause(rt: HostRuntime) -> Result<(), Fail> {
-    assert_eq!(rt; misjudged(rt.alloc())?, None);
-    Ok(())
-}
-
-// Whether plans have these causes in a world.
-fn have_causes(
-    alloc: Global,
-    domain: &'static [u8],
-    problem: &'static [u8],
-    plans: &[(&'static [u8], u32, u32)],
-) -> Option<bool> {
-    let world = world_of(alloc, domain, problem)?;
-    for (text, number, line) in plans {
-        if cause(alloc, &world, text) != (*number, *line) {
-            return Some(false);
-        }
-    }
-    Some(true)
-}
-
 // A task that does itself and an action, or nothing.
 const STEPS: &[u8] = b"(define (domain d) (:task t) (:action a)\n\
     (:method m :task (t) :subtasks (and (t) (a))) (:method e :task (t) :subtasks ()))";
 
 const STEP: &[u8] = b"(define (problem q) (:domain d) (:init) (:htn :subtasks (t)))";
 
-// Plans whose lines form no tree, each with the number of its cause and the line.
-const SHAPES: [(&[u8], u32, u32); 18] = [
-    (b"==>\n1 a\n1 b\nroot 1\n<==", 50, 3),
-    (b"==>\nroot 1\n1 t -> m\n1 b\n<==", 50, 4),
-    (b"==>\n1 b\nroot 1\n1 t -> m 9\n<==", 50, 4),
-    (b"==>\nroot 1\n5 t -> m\n5 t -> m\n1 a\n5 a\n<==", 50, 4),
-    (b"==>\n5 t -> m\n1 a\n1 b\n5 a\nroot\n<==", 50, 4),
-    (b"==>\nroot 1\n<==", 51, 2),
-    (b"==>\n1 t -> m 7\nroot 1 8\n<==", 51, 2),
-    (b"==>\nroot 1 8\n1 t -> m 7\n<==", 51, 2),
-    (b"==>\nroot 1 1\n1 t -> m\n2 t -> m 9\n<==", 51, 4),
-    (b"==>\n1 a\nroot 1 1\n<==", 52, 3),
-    (b"==>\n1 a\n2 t -> m 1\nroot 1 2\n<==", 52, 4),
-    (b"==>\n1 a\nroot 1 2\n2 t -> m 1\n<==", 52, 4),
-    (b"==>\n1 a\n2 t -> m 1\n3 t -> m 1 1\nroot 2 3\n<==", 52, 4),
-    (
-        b"==>\n1 a\n2 t -> m 2 2\nroot\n3 t -> m 1\n4 t -> m 1\n<==",
-        52,
-        3,
-    ),
-    (b"==>\n1 a\n2 a\nroot 2\n<==", 53, 2),
-    (b"==>\n1 t -> m 1\n2 a\nroot 2\n<==", 53, 2),
-    (b"==>\nroot 3\n1 t -> m 2\n3 a\n2 t -> m 1\n<==", 53, 3),
-    (b"==>\n5 t -> m 4\nroot 3\n3 a\n4 a\n<==", 53, 2),
-];
-
-#[test]
-fn finds_each_cause_for_which_lines_form_no_tree(rt: HostRuntime) {
-    assert!(rt; have_causes(rt.alloc(), STEPS, STEP, &SHAPES) == Some(true));
-}
-
 // Lines in an order of which none follows from the tree.
 const MIXED: &[u8] = b"==>\n2 t -> m 3 1\n1 a\nroot 0\n3 t -> e\n0 t -> m 2 4\n4 a\n<==";
-
-#[test]
-fn accepts_trees(rt: HostRuntime) {
-    let trees: [(&[u8], &[u8]); 3] = [
-        (
-            b"(define (problem q) (:domain d) (:init) (:htn))",
-            b"==>\nroot\n<==",
-        ),
-        (
-            b"(define (problem q) (:domain d) (:init) (:htn :subtasks (a)))",
-            b"==>\n1 a\nroot 1\n<==",
-        ),
-        (STEP, MIXED),
-    ];
-    for (problem, text) in trees {
-        assert!(rt; have_causes(rt.alloc(), STEPS, problem, &[(text, 0, 0)]) == Some(true));
-    }
-}
 
 // Whether the k-th nodes have these numbers.
 fn are_in_order(tree: &Tree<'_, '_>, numbers: &[u32]) -> bool {

@@ -1,6 +1,5 @@
 //! What a world has: numbers for names, sections in these numbers, and ground actions.
 
-mod faults;
 mod networks;
 mod types;
 

@@ -1,9 +1,9 @@
 //! Effects for all objects of types, in both kinds of state.
 
-use crate::state::{Atoms, NONE, actions_of, are_as_said, atom};
+use crate::state::{Atoms, are_as_said};
 use crate::worlds::world_of;
-use hv_state::{BitState, GroundAtoms, SortedState, State, Trace};
-use hv_world::{ActionId, Binding, Formula, GroundActions, ObjectId, Term, World};
+use hv_state::{BitState, GroundAtoms, SortedState, State};
+use hv_world::{ActionId, Binding, ObjectId, Term};
 use std::alloc::Global;
 
 // What one item deletes and another adds, effects in effects, and variables that hide others.
@@ -132,57 +132,4 @@ fn leave_what_they_say<S: State>(alloc: Global) -> bool {
 fn effects_for_all_objects_leave_what_they_say(rt: HostRuntime) {
     assert!(rt; leave_what_they_say::<SortedState>(rt.alloc()));
     assert!(rt; leave_what_they_say::<BitState>(rt.alloc()));
-}
-
-const JOIN: &[u8] = b"join d";
-
-const DOUSE: &[u8] = b"douse";
-
-const HIDE: &[u8] = b"hide b";
-
-// The lamps are put out, all is, and the boxes are lit.
-const EVENING: [&[u8]; 3] = [JOIN, DOUSE, HIDE];
-
-// Where an atom is first true, and how long it stays so, from the start and from behind that.
-type Stretches = (Option<(usize, usize)>, Option<(usize, usize)>);
-
-fn stretches<S: State>(
-    alloc: Global,
-    world: &World<'_>,
-    actions: &GroundActions,
-    predicate: usize,
-    terms: &[Term],
-) -> Option<Stretches> {
-    if actions.len() != 3 {
-        return None;
-    }
-    let formula = Formula::Holds(atom(alloc, predicate, terms)?);
-    let trace: Trace<S> = Trace::run(alloc, world, actions).ok()?;
-    Some((
-        trace.first_true(0, 3, &formula, &NONE),
-        trace.first_true(1, 3, &formula, &NONE),
-    ))
-}
-
-fn evening<S: State>(alloc: Global, predicate: usize, terms: &[Term]) -> Option<Stretches> {
-    let world = world_of(alloc, HALL, IN_HALL)?;
-    let actions = actions_of(alloc, &world, &EVENING)?;
-    stretches::<S>(alloc, &world, &actions, predicate, terms)
-}
-
-fn change_as_they_say<S: State>(alloc: Global) -> bool {
-    evening::<S>(alloc, LIT, &[A]) == Some((Some((0, 0)), Some((2, 3))))
-        && evening::<S>(alloc, LIT, &[B]) == Some((Some((0, 0)), None))
-        && evening::<S>(alloc, LIT, &[C]) == Some((Some((3, 3)), Some((3, 3))))
-        && evening::<S>(alloc, LIT, &[D]) == Some((Some((0, 1)), Some((1, 1))))
-        && evening::<S>(alloc, NEAR, &[D, B]) == Some((Some((1, 3)), Some((1, 3))))
-        && evening::<S>(alloc, NEAR, &[B, B]) == Some((Some((1, 3)), Some((1, 3))))
-        && evening::<S>(alloc, NEAR, &[C, C]) == Some((Some((0, 3)), Some((1, 3))))
-        && evening::<S>(alloc, NEAR, &[D, D]) == Some((None, None))
-}
-
-#[test]
-fn atoms_change_by_effects_for_all_objects(rt: HostRuntime) {
-    assert!(rt; change_as_they_say::<SortedState>(rt.alloc()));
-    assert!(rt; change_as_they_say::<BitState>(rt.alloc()));
 }
