@@ -36,17 +36,17 @@ use std::rc::Rc;
 /// A plan's tree, with the states that the plan's actions pass. Where `is_with` is false, each
 /// method's precondition is taken as true.
 #[derive(Drop)]
-pub struct PlanNodes<'a, 's, 'm, 'p, 't, 'c, 'd> {
+pub struct PlanNodes<'a, 's> {
     world: &'a World<'s>,
-    matcher: &'a Matcher<'m, 's>,
-    tree: &'a Tree<'p, 't>,
-    trace: &'a Trace<'c, 'd, BitState>,
+    matcher: &'a Matcher<'a, 's>,
+    tree: &'a Tree<'a, 'a>,
+    trace: &'a Trace<'a, 'a, BitState>,
     is_with: bool,
     sequencings: Sequencings,
     spans: Rc<Spans>,
 }
 
-impl<'a, 's, 'm, 'p, 't, 'c, 'd> Model for PlanNodes<'a, 's, 'm, 'p, 't, 'c, 'd> {
+impl<'a, 's> Model for PlanNodes<'a, 's> {
     ghost use Rattle.std.specs.Coded.{codes};
     ghost use Rattle.hv_world.specs.Codes.{formula_code, effects_code};
     ghost use Rattle.hv_plan.specs.BuiltTrees.{tree_view};
@@ -77,16 +77,16 @@ fn whole(from: u32, upto: u32) -> Option<Stretch>
     }
 }
 
-impl<'a, 's, 'm, 'p, 't, 'c, 'd> PlanNodes<'a, 's, 'm, 'p, 't, 'c, 'd> {
+impl<'a, 's> PlanNodes<'a, 's> {
     /// The nodes of a tree of a world.
     pub fn new(
         alloc: Global,
         world: &'a World<'s>,
-        matcher: &'a Matcher<'m, 's>,
-        tree: &'a Tree<'p, 't>,
-        trace: &'a Trace<'c, 'd, BitState>,
+        matcher: &'a Matcher<'a, 's>,
+        tree: &'a Tree<'a, 'a>,
+        trace: &'a Trace<'a, 'a, BitState>,
         is_with: bool,
-    ) -> Result<PlanNodes<'a, 's, 'm, 'p, 't, 'c, 'd>, Memory>
+    ) -> Result<PlanNodes<'a, 's>, Memory>
         requires world { matcher.now ≡ world_view world.now }
         requires top { HasNoPrecondition (world_view world.now) }
         requires tree { IsTreeIn (world_view world.now) (tree_view tree.now) }
@@ -116,21 +116,21 @@ impl<'a, 's, 'm, 'p, 't, 'c, 'd> PlanNodes<'a, 's, 'm, 'p, 't, 'c, 'd> {
     }
 
     /// What looks for the candidates of the plan's nodes.
-    pub fn matcher(&self) -> &'a Matcher<'m, 's>
+    pub fn matcher(&self) -> &'a Matcher<'a, 's>
         ensures { result.now ≡ self.now.plan.world }
     {
         self.matcher
     }
 
     /// The tree of the plan.
-    pub fn tree(&self) -> &'a Tree<'p, 't>
+    pub fn tree(&self) -> &'a Tree<'a, 'a>
         ensures { self.now.tree ≡ tree_view result.now }
     {
         self.tree
     }
 
     /// The same plan, where each method's precondition is taken as true.
-    pub fn without_preconditions(self) -> PlanNodes<'a, 's, 'm, 'p, 't, 'c, 'd>
+    pub fn without_preconditions(self) -> PlanNodes<'a, 's>
         ensures { result ≡ without_preconditions self.entry }
     {
         let PlanNodes {
@@ -216,7 +216,7 @@ impl<'a, 's, 'm, 'p, 't, 'c, 'd> PlanNodes<'a, 's, 'm, 'p, 't, 'c, 'd> {
     }
 }
 
-impl<'a, 's, 'm, 'p, 't, 'c, 'd> Nodes for PlanNodes<'a, 's, 'm, 'p, 't, 'c, 'd> {
+impl<'a, 's> Nodes for PlanNodes<'a, 's> {
     type Left = Lister<'a>;
 
     type Room = CandidateRoom<'a>;

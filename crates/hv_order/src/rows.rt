@@ -59,7 +59,7 @@ impl From<NoMemory> for RowFault {
 // The rows of a plan's nodes.
 fn rows_of(
     alloc: Global,
-    nodes: &PlanNodes<'_, '_, '_, '_, '_, '_, '_>,
+    nodes: &PlanNodes<'_, '_>,
     count: usize,
 ) -> Result<Vec<Row>, Memory>
     requires setting { IsSetting nodes.now }
@@ -74,12 +74,12 @@ fn rows_of(
 /// The rows of a plan's nodes, of which each has a candidate. Its value is the plan: the tree, the
 /// states that its actions pass, and whether the preconditions of methods count.
 #[derive(Drop)]
-pub struct Rows<'a, 's, 'm, 'p, 't, 'c, 'd> {
-    nodes: PlanNodes<'a, 's, 'm, 'p, 't, 'c, 'd>,
+pub struct Rows<'a, 's> {
+    nodes: PlanNodes<'a, 's>,
     rows: Vec<Row>,
 }
 
-impl<'a, 's, 'm, 'p, 't, 'c, 'd> Model for Rows<'a, 's, 'm, 'p, 't, 'c, 'd> {
+impl<'a, 's> Model for Rows<'a, 's> {
     ghost use Rattle.std.specs.Coded.{codes};
     ghost use Rattle.hv_world.specs.Codes.{formula_code, effects_code};
     ghost use Rattle.hv_order.specs.Settings.{Setting};
@@ -94,7 +94,7 @@ impl<'a, 's, 'm, 'p, 't, 'c, 'd> Model for Rows<'a, 's, 'm, 'p, 't, 'c, 'd> {
     ghost invariant = { λ s. ArePlanRows s.nodes s.rows.items };
 }
 
-impl<'a, 's, 'm, 'p, 't, 'c, 'd> Rows<'a, 's, 'm, 'p, 't, 'c, 'd> {
+impl<'a, 's> Rows<'a, 's> {
     /// The rows of the nodes of a plan's tree. Where `is_with` is false, each method's precondition
     /// is taken as true.
     ///
@@ -105,11 +105,11 @@ impl<'a, 's, 'm, 'p, 't, 'c, 'd> Rows<'a, 's, 'm, 'p, 't, 'c, 'd> {
     pub fn build(
         alloc: Global,
         world: &'a World<'s>,
-        matcher: &'a Matcher<'m, 's>,
-        tree: &'a Tree<'p, 't>,
-        trace: &'a Trace<'c, 'd, BitState>,
+        matcher: &'a Matcher<'a, 's>,
+        tree: &'a Tree<'a, 'a>,
+        trace: &'a Trace<'a, 'a, BitState>,
         is_with: bool,
-    ) -> Result<Rows<'a, 's, 'm, 'p, 't, 'c, 'd>, RowFault>
+    ) -> Result<Rows<'a, 's>, RowFault>
         requires world { matcher.now ≡ world_view world.now }
         requires top { HasNoPrecondition (world_view world.now) }
         requires tree { IsTreeIn (world_view world.now) (tree_view tree.now) }

@@ -51,7 +51,7 @@ impl From<Memory> for Unsolved {
 // is known of nodes that no precondition counts for is known there too.
 fn is_solved_without(
     alloc: Global,
-    nodes: PlanNodes<'_, '_, '_, '_, '_, '_, '_>,
+    nodes: PlanNodes<'_, '_>,
     memo: Memo,
 ) -> Result<bool, Memory>
     requires setting { IsSetting nodes }
@@ -70,7 +70,7 @@ fn is_solved_without(
 // Why a plan has no solution, of whose nodes this is known.
 fn why_unsolved(
     alloc: Global,
-    nodes: PlanNodes<'_, '_, '_, '_, '_, '_, '_>,
+    nodes: PlanNodes<'_, '_>,
     memo: Memo,
 ) -> Result<Unsolved, Memory>
     requires setting { IsSetting nodes }

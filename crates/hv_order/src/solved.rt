@@ -27,7 +27,7 @@ fn by_walk<'s>(
     alloc: Global,
     world: &World<'s>,
     tree: &Tree<'_, '_>,
-    _nodes: &PlanNodes<'_, 's, '_, '_, '_, '_, '_>,
+    _nodes: &PlanNodes<'_, 's>,
     stands: &[Option<Stand>],
 ) -> Result<Certificate<'s>, Memory>
     requires setting { IsSetting _nodes.now }
@@ -44,7 +44,7 @@ fn by_walk<'s>(
 /// out; no candidate is kept, and nothing is written down.
 pub fn is_solved(
     alloc: Global,
-    nodes: &PlanNodes<'_, '_, '_, '_, '_, '_, '_>,
+    nodes: &PlanNodes<'_, '_>,
     memo: &mut Memo,
 ) -> Result<bool, Memory>
     requires setting { IsSetting nodes.now }
@@ -62,7 +62,7 @@ pub fn is_solved(
 /// it hangs on are worked out.
 pub fn certificate_of<'s>(
     alloc: Global,
-    nodes: &PlanNodes<'_, 's, '_, '_, '_, '_, '_>,
+    nodes: &PlanNodes<'_, 's>,
     memo: &mut Memo,
 ) -> Result<Option<Certificate<'s>>, Memory>
     requires setting { IsSetting nodes.now }
