@@ -36,9 +36,9 @@ use std::rc::Rc;
 /// A plan's tree, with the states that the plan's actions pass. Where `is_with` is false, each
 /// method's precondition is taken as true.
 #[derive(Drop)]
-pub struct PlanNodes<'a, 's> {
-    world: &'a World<'s>,
-    matcher: &'a Matcher<'a, 's>,
+pub struct PlanNodes<'a> {
+    world: &'a World<'a>,
+    matcher: &'a Matcher<'a, 'a>,
     tree: &'a Tree<'a, 'a>,
     trace: &'a Trace<'a, 'a, BitState>,
     is_with: bool,
@@ -46,7 +46,7 @@ pub struct PlanNodes<'a, 's> {
     spans: Rc<Spans>,
 }
 
-impl<'a, 's> Model for PlanNodes<'a, 's> {
+impl<'a> Model for PlanNodes<'a> {
     ghost use Rattle.std.specs.Coded.{codes};
     ghost use Rattle.hv_world.specs.Codes.{formula_code, effects_code};
     ghost use Rattle.hv_plan.specs.BuiltTrees.{tree_view};
@@ -77,16 +77,16 @@ fn whole(from: u32, upto: u32) -> Option<Stretch>
     }
 }
 
-impl<'a, 's> PlanNodes<'a, 's> {
+impl<'a> PlanNodes<'a> {
     /// The nodes of a tree of a world.
     pub fn new(
         alloc: Global,
-        world: &'a World<'s>,
-        matcher: &'a Matcher<'a, 's>,
+        world: &'a World<'a>,
+        matcher: &'a Matcher<'a, 'a>,
         tree: &'a Tree<'a, 'a>,
         trace: &'a Trace<'a, 'a, BitState>,
         is_with: bool,
-    ) -> Result<PlanNodes<'a, 's>, Memory>
+    ) -> Result<PlanNodes<'a>, Memory>
         requires world { matcher.now ≡ world_view world.now }
         requires top { HasNoPrecondition (world_view world.now) }
         requires tree { IsTreeIn (world_view world.now) (tree_view tree.now) }
@@ -109,14 +109,14 @@ impl<'a, 's> PlanNodes<'a, 's> {
     }
 
     /// The world of the plan.
-    pub fn world(&self) -> &'a World<'s>
+    pub fn world(&self) -> &'a World<'a>
         ensures { self.now.plan.world ≡ world_view result.now }
     {
         self.world
     }
 
     /// What looks for the candidates of the plan's nodes.
-    pub fn matcher(&self) -> &'a Matcher<'a, 's>
+    pub fn matcher(&self) -> &'a Matcher<'a, 'a>
         ensures { result.now ≡ self.now.plan.world }
     {
         self.matcher
@@ -130,7 +130,7 @@ impl<'a, 's> PlanNodes<'a, 's> {
     }
 
     /// The same plan, where each method's precondition is taken as true.
-    pub fn without_preconditions(self) -> PlanNodes<'a, 's>
+    pub fn without_preconditions(self) -> PlanNodes<'a>
         ensures { result ≡ without_preconditions self.entry }
     {
         let PlanNodes {
@@ -216,7 +216,7 @@ impl<'a, 's> PlanNodes<'a, 's> {
     }
 }
 
-impl<'a, 's> Nodes for PlanNodes<'a, 's> {
+impl<'a> Nodes for PlanNodes<'a> {
     type Left = Lister<'a>;
 
     type Room = CandidateRoom<'a>;

@@ -57,11 +57,7 @@ impl From<NoMemory> for RowFault {
 }
 
 // The rows of a plan's nodes.
-fn rows_of(
-    alloc: Global,
-    nodes: &PlanNodes<'_, '_>,
-    count: usize,
-) -> Result<Vec<Row>, Memory>
+fn rows_of(alloc: Global, nodes: &PlanNodes<'_>, count: usize) -> Result<Vec<Row>, Memory>
     requires setting { IsSetting nodes.now }
     requires candidates { HaveCandidates nodes.now }
     requires count { count ≡ length nodes.now.tree.nodes }
@@ -75,7 +71,8 @@ fn rows_of(
 /// states that its actions pass, and whether the preconditions of methods count.
 #[derive(Drop)]
 pub struct Rows<'a, 's> {
-    nodes: PlanNodes<'a, 's>,
+    world: &'a World<'s>,
+    nodes: PlanNodes<'a>,
     rows: Vec<Row>,
 }
 
@@ -83,7 +80,8 @@ impl<'a, 's> Model for Rows<'a, 's> {
     ghost use Rattle.std.specs.Coded.{codes};
     ghost use Rattle.hv_world.specs.Codes.{formula_code, effects_code};
     ghost use Rattle.hv_order.specs.Settings.{Setting};
-    ghost use Rattle.hv_order.specs.inside.Runs.{ArePlanRows};
+    ghost use Rattle.hv_world.specs.WorldViews.{world_view};
+    ghost use Rattle.hv_order.specs.inside.Runs.{AreRowsIn};
 
     ghost Value = { Setting };
 
@@ -91,7 +89,7 @@ impl<'a, 's> Model for Rows<'a, 's> {
 
     ghost view = { λ s. s.nodes };
 
-    ghost invariant = { λ s. ArePlanRows s.nodes s.rows.items };
+    ghost invariant = { λ s. AreRowsIn (world_view s.world.now) s.nodes s.rows.items };
 }
 
 impl<'a, 's> Rows<'a, 's> {
@@ -105,7 +103,7 @@ impl<'a, 's> Rows<'a, 's> {
     pub fn build(
         alloc: Global,
         world: &'a World<'s>,
-        matcher: &'a Matcher<'a, 's>,
+        matcher: &'a Matcher<'a, 'a>,
         tree: &'a Tree<'a, 'a>,
         trace: &'a Trace<'a, 'a, BitState>,
         is_with: bool,
@@ -125,9 +123,9 @@ impl<'a, 's> Rows<'a, 's> {
             Some(line) => Err(RowFault::NoBinding(line)),
             None => {
                 world.is_sound();
-                let nodes = PlanNodes::new(alloc, world, matcher, tree, trace, is_with)?;
+                let nodes = PlanNodes::new(alloc, &*world, &*matcher, &*tree, &*trace, is_with)?;
                 let rows = rows_of(alloc, &nodes, tree.node_count() as usize)?;
-                Ok(Rows { nodes, rows })
+                Ok(Rows { world, nodes, rows })
             }
         }
     }
@@ -171,6 +169,6 @@ impl<'a, 's> Rows<'a, 's> {
     {
         let count = self.nodes.tree().node_count() as usize;
         let mut memo = new_memo(alloc, &self.nodes, count, count)?;
-        certificate_of(alloc, &self.nodes, &mut memo)
+        certificate_of(alloc, self.world, &self.nodes, &mut memo)
     }
 }

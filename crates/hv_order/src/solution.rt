@@ -49,11 +49,7 @@ impl From<Memory> for Unsolved {
 
 // Whether a plan without a solution has one where each method's precondition is taken as true. What
 // is known of nodes that no precondition counts for is known there too.
-fn is_solved_without(
-    alloc: Global,
-    nodes: PlanNodes<'_, '_>,
-    memo: Memo,
-) -> Result<bool, Memory>
+fn is_solved_without(alloc: Global, nodes: PlanNodes<'_>, memo: Memo) -> Result<bool, Memory>
     requires setting { IsSetting nodes }
     requires memo { AreKnown (plan_facts nodes) (length nodes.tree.nodes) memo }
     ensures { IfOk result (λ b. MatchBool b
@@ -68,11 +64,7 @@ fn is_solved_without(
 }
 
 // Why a plan has no solution, of whose nodes this is known.
-fn why_unsolved(
-    alloc: Global,
-    nodes: PlanNodes<'_, '_>,
-    memo: Memo,
-) -> Result<Unsolved, Memory>
+fn why_unsolved(alloc: Global, nodes: PlanNodes<'_>, memo: Memo) -> Result<Unsolved, Memory>
     requires setting { IsSetting nodes }
     requires memo { AreKnown (plan_facts nodes) (length nodes.tree.nodes) memo }
     requires none { IsSolved nodes → ⊥ }
@@ -138,7 +130,7 @@ pub fn solution<'s>(
     let nodes = PlanNodes::new(alloc, world, matcher, tree, trace, true)?;
     let count = tree.node_count() as usize;
     let mut memo = new_memo(alloc, &nodes, count, count)?;
-    match certificate_of(alloc, &nodes, &mut memo)? {
+    match certificate_of(alloc, world, &nodes, &mut memo)? {
         Some(certificate) => Ok(certificate),
         None => Err(why_unsolved(alloc, nodes, memo)?),
     }

@@ -1,6 +1,6 @@
 //! Whether a plan is solved, by the run of its root, and its certificate, by a walk of its nodes.
 
-ghost use Rattle.std.specs.Prelude.{length, IfOk, MatchBool, MatchOption};
+ghost use Rattle.std.specs.Prelude.{◌≡◌, length, IfOk, MatchBool, MatchOption};
 ghost use Rattle.hv_world.specs.WorldViews.{world_view};
 ghost use Rattle.hv_plan.specs.BuiltTrees.{tree_view};
 ghost use Rattle.hv_order.specs.Certified.{Certifies};
@@ -27,7 +27,7 @@ fn by_walk<'s>(
     alloc: Global,
     world: &World<'s>,
     tree: &Tree<'_, '_>,
-    _nodes: &PlanNodes<'_, 's>,
+    _nodes: &PlanNodes<'_>,
     stands: &[Option<Stand>],
 ) -> Result<Certificate<'s>, Memory>
     requires setting { IsSetting _nodes.now }
@@ -42,11 +42,7 @@ fn by_walk<'s>(
 
 /// Whether a plan has a solution, the goal aside. Only the finishes that this hangs on are worked
 /// out; no candidate is kept, and nothing is written down.
-pub fn is_solved(
-    alloc: Global,
-    nodes: &PlanNodes<'_, '_>,
-    memo: &mut Memo,
-) -> Result<bool, Memory>
+pub fn is_solved(alloc: Global, nodes: &PlanNodes<'_>, memo: &mut Memo) -> Result<bool, Memory>
     requires setting { IsSetting nodes.now }
     requires memo { AreKnown (plan_facts nodes.now) (length nodes.now.tree.nodes) memo.old }
     ensures solved { IfOk result
@@ -58,20 +54,21 @@ pub fn is_solved(
     Ok(run.finish.is_some())
 }
 
-/// A certificate of a plan, exactly where it has a solution, the goal aside. Only the finishes that
+/// A certificate of a plan of this world, exactly where it has a solution, the goal aside. Only the finishes that
 /// it hangs on are worked out.
 pub fn certificate_of<'s>(
     alloc: Global,
-    nodes: &PlanNodes<'_, 's>,
+    world: &World<'s>,
+    nodes: &PlanNodes<'_>,
     memo: &mut Memo,
 ) -> Result<Option<Certificate<'s>>, Memory>
+    requires world { nodes.now.plan.world ≡ world_view world.now }
     requires setting { IsSetting nodes.now }
     requires memo { AreKnown (plan_facts nodes.now) (length nodes.now.tree.nodes) memo.old }
     ensures certificate { IfOk result
         (λ o. MatchOption o (IsSolved nodes.now → ⊥) (Certifies nodes.now)) }
     ensures memo { AreKnown (plan_facts nodes.now) (length nodes.now.tree.nodes) memo.new }
 {
-    let world = nodes.world();
     let tree = nodes.tree();
     match walk(alloc, nodes, memo, tree.node_count())? {
         None => Ok(None),

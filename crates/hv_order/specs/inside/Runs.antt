@@ -1,5 +1,6 @@
 -- The row of a node as runs of starts.
 use Rattle.std.specs.Prelude.{◌≡◌, ℕ, zero, suc, ◌+◌, ◌-◌, ◌<◌, ◌≤◌, ◌⊎◌, List, [], ◌∷◌, length, take, Option, Some, slice_get, get_or}
+use Rattle.hv_world.specs.Worlds.{World}
 use Rattle.hv_order.specs.LeastFinishes.{NodeCanBePlaced, IsNumberOfAnswers, HasDigits}
 use Rattle.hv_order.specs.Settings.{Setting, last, HaveCandidates}
 use Rattle.hv_order.specs.inside.Facts.{Facts, IsRunOf}
@@ -103,3 +104,8 @@ pub record ArePlanRows (q : Setting) (rows : List Row) : Type 0 where
   pub as_many_runs :
       (v : ℕ) (r : Row) → slice_get rows v ≡ Some r
       → IsNumberOfAnswers (NodeCanBePlaced q v) (last q) (length (runs_of (last q) r))
+
+-- These are the rows of the nodes of a plan in this world
+pub record AreRowsIn (w : World) (q : Setting) (rs : List Row) : Type 0 where
+  pub rows : ArePlanRows q rs
+  pub world : q.plan.world ≡ w
