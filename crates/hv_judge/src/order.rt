@@ -23,9 +23,9 @@ use std::alloc::Global;
 pub(crate) fn find_solution<'s>(
     alloc: Global,
     world: &World<'s>,
-    matcher: &Matcher<'_, 's>,
+    matcher: &Matcher<'_>,
     tree: &Tree<'_, '_>,
-    trace: &Trace<'_, '_, BitState>,
+    trace: &Trace<'_, BitState>,
     explain: bool,
 ) -> Result<Option<Certificate<'s>>, NotSolved>
     requires { BelongTogether (world_view world.now) matcher.now (tree_view tree.now) trace.now }

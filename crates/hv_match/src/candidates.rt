@@ -334,7 +334,7 @@ impl<'a> Candidates<'a> {
     pub fn new(
         alloc: Global,
         room: CandidateRoom<'a>,
-        matcher: &'a Matcher<'_, '_>,
+        matcher: &'a Matcher<'_>,
         tree: &'a Tree<'_, '_>,
         node: u32,
         ever: Option<EverTrue<'a>>,

@@ -18,14 +18,14 @@ use std::marker::Model;
 /// A world made ready for the search for candidates: what its methods alone say is found out once,
 /// for all nodes of all trees.
 #[derive(Drop)]
-pub struct Matcher<'w, 's> {
-    world: &'w World<'s>,
+pub struct Matcher<'w> {
+    world: &'w World<'w>,
     // The tables of the initial network and of the methods.
     top: MethodTable<'w>,
     methods: Vec<MethodTable<'w>>,
 }
 
-impl<'w, 's> Model for Matcher<'w, 's> {
+impl<'w> Model for Matcher<'w> {
     ghost use Rattle.std.specs.Coded.{codes};
     ghost use Rattle.hv_world.specs.Worlds.{World};
     ghost use Rattle.hv_world.specs.WorldViews.{world_view};
@@ -64,9 +64,9 @@ fn table_at<'a, 'w>(tables: &'a [MethodTable<'w>], number: usize) -> Option<&'a 
     tables.get(number)
 }
 
-impl<'w, 's> Matcher<'w, 's> {
+impl<'w> Matcher<'w> {
     /// Makes a world ready.
-    pub fn new(alloc: Global, world: &'w World<'s>) -> Result<Matcher<'w, 's>, Memory>
+    pub fn new(alloc: Global, world: &'w World<'w>) -> Result<Matcher<'w>, Memory>
         ensures { IfOk result (λ m. m ≡ world_view world.now) }
     {
         let top = method_table(alloc, world, world.top())?;

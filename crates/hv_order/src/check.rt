@@ -236,7 +236,7 @@ fn keep_rules<'s>(
     alloc: Global,
     world: &World<'s>,
     tree: &Tree<'_, '_>,
-    trace: &Trace<'_, '_, BitState>,
+    trace: &Trace<'_, BitState>,
     certificate: &Certificate<'s>,
     evaluated: &mut u64,
 ) -> Result<(), Unfit>
@@ -288,7 +288,7 @@ pub fn certifies<'s>(
     alloc: Global,
     world: &World<'s>,
     tree: &Tree<'_, '_>,
-    trace: &Trace<'_, '_, BitState>,
+    trace: &Trace<'_, BitState>,
     certificate: &Certificate<'s>,
 ) -> Result<Checked, Memory>
     requires top { HasNoPrecondition (world_view world.now) }

@@ -14,7 +14,7 @@ use std::alloc::Global;
 /// Whether a node has a candidate.
 pub fn has_candidate<'a>(
     alloc: Global,
-    matcher: &'a Matcher<'_, '_>,
+    matcher: &'a Matcher<'_>,
     tree: &'a Tree<'_, '_>,
     node: u32,
 ) -> Result<bool, Memory>
@@ -37,7 +37,7 @@ pub fn has_candidate<'a>(
 // Whether a node has a candidate, where some are known to have one.
 fn is_bound(
     alloc: Global,
-    matcher: &Matcher<'_, '_>,
+    matcher: &Matcher<'_>,
     tree: &Tree<'_, '_>,
     bound: &[bool],
     node: u32,
@@ -57,7 +57,7 @@ fn is_bound(
 /// is asked once, but for those that are known to have one.
 pub fn first_without(
     alloc: Global,
-    matcher: &Matcher<'_, '_>,
+    matcher: &Matcher<'_>,
     tree: &Tree<'_, '_>,
     bound: &[bool],
 ) -> Result<Option<u32>, Memory>

@@ -40,7 +40,7 @@ fn children_at(alloc: Global, children: &[Child], places: &[u32]) -> Result<Vec<
 pub(crate) fn candidates_of<'a>(
     alloc: Global,
     room: CandidateRoom<'a>,
-    matcher: &'a Matcher<'_, '_>,
+    matcher: &'a Matcher<'_>,
     tree: &'a Tree<'_, '_>,
     number: u32,
     sequencing: Rc<Sequencing>,

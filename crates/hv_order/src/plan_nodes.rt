@@ -38,9 +38,9 @@ use std::rc::Rc;
 #[derive(Drop)]
 pub struct PlanNodes<'a> {
     world: &'a World<'a>,
-    matcher: &'a Matcher<'a, 'a>,
+    matcher: &'a Matcher<'a>,
     tree: &'a Tree<'a, 'a>,
-    trace: &'a Trace<'a, 'a, BitState>,
+    trace: &'a Trace<'a, BitState>,
     is_with: bool,
     sequencings: Sequencings,
     spans: Rc<Spans>,
@@ -82,9 +82,9 @@ impl<'a> PlanNodes<'a> {
     pub fn new(
         alloc: Global,
         world: &'a World<'a>,
-        matcher: &'a Matcher<'a, 'a>,
+        matcher: &'a Matcher<'a>,
         tree: &'a Tree<'a, 'a>,
-        trace: &'a Trace<'a, 'a, BitState>,
+        trace: &'a Trace<'a, BitState>,
         is_with: bool,
     ) -> Result<PlanNodes<'a>, Memory>
         requires world { matcher.now ≡ world_view world.now }
@@ -116,7 +116,7 @@ impl<'a> PlanNodes<'a> {
     }
 
     /// What looks for the candidates of the plan's nodes.
-    pub fn matcher(&self) -> &'a Matcher<'a, 'a>
+    pub fn matcher(&self) -> &'a Matcher<'a>
         ensures { result.now ≡ self.now.plan.world }
     {
         self.matcher

@@ -103,9 +103,9 @@ impl<'a, 's> Rows<'a, 's> {
     pub fn build(
         alloc: Global,
         world: &'a World<'s>,
-        matcher: &'a Matcher<'a, 'a>,
+        matcher: &'a Matcher<'a>,
         tree: &'a Tree<'a, 'a>,
-        trace: &'a Trace<'a, 'a, BitState>,
+        trace: &'a Trace<'a, BitState>,
         is_with: bool,
     ) -> Result<Rows<'a, 's>, RowFault>
         requires world { matcher.now ≡ world_view world.now }

@@ -90,9 +90,9 @@ fn why_unsolved(alloc: Global, nodes: PlanNodes<'_>, memo: Memo) -> Result<Unsol
 pub fn has_solution<'s>(
     alloc: Global,
     world: &World<'s>,
-    matcher: &Matcher<'_, 's>,
+    matcher: &Matcher<'_>,
     tree: &Tree<'_, '_>,
-    trace: &Trace<'_, '_, BitState>,
+    trace: &Trace<'_, BitState>,
 ) -> Result<(), Unsolved>
     requires { BelongTogether (world_view world.now) matcher.now (tree_view tree.now) trace.now }
     ensures solved { IfOk result
@@ -117,9 +117,9 @@ pub fn has_solution<'s>(
 pub fn solution<'s>(
     alloc: Global,
     world: &World<'s>,
-    matcher: &Matcher<'_, 's>,
+    matcher: &Matcher<'_>,
     tree: &Tree<'_, '_>,
-    trace: &Trace<'_, '_, BitState>,
+    trace: &Trace<'_, BitState>,
 ) -> Result<Certificate<'s>, Unsolved>
     requires { BelongTogether (world_view world.now) matcher.now (tree_view tree.now) trace.now }
     ensures certified { IfOk result

@@ -42,14 +42,14 @@ impl From<Memory> for Stop {
 
 /// A plan that runs: what is true at its start, and each change on its way.
 #[derive(Drop)]
-pub struct Trace<'a, 's, S: State> {
-    world: &'a World<'s>,
+pub struct Trace<'a, S: State> {
+    world: &'a World<'a>,
     actions: &'a GroundActions,
     first: S,
     changes: Changes,
 }
 
-impl<'a, 's, S: State> Model for Trace<'a, 's, S> {
+impl<'a, S: State> Model for Trace<'a, S> {
     ghost use Rattle.std.specs.Coded.{codes};
     ghost use Rattle.hv_world.specs.Codes.{formula_code, effects_code};
     ghost use Rattle.hv_state.specs.Plans.{Plan, plan_of};
@@ -65,7 +65,7 @@ impl<'a, 's, S: State> Model for Trace<'a, 's, S> {
         IsRecorded (plan_of t.world.now t.actions.now) (S.atoms t.first) t.changes };
 }
 
-impl Trace<'_, '_, BitState> {
+impl Trace<'_, BitState> {
     /// The atoms that are true somewhere in a stretch of the plan's states: after `from` actions,
     /// or more, but fewer than `end`.
     pub fn ever_true(&self, from: usize, end: usize) -> EverTrue<'_>
@@ -82,7 +82,7 @@ impl Trace<'_, '_, BitState> {
     }
 }
 
-impl<'a, 's, S: State> Trace<'a, 's, S> {
+impl<'a, S: State> Trace<'a, S> {
     /// Runs a plan.
     ///
     /// # Errors
@@ -92,9 +92,9 @@ impl<'a, 's, S: State> Trace<'a, 's, S> {
     /// others, since changes are kept with the index of 31 bits that they are at.
     pub fn run(
         alloc: Global,
-        world: &'a World<'s>,
+        world: &'a World<'a>,
         actions: &'a GroundActions,
-    ) -> Result<Trace<'a, 's, S>, Stop>
+    ) -> Result<Trace<'a, S>, Stop>
         ensures plan { IfOk result (λ t. t ≡ plan_of world.now actions.now) }
         ensures ran { IfOk result (λ _. CanRun (plan_of world.now actions.now)) }
         ensures stop { IfErr result (IsStop (plan_of world.now actions.now)) }

@@ -31,7 +31,7 @@ pub(crate) fn node_of(tree: &Tree<'_, '_>, id: Option<u64>) -> Option<u32>
 }
 
 /// The world made ready.
-pub(crate) fn matcher_of<'w, 's>(alloc: Global, world: &'w World<'s>) -> Option<Matcher<'w, 's>>
+pub(crate) fn matcher_of<'w>(alloc: Global, world: &'w World<'w>) -> Option<Matcher<'w>>
     ensures { IfSome result (λ m. m ≡ world_view world.now) }
 {
     match Matcher::new(alloc, world) {
@@ -108,7 +108,7 @@ fn note_all(
 /// The candidates of a node, whatever atoms are ever true.
 fn candidates_of<'a>(
     alloc: Global,
-    matcher: &'a Matcher<'_, '_>,
+    matcher: &'a Matcher<'_>,
     tree: &'a Tree<'_, '_>,
     node: u32,
 ) -> Option<Candidates<'a>>
@@ -136,7 +136,7 @@ pub(crate) fn all<'a>(
 }
 
 // Whether the count of a node is this one.
-fn is_count(matcher: &Matcher<'_, '_>, tree: &Tree<'_, '_>, node: u32, wanted: u64) -> bool
+fn is_count(matcher: &Matcher<'_>, tree: &Tree<'_, '_>, node: u32, wanted: u64) -> bool
     requires tree { IsTreeIn matcher.now (tree_view tree.now) }
     requires node { node < length (tree_view tree.now).nodes }
 {

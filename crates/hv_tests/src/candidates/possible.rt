@@ -60,7 +60,7 @@ fn note(alloc: Global, candidates: &mut Candidates<'_>, noted: &mut Vec<Candidat
 // The candidates of a node, where it is told which atoms are ever true.
 fn candidates_where<'a>(
     alloc: Global,
-    matcher: &'a Matcher<'_, '_>,
+    matcher: &'a Matcher<'_>,
     tree: &'a Tree<'_, '_>,
     node: u32,
     ever: Option<EverTrue<'a>>,
@@ -78,7 +78,7 @@ fn note_possible(
     world: &World<'_>,
     tree: &Tree<'_, '_>,
     node: u32,
-    trace: &Trace<'_, '_, BitState>,
+    trace: &Trace<'_, BitState>,
     end: usize,
     noted: &mut Vec<Candidate>,
 ) -> Option<()>

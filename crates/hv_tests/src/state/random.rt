@@ -183,7 +183,7 @@ fn first_true(
 
 // Whether a trace says of a part of the goal what the slow states do.
 fn says_the_same<S: State>(
-    trace: &Trace<'_, '_, S>,
+    trace: &Trace<'_, S>,
     last: usize,
     words: &[u32],
     part: usize,
