@@ -60,14 +60,14 @@ pub(crate) fn judge_plan<'s>(
         (Ends (λ v. IsVerdict limit v (world_view world.now) (plan_view plan.now))) }
 {
     let tree = Tree::build(alloc, world, plan)?;
-    let trace = match Trace::<BitState>::run(alloc, world, tree.actions()) {
+    let trace = match Trace::<BitState>::run(alloc, &*world, tree.actions()) {
         Ok(trace) => trace,
         Err(stop) => return Err(stopped(stop, plan.actions())),
     };
     if !trace.goal_holds() {
         return Err(NotSolved::Fails(Cause::nowhere(CauseKind::GoalFalse)));
     }
-    let matcher = Matcher::new(alloc, world)?;
+    let matcher = Matcher::new(alloc, &*world)?;
     if let Some(line) = first_above(&matcher, &tree, limit) {
         return Err(NotSolved::Undecided(line));
     }
