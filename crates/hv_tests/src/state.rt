@@ -6,7 +6,7 @@ mod random;
 use crate::texts::{DOMAINS, ONE, PROBLEMS, TRANSPORT};
 use crate::worlds::world_of;
 use hv_state::{AtomView, BitState, GroundAtoms, SortedState, State, Trace, next_row};
-use hv_world::{Atom, Binding, GroundActions, ObjectId, PredicateId, Term};
+use hv_world::{Atom, Binding, GroundActions, ObjectId, PredicateId, Term, World};
 use smallvec::SmallVec;
 use std::alloc::Global;
 
@@ -141,12 +141,17 @@ fn deletes_come_before_adds_in_a_word(rt: HostRuntime) {
     assert!(rt; row == [10]);
 }
 
-// Whether the goal holds where nothing is done.
+// Whether the goal of a world holds where nothing is done.
+fn begins_with_its_goal<S: State>(alloc: Global, world: &World<'_>) -> Option<bool> {
+    let actions = GroundActions::with_capacity(alloc, 0).ok()?;
+    let trace: Trace<S> = Trace::run(alloc, world, &actions).ok()?;
+    Some(trace.goal_holds())
+}
+
+// The same of the world of these texts.
 fn holds_at_once<S: State>(alloc: Global, domain: &[u8], problem: &[u8]) -> Option<bool> {
     let world = world_of(alloc, domain, problem)?;
-    let actions = GroundActions::with_capacity(alloc, 0).ok()?;
-    let trace: Trace<S> = Trace::run(alloc, &world, &actions).ok()?;
-    Some(trace.goal_holds())
+    begins_with_its_goal::<S>(alloc, &world)
 }
 
 // Whether the goals of the problems are true at the start; none where there is no world.
