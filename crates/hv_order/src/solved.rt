@@ -54,8 +54,8 @@ pub fn is_solved(alloc: Global, nodes: &PlanNodes<'_>, memo: &mut Memo) -> Resul
     Ok(run.finish.is_some())
 }
 
-/// A certificate of a plan of this world, exactly where it has a solution, the goal aside. Only the finishes that
-/// it hangs on are worked out.
+/// A certificate of a plan of this world, exactly where it has a solution, the goal aside. Only the
+/// finishes that it hangs on are worked out.
 pub fn certificate_of<'s>(
     alloc: Global,
     world: &World<'s>,
