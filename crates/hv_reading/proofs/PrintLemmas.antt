@@ -1,13 +1,14 @@
 -- Texts that grow part by part.
 use Rattle.std.proofs.Common.{◌≡◌, ◌++◌, ◌+◌, ◌<◌, ◌≤◌, ℕ, List, [], ◌∷◌, length, map, drop, get_or, refl, codes, ap, sym, ◌∙◌, arith}
 use Rattle.std.proofs.lemmas.List.{append-nil, append_assoc, drop_more}
-use Rattle.hv_text.specs.Trees.{Tree, none}
+use Rattle.hv_text.specs.Trees.{Tree, none, more}
+use Rattle.hv_syntax.specs.declared.word.Placed.{Placed}
 use Rattle.hv_syntax.specs.declared.formula.FormulaText.{FormulaText}
 use Rattle.hv_syntax.specs.declared.effect.ItemText.{ItemText}
 use Rattle.hv_syntax.specs.Values.{formulas_of, effect}
 use Rattle.hv_reading.specs.inside.Formulas.{and_all}
-use Rattle.hv_syntax.specs.Views.{formula_view, item_view}
-use Rattle.hv_reading.specs.Canonical.{text, spaced, each, conjunction, conjunction_or_one, formula_expression, formula_expressions, item_expressions, with_members}
+use Rattle.hv_syntax.specs.Views.{word_view, constant_view, formula_view, item_view}
+use Rattle.hv_reading.specs.Canonical.{text, spaced, each, conjunction, conjunction_or_one, word_expression, term_expression, formula_expression, formula_expressions, item_expressions, with_members}
 use Rattle.hv_reading.specs.CanonicalSections.{lines, unless_empty, section_of_each}
 
 -- a text o that has grown by a to p
@@ -105,3 +106,8 @@ pub conjunction_of_several : (xs : List ItemText) → 2 ≤ length xs
 conjunction_of_several [] some = absurd (omega arith)
 conjunction_of_several (x ∷ []) some = absurd (omega arith)
 conjunction_of_several (x ∷ y ∷ xs) some = refl
+
+-- words as terms are written as words
+pub names_as_terms : (ws : List Placed) → each word_expression (map word_view ws) ≡ each term_expression (map constant_view ws)
+names_as_terms [] = refl
+names_as_terms (w ∷ ws) = ap (more (word_expression (word_view w))) (names_as_terms ws)

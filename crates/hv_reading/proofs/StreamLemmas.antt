@@ -6,8 +6,10 @@ use Rattle.hv_text.specs.Trees.{Tree, Trees, word, list, none, more, place_of}
 use Rattle.hv_text.specs.Rests.{Rest, last, lost, upto, add, enclose, here, ended}
 use Rattle.hv_text.specs.declared.span.Span.{Span}
 use Rattle.hv_reading.specs.inside.Reading.{both, every, behind}
-use Rattle.hv_syntax.specs.Values.{WordAt, word_at, Literal, literal, Term, constant, variable, atom_with}
-use Rattle.hv_reading.specs.Literals.{is_constant, are_constants}
+use Rattle.hv_syntax.specs.declared.word.Placed.{Placed}
+use Rattle.hv_syntax.specs.Views.{constant_view}
+use Rattle.hv_syntax.specs.Values.{WordAt, word_at, Literal, literal, Term, atom_with}
+use Rattle.hv_reading.specs.Literals.{are_constants}
 use Rattle.hv_reading.specs.inside.Terms.{term_of, atom_of}
 use Rattle.hv_reading.specs.inside.Lists.{behind_not}
 use Rattle.hv_reading.specs.declared.word.Head.TheVariants as word_heads
@@ -152,10 +154,10 @@ module _ (v : List ℕ) (from : Rest) (start : Span) (n : WordAt) (p : ℕ) wher
       → sections_of v (here from) ≡ Some (n, here third, record { start = start.start; past = p })
   definition_read third e b m o = rw (ap here (whole_list third e b m o), b.is_define, sym b.has_name) refl
 
-pub constants_more : (xs : List Term) (x : Term) → are_constants xs ≡ true → is_constant x ≡ true → are_constants (xs ++ x ∷ []) ≡ true
-constants_more [] x e f = rw f refl
-constants_more (constant w ∷ xs) x e f = constants_more xs x e f
-constants_more (variable w ∷ xs) x e f = absurd cc
+-- words as terms are names
+pub are_constant : (ws : List Placed) → are_constants (map constant_view ws) ≡ true
+are_constant [] = refl
+are_constant (w ∷ ws) = are_constant ws
 
 -- a symbol and names in a list are a literal
 pub fact_read : (start place : Span) (w : List ℕ) (from m e after : Rest) (p : ℕ) (xs : List Term) → from ≡ enclose start (add (word w place) m) → head_of w ≡ word_heads.Symbol

@@ -1,12 +1,12 @@
 //! Literals.
 
-ghost use Rattle.std.specs.Prelude.{◌≡◌, map};
+ghost use Rattle.std.specs.Prelude.{◌≡◌, true, map, IfOk};
 ghost use Rattle.hv_text.specs.Trees.{tree, trees};
 ghost use Rattle.hv_reading.specs.inside.Reading.{Gives, every};
-ghost use Rattle.hv_reading.specs.Literals.{is_constant, are_constants};
+ghost use Rattle.hv_reading.specs.Literals.{are_constants};
 ghost use Rattle.hv_reading.specs.inside.Literals.{literal_of, ground_literal_of};
-ghost use Rattle.hv_syntax.specs.Views.{term_view, lent_atom_view, literal_view};
-ghost use Rattle.hv_syntax.specs.Views.{lent_literal_view};
+ghost use Rattle.hv_syntax.specs.Views.{term_view, literal_view};
+ghost use Rattle.hv_syntax.specs.Views.{constant_view, ground_literal_view};
 ghost use Rattle.hv_syntax.specs.ProblemViews.{init_view};
 
 mod stream;
@@ -14,8 +14,8 @@ mod stream;
 use crate::list::negated;
 use crate::refusal::Refusal;
 use crate::term::read_atom;
-use hv_syntax::{InitText, LiteralText, TermText};
-use hv_text::Sexp;
+use hv_syntax::{GroundLiteral, InitText, LiteralText, Placed, TermText};
+use hv_text::{Memory, Sexp};
 use std::alloc::Global;
 pub(crate) use stream::read_ground_literals_at;
 
@@ -33,35 +33,37 @@ pub(crate) fn read_literal<'s>(alloc: Global, e: &Sexp<'s>) -> Result<LiteralTex
     }
 }
 
-fn is_constant(term: TermText<'_>) -> bool
-    ensures { result ≡ is_constant (term_view term.entry) }
+// Puts the names of terms into a room, in place of what it has, and answers whether all are names.
+fn fill_constants<'s>(terms: &[TermText<'s>], room: &mut Vec<Placed<'s>>) -> Result<bool, Memory>
+    ensures are { IfOk result (λ b. b ≡ are_constants (map term_view terms.now)) }
+    ensures names { IfOk result
+        (λ b. b ≡ true → map constant_view room.new.items ≡ map term_view terms.now) }
 {
-    match term {
-        TermText::Constant(_) => true,
-        TermText::Variable(_) => false,
-    }
-}
-
-fn are_constants(terms: &[TermText<'_>]) -> bool
-    ensures { result ≡ are_constants (map term_view terms.now) }
-{
+    room.clear();
     for term in terms {
-        if !is_constant(*term) {
-            return false;
-        }
+        let TermText::Constant(word) = term else {
+            return Ok(false);
+        };
+        room.push(*word)?;
     }
-    true
+    Ok(true)
 }
 
-// A literal whose terms are names.
-fn read_ground_literal<'s>(alloc: Global, e: &Sexp<'s>) -> Result<LiteralText<'s>, Refusal>
-    ensures { Gives literal_view result (ground_literal_of (tree e.now)) }
+// A literal whose terms are names. They stand in the room.
+fn read_ground_literal<'r, 's>(
+    alloc: Global,
+    e: &Sexp<'s>,
+    room: &'r mut Vec<Placed<'s>>,
+) -> Result<GroundLiteral<'r, 's>, Refusal>
+    ensures { Gives ground_literal_view result (ground_literal_of (tree e.now)) }
 {
     let literal = read_literal(alloc, e)?;
-    if !are_constants(literal.lend().atom().terms()) {
+    let lent = literal.lend();
+    let atom = lent.atom();
+    if !fill_constants(atom.terms(), room)? {
         return Err(Refusal::NoSpelling);
     }
-    Ok(literal)
+    Ok(GroundLiteral::new(lent.is_positive(), atom.symbol(), room))
 }
 
 /// Reads literals whose terms are names, one after another.
@@ -75,10 +77,12 @@ pub(crate) fn read_ground_literals<'s>(
 ) -> Result<InitText<'s>, Refusal>
     ensures { Gives init_view result (every ground_literal_of (trees es.now)) }
 {
-    let mut literals = InitText::new(alloc)?;
+    // The text is not at hand here, so the words are kept, as of few texts they are.
+    let mut literals = InitText::new(alloc, &[])?;
+    let mut room = Vec::new(alloc);
     for e in es {
-        let literal = read_ground_literal(alloc, e)?;
-        literals.push(literal.lend())?;
+        let literal = read_ground_literal(alloc, e, &mut room)?;
+        literals.push(literal)?;
     }
     Ok(literals)
 }

@@ -17,6 +17,19 @@ use definitions::{put_domain, put_problem};
 use hv_syntax::{DomainText, ProblemText};
 use hv_text::Memory;
 
+// Appends a text; where nothing stands before it, it is handed on.
+fn append(out: &mut Vec<u8>, text: Vec<u8>) -> Result<(), Memory>
+    ensures ok { OnOk result (out.new.items ≡ out.old.items ++ text.items) }
+    ensures err { OnErr result (out.new.items ≡ out.old.items) }
+{
+    if out.is_empty() {
+        *out = text;
+        return Ok(());
+    }
+    out.extend_from_slice(&text)?;
+    Ok(())
+}
+
 /// Appends the canonical text of a domain.
 ///
 /// # Errors
@@ -29,8 +42,7 @@ pub fn print_domain(domain: &DomainText<'_>, out: &mut Vec<u8>) -> Result<(), Me
 {
     let mut text = Vec::new(*out.allocator());
     put_domain(&mut text, domain)?;
-    out.extend_from_slice(&text)?;
-    Ok(())
+    append(out, text)
 }
 
 /// Appends the canonical text of a problem.
@@ -45,6 +57,5 @@ pub fn print_problem(problem: &ProblemText<'_>, out: &mut Vec<u8>) -> Result<(),
 {
     let mut text = Vec::new(*out.allocator());
     put_problem(&mut text, problem)?;
-    out.extend_from_slice(&text)?;
-    Ok(())
+    append(out, text)
 }

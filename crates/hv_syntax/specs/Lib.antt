@@ -6,3 +6,4 @@ pub mod NetworkViews
 pub mod DeclarationViews
 pub mod DomainViews
 pub mod ProblemViews
+pub mod inside

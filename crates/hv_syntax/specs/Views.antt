@@ -1,6 +1,8 @@
 -- What the values of the code say.
-use Rattle.std.specs.Prelude.{map}
+use Rattle.std.specs.Prelude.{ℕ, List, map}
+use Rattle.hv_text.specs.Bytes.{lower, bytes_at}
 use Rattle.hv_text.specs.Names.{text_of}
+use Rattle.hv_text.specs.declared.span.Span.{Span}
 use Rattle.hv_syntax.specs.declared.word.Placed.{Placed}
 use Rattle.hv_syntax.specs.declared.term.TermText.{TermText}
 use Rattle.hv_syntax.specs.declared.term.TermText.TheVariants as terms
@@ -14,6 +16,7 @@ use Rattle.hv_syntax.specs.declared.formula.FormulaText.{FormulaText, fold-Formu
 use Rattle.hv_syntax.specs.declared.formula.FormulaText.TheOpen.{FormulaText-F}
 use Rattle.hv_syntax.specs.declared.literal.LiteralText.{LiteralText}
 use Rattle.hv_syntax.specs.declared.literal.LentLiteral.{LentLiteral}
+use Rattle.hv_syntax.specs.declared.ground.GroundLiteral.{GroundLiteral}
 use Rattle.hv_syntax.specs.declared.effect.ItemText.{ItemText, fold-ItemText}
 use Rattle.hv_syntax.specs.declared.effect.ItemText.TheOpen.{ItemText-F}
 use Rattle.hv_syntax.specs.declared.effect.EffectText.{EffectText}
@@ -21,6 +24,10 @@ use Rattle.hv_syntax.specs.Values.{WordAt, word_at, Term, constant, variable, At
 
 abbrev pub word_view : Placed → WordAt
 word_view p = word_at (text_of p.name) p.span
+
+-- the word that a text has at a place
+abbrev pub word_in : List ℕ → Span → WordAt
+word_in text s = word_at (lower (bytes_at text s)) s
 
 abbrev pub term_view : TermText → Term
 term_view (terms.Constant p) = constant (word_view p)
@@ -61,6 +68,14 @@ literal_view l = literal l.is_positive (atom_view l.atom)
 
 abbrev pub lent_literal_view : LentLiteral → Literal
 lent_literal_view l = literal l.is_positive (lent_atom_view l.atom)
+
+-- a word as a term
+abbrev pub constant_view : Placed → Term
+constant_view p = constant (word_view p)
+
+abbrev pub ground_literal_view : GroundLiteral → Literal
+ground_literal_view l =
+    literal l.is_positive (atom_with (word_view l.symbol) (map constant_view l.names.now))
 
 -- one level, with each item inside already seen
 abbrev pub item_step : ItemText-F Item → Item

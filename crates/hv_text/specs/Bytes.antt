@@ -1,9 +1,10 @@
 -- What the bytes of a text are, and what a name means.
-use Rattle.std.specs.Prelude.{◌==◌, ◌&&◌, ◌||◌, ◌-◌, ◌*◌, ◌/◌, ℕ, Bool, false, not, List, [], ◌∷◌, ◌++◌, nat_le, map, length, drop, replicate}
+use Rattle.std.specs.Prelude.{◌==◌, ◌&&◌, ◌||◌, ◌-◌, ◌*◌, ◌/◌, ℕ, Bool, false, not, List, [], ◌∷◌, ◌++◌, nat_le, map, length, drop, replicate, slice_range}
 use Rattle.std.specs.List.{list_all}
 use Rattle.std.specs.Char.{to_ascii_lowercase}
 use Rattle.std.specs.Hash.{HashWrites}
 use Rattle.std.specs.Simd.{first_chunks}
+use Rattle.hv_text.specs.declared.span.Span.{Span}
 
 -- white space: 9 to 13, and 32
 abbrev pub is_blank : ℕ → Bool
@@ -34,3 +35,7 @@ filled bs = bs ++ replicate (8 - length bs) 0
 -- bytes, eight by eight; the last word is filled, and so has a zero, which no name has
 abbrev pub words_of : List ℕ → HashWrites
 words_of bs = first_chunks 8 (length bs / 8) bs ++ filled (drop (length bs / 8 * 8) bs) ∷ []
+
+-- the bytes that a text has at a place
+abbrev pub bytes_at : List ℕ → Span → List ℕ
+bytes_at text s = slice_range text s.start s.past

@@ -5,7 +5,7 @@ ghost use Rattle.hv_text.specs.Trees.{tree, trees, list, none};
 ghost use Rattle.hv_text.specs.Words.{Piece, piece_of, pieces};
 ghost use Rattle.hv_text.specs.Sexps.{AreExpressions};
 ghost use Rattle.hv_text.specs.Rests.{last, upto, lost, IsOut, step, add, add_all, enclose, here, rest_from};
-ghost use Rattle.hv_text.specs.Cursors.{rest_at, left_at};
+ghost use Rattle.hv_text.specs.Cursors.{text_at, rest_at, left_at};
 ghost use Rattle.hv_text.specs.declared.fault.TheConstants.{MOST_BYTES, MOST_OPEN};
 
 use crate::at::Cursor;
@@ -41,6 +41,13 @@ impl<'s> Cursor<'s> {
             at: 0,
             depth: 0,
         })
+    }
+
+    /// The whole text.
+    pub fn text(self) -> &'s [u8]
+        ensures { result.now ≡ text_at self.entry }
+    {
+        self.text
     }
 
     /// The word or parenthesis that comes next, and the place behind it; None at the end of the

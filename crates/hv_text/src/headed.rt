@@ -1,6 +1,6 @@
 //! Lists that each have a head.
 
-ghost use Rattle.std.specs.Prelude.{◌≡◌, ◌<◌, ◌++◌, ◌∷◌, [], Some, List, length, slice_get, IfOk, OnOk};
+ghost use Rattle.std.specs.Prelude.{◌≡◌, ◌<◌, ◌++◌, ◌∷◌, [], Some, List, length, slice_get, IfOk, OnOk, OnErr};
 ghost use Rattle.hv_lists.specs.Lists.{with_lists};
 
 use crate::lists::Lists;
@@ -60,7 +60,8 @@ impl<H: Copy + Drop, T: Copy + Drop> Headed<H, T> {
     ///
     /// `Memory` where a growth was refused, or where all lists together would have 2^32 items.
     pub fn push(&mut self, head: H, list: &[T]) -> Result<(), Memory>
-        ensures { OnOk result (self.new ≡ self.old ++ (head, list.now) ∷ []) }
+        ensures put { OnOk result (self.new ≡ self.old ++ (head, list.now) ∷ []) }
+        ensures same { OnErr result (self.new ≡ self.old) }
     {
         self.heads.reserve(1)?;
         self.lists.push(list)?;

@@ -83,8 +83,8 @@ impl<T: Copy + Drop> Lists<T> {
     }
 }
 
-// What stands from one place up to another.
-fn between<T>(items: &[T], from: usize, end: usize) -> &[T]
+/// What stands from one place up to another.
+pub(crate) fn between<T>(items: &[T], from: usize, end: usize) -> &[T]
     ensures { result.now ≡ between from end items.now }
 {
     let behind = &items[from.min(items.len())..];

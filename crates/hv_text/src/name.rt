@@ -5,8 +5,10 @@ ghost use Rattle.std.specs.List.{list_all};
 ghost use Rattle.std.specs.Str.{bytes_eq};
 ghost use Rattle.std.specs.Cmp.Lexicographic.{slice_cmp};
 ghost use Rattle.std.specs.Ordering.{nat_cmp};
-ghost use Rattle.hv_text.specs.Bytes.{is_word_byte, is_word, lower, filled, words_of};
+ghost use Rattle.hv_text.specs.Bytes.{is_word_byte, is_word, lower, filled, words_of, bytes_at};
 
+use crate::lists::between;
+use crate::span::Span;
 use std::cmp::Ordering;
 use std::hash::{Hash, Hasher};
 
@@ -102,6 +104,13 @@ fn lower_word(bytes: &[u8]) -> [u8; 8]
     word
 }
 
+// The bytes that a text has at a place.
+fn bytes_at(text: &[u8], span: Span) -> &[u8]
+    ensures { result.now ≡ bytes_at text.now span }
+{
+    between(text, span.start as usize, span.past as usize)
+}
+
 impl<'s> Name<'s> {
     ghost use Rattle.hv_text.specs.Names.{bytes_of, text_of};
 
@@ -128,6 +137,21 @@ impl<'s> Name<'s> {
         ensures { result.now ≡ bytes_of self.entry }
     {
         self.bytes
+    }
+
+    /// Whether a text has the name at this place, letter for letter.
+    pub fn is_at(self, text: &[u8], span: Span) -> bool
+        ensures { result ≡ bytes_eq (bytes_of self.entry) (bytes_at text.now span) }
+    {
+        self.bytes == bytes_at(text, span)
+    }
+
+    /// The name that a text has at a place where a word stands.
+    pub fn at(text: &'s [u8], span: Span) -> Name<'s>
+        requires { IsTrue (is_word (bytes_at text.now span)) }
+        ensures { bytes_of result ≡ bytes_at text.now span }
+    {
+        Name::of_word(bytes_at(text, span))
     }
 
     /// The name that a word spells.

@@ -1,24 +1,23 @@
 //! Literals of `:init`, one at a time. Most are a symbol and names in a list, and for these no
 //! expression is made.
 
-ghost use Rattle.std.specs.Prelude.{◌≡◌, ◌<◌, ◌≤◌, true, IfOk, IfErr, IfNone, IfSome, map};
+ghost use Rattle.std.specs.Prelude.{◌≡◌, ◌<◌, ◌≤◌, IfOk, IfErr, IfNone, IfSome, map};
 ghost use Rattle.hv_text.specs.Trees.{word, none};
 ghost use Rattle.hv_text.specs.Rests.{add, enclose, here, ended};
 ghost use Rattle.hv_text.specs.Cursors.{rest_at, left_at};
 ghost use Rattle.hv_reading.specs.Words.{head_of, sort_of};
-ghost use Rattle.hv_reading.specs.Literals.{are_constants};
 ghost use Rattle.hv_reading.specs.inside.Reading.{Gives, Fails, every, behind};
 ghost use Rattle.hv_reading.specs.inside.Terms.{term_of};
 ghost use Rattle.hv_reading.specs.inside.Literals.{ground_literal_of};
 ghost use Rattle.hv_reading.specs.inside.Streams.{IsLiteralRead, IsOneMoreRead};
 ghost use Rattle.hv_syntax.specs.ProblemViews.{init_view};
-ghost use Rattle.hv_syntax.specs.Views.{word_view, term_view, lent_literal_view};
+ghost use Rattle.hv_syntax.specs.Views.{word_view, constant_view, ground_literal_view};
 
 use super::read_ground_literal;
 use crate::refusal::Refusal;
 use crate::stream::next_word;
 use crate::word::{Head, Sort, head_of, sort_of};
-use hv_syntax::{InitText, LentAtom, LentLiteral, Placed, TermText};
+use hv_syntax::{GroundLiteral, InitText, Placed};
 use hv_text::{Cursor, Memory, Span, Word};
 use std::alloc::Global;
 
@@ -68,13 +67,12 @@ fn next_name<'s>(from: Cursor<'s>) -> Option<(Placed<'s>, Cursor<'s>)>
     }
 }
 
-// Puts the names that come next into a room, as terms, in place of what it has. Answers the place
-// behind them.
-fn fill_names<'s>(from: Cursor<'s>, room: &mut Vec<TermText<'s>>) -> Result<Cursor<'s>, Memory>
+// Puts the names that come next into a room, in place of what it has. Answers the place behind
+// them.
+fn fill_names<'s>(from: Cursor<'s>, room: &mut Vec<Placed<'s>>) -> Result<Cursor<'s>, Memory>
     ensures names { IfOk result
-        (λ c. behind (map term_view room.new.items) (every term_of (here (rest_at c)))
+        (λ c. behind (map constant_view room.new.items) (every term_of (here (rest_at c)))
         ≡ every term_of (here (rest_at from.entry))) }
-    ensures ground { IfOk result (λ _. are_constants (map term_view room.new.items) ≡ true) }
     ensures end { IfOk result (λ c. ended (rest_at c) ≡ ended (rest_at from.entry)) }
     ensures less { IfOk result (λ c. left_at c ≤ left_at from.entry) }
 {
@@ -82,19 +80,19 @@ fn fill_names<'s>(from: Cursor<'s>, room: &mut Vec<TermText<'s>>) -> Result<Curs
     let mut cursor = from;
     'names: while let Some((name, after)) = next_name(cursor) {
         cursor = after;
-        room.push(TermText::Constant(name))?;
+        room.push(name)?;
     }
     Ok(cursor)
 }
 
 // The literal that comes next, where it is a symbol and names in a list, and the place behind it;
-// None where something else comes. Its terms stand in the room.
+// None where something else comes. Its names stand in the room.
 fn read_fact_at<'r, 's>(
     from: Cursor<'s>,
-    room: &'r mut Vec<TermText<'s>>,
-) -> Result<Option<(LentLiteral<'r, 's>, Cursor<'s>)>, Memory>
+    room: &'r mut Vec<Placed<'s>>,
+) -> Result<Option<(GroundLiteral<'r, 's>, Cursor<'s>)>, Memory>
     ensures read { IfOk result (λ o. IfSome o
-        (λ p. IsLiteralRead (rest_at from.entry) (lent_literal_view p.0) (rest_at p.1))) }
+        (λ p. IsLiteralRead (rest_at from.entry) (ground_literal_view p.0) (rest_at p.1))) }
     ensures less { IfOk result (λ o. IfSome o (λ p. left_at p.1 < left_at from.entry)) }
 {
     let Some(begun) = begun_atom(from) else {
@@ -104,8 +102,8 @@ fn read_fact_at<'r, 's>(
     let Some((_past, after)) = end.leave() else {
         return Ok(None);
     };
-    let atom = LentAtom::new(begun.symbol, room);
-    Ok(Some((LentLiteral::new(true, atom), after)))
+    let literal = GroundLiteral::new(true, begun.symbol, room);
+    Ok(Some((literal, after)))
 }
 
 // Puts the literal that comes next behind others, and answers the place behind it; None at the end
@@ -113,7 +111,7 @@ fn read_fact_at<'r, 's>(
 fn read_next_at<'s>(
     alloc: Global,
     from: Cursor<'s>,
-    room: &mut Vec<TermText<'s>>,
+    room: &mut Vec<Placed<'s>>,
     literals: &mut InitText<'s>,
 ) -> Result<Option<Cursor<'s>>, Refusal>
     ensures none { IfOk result (λ o. IfNone o (here (rest_at from.entry) ≡ none)) }
@@ -132,8 +130,8 @@ fn read_next_at<'s>(
     let Some((e, after)) = from.read_one(alloc)? else {
         return Ok(None);
     };
-    let literal = read_ground_literal(alloc, &e)?;
-    literals.push(literal.lend())?;
+    let literal = read_ground_literal(alloc, &e, room)?;
+    literals.push(literal)?;
     Ok(Some(after))
 }
 
@@ -153,7 +151,7 @@ pub(crate) fn read_ground_literals_at<'s>(
     ensures less { IfOk result (λ p. left_at p.1 ≤ left_at from.entry) }
 {
     let mut cursor = from;
-    let mut literals = InitText::new(alloc)?;
+    let mut literals = InitText::new(alloc, from.text())?;
     let mut room = Vec::new(alloc);
     'all: while let Some(after) = read_next_at(alloc, cursor, &mut room, &mut literals)? {
         cursor = after;

@@ -4,14 +4,15 @@ ghost use Rattle.std.specs.Prelude.{◌≡◌, ◌++◌, map, OnOk};
 ghost use Rattle.hv_syntax.specs.Values.{formulas_of, not, forall, exists, equal};
 ghost use Rattle.hv_reading.specs.Canonical.{text, spaced, each, formula_expression};
 ghost use Rattle.hv_reading.specs.Canonical.{formula_expressions, literal_expression};
+ghost use Rattle.hv_reading.specs.Canonical.{atom_expression};
 ghost use Rattle.hv_reading.specs.inside.Formulas.{and_all, or_all};
 ghost use Rattle.hv_syntax.specs.Views.{variable_view, term_view, formula_view};
-ghost use Rattle.hv_syntax.specs.Views.{lent_literal_view};
+ghost use Rattle.hv_syntax.specs.Views.{lent_literal_view, ground_literal_view};
 ghost use Rattle.hv_syntax.specs.ProblemViews.{init_view};
 
-use crate::print::terms::{put_atom, put_term};
+use crate::print::terms::{put_atom, put_term, put_word, put_words};
 use crate::print::variables::put_variables;
-use hv_syntax::{FormulaText, InitText, LentLiteral, TermText, VariableText};
+use hv_syntax::{FormulaText, GroundLiteral, InitText, LentLiteral, TermText, VariableText};
 use hv_text::Memory;
 
 // Puts that two terms are one.
@@ -164,6 +165,32 @@ pub(crate) fn put_literal(out: &mut Vec<u8>, literal: LentLiteral<'_, '_>) -> Re
     Ok(())
 }
 
+// Puts the atom of a literal over names.
+fn put_ground_atom(out: &mut Vec<u8>, literal: GroundLiteral<'_, '_>) -> Result<(), Memory>
+    ensures { OnOk result (out.new.items ≡ out.old.items
+        ++ text (atom_expression (ground_literal_view literal.entry).atom)) }
+{
+    out.push(b'(')?;
+    put_word(out, literal.symbol())?;
+    put_words(out, literal.names())?;
+    out.push(b')')?;
+    Ok(())
+}
+
+// Puts a literal over names.
+fn put_ground_literal(out: &mut Vec<u8>, literal: GroundLiteral<'_, '_>) -> Result<(), Memory>
+    ensures { OnOk result (out.new.items ≡ out.old.items
+        ++ text (literal_expression (ground_literal_view literal.entry))) }
+{
+    if literal.is_positive() {
+        return put_ground_atom(out, literal);
+    }
+    out.extend_from_slice(b"(not ")?;
+    put_ground_atom(out, literal)?;
+    out.push(b')')?;
+    Ok(())
+}
+
 /// Puts the literals of an initial state, a space before each.
 ///
 /// # Errors
@@ -173,9 +200,11 @@ pub(crate) fn put_literals(out: &mut Vec<u8>, init: &InitText<'_>) -> Result<(),
     ensures { OnOk result (out.new.items ≡ out.old.items
         ++ spaced (each literal_expression (init_view init.now))) }
 {
-    for literal in init.iter() {
+    let mut literals = init.literals();
+    let mut room = Vec::new(*out.allocator());
+    'all: while let Some(literal) = literals.next_in(&mut room)? {
         out.push(b' ')?;
-        put_literal(out, literal)?;
+        put_ground_literal(out, literal)?;
     }
     Ok(())
 }
