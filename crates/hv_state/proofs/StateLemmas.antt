@@ -1,8 +1,9 @@
 -- States by rows, as sets of atoms.
-use Rattle.std.proofs.Common.{◌≡◌, ◌<◌, ◌⊎◌, inl, inr, ℕ, List, length, map, Result, Ok, Err, OnErr, sym, ap, ◌∙◌, subst, arith}
+use Rattle.std.proofs.Common.{◌≡◌, ◌<◌, ◌⊎◌, inl, inr, ℕ, List, [], ◌∷◌, length, map, Result, Ok, Err, OnErr, refl, sym, ap, ◌∙◌, subst, arith}
 use Rattle.std.specs.List.{Contains}
 use Rattle.std.proofs.lemmas.List.{get_or-map, length-map}
-use Rattle.hv_world.specs.Bindings.{GroundAtom}
+use Rattle.hv_world.specs.Bindings.{GroundAtom, object_of}
+use Rattle.hv_world.specs.Values.{object}
 use Rattle.hv_state.specs.Atoms.{Same, After, row_of}
 use Rattle.hv_state.specs.inside.Rows.{atom_of, Listed, IsWithoutAll, IsWithAll, HasSameRows}
 
@@ -38,3 +39,8 @@ applied old mid rows new deletes adds without is all g = (λ m. from ((all (row_
     to : After (Listed old) (Contains deletes) (Contains adds) g → Listed new g
     to (inl (m, kept)) = (all (row_of g)).1 (inl ((without (row_of g)).1 (m, λ gone. kept (atom_listed deletes g gone))))
     to (inr m) = (all (row_of g)).1 (inr (subst (λ xs. Contains xs (row_of g)) (sym is) (row_listed adds g m)))
+
+-- objects as terms stand for themselves
+pub objects_are : (env os : List ℕ) → map (object_of env) (map object os) ≡ os
+objects_are env [] = refl
+objects_are env (o ∷ os) = ap (λ ps. o ∷ ps) (objects_are env os)

@@ -17,12 +17,17 @@ nothing_there (o ∷ env) (suc v) e = nothing_there env v e
 pub object_past : (env : List ℕ) (v : ℕ) (found : Option ObjectId) → option_map object_number found ≡ slice_get env v → found ≡ None → slice_index_or env v 0 ≡ 0
 object_past env v found e none = nothing_there env v (sym e ∙ ap (option_map object_number) none)
 
--- objects are left, and no terms
+-- objects are left, and no others
+pub more_numbers : (objects : List ℕ) (i : ℕ) (others : List ℕ) → i < length objects → length others < 1 → slice_cmp nat_cmp (drop i objects) others ≡ Greater
+more_numbers objects i (n ∷ ns) lt few = absurd (omega arith)
+more_numbers [] i [] lt few = absurd (omega arith)
+more_numbers (o ∷ os) zero [] lt few = refl
+more_numbers (o ∷ os) (suc i) [] lt few = more_numbers os i [] (omega arith) few
+
+-- the same of terms
 pub more_objects : {X Y : Type 0} (objects : List ℕ) (i : ℕ) (f : Y → ℕ) (g : X → Y) (terms : List X) → i < length objects → length terms < 1 → slice_cmp nat_cmp (drop i objects) (map f (map g terms)) ≡ Greater
 more_objects objects i f g (t ∷ ts) lt few = absurd (omega arith)
-more_objects [] i f g [] lt few = absurd (omega arith)
-more_objects (o ∷ os) zero f g [] lt few = refl
-more_objects (o ∷ os) (suc i) f g [] lt few = more_objects os i f g [] (omega arith) few
+more_objects objects i f g [] lt few = more_numbers objects i [] lt few
 
 -- one to three terms, and a list of three numbers
 module _ (env : List ℕ) where

@@ -5,7 +5,7 @@ use Rattle.hv_world.specs.Views.{term_view}
 use Rattle.hv_world.specs.Bindings.{GroundAtom, ground_atom, atom_under, objects_in, object_of}
 use Rattle.hv_state.specs.declared.atom.AtomView.{AtomView}
 use Rattle.hv_state.specs.declared.atom.Objects.{Objects}
-use Rattle.hv_state.specs.declared.atom.Objects.TheVariants.{OfTerms, Given}
+use Rattle.hv_state.specs.declared.atom.Objects.TheVariants.{OfTerms, Given, OfRow}
 
 -- a set of atoms without variables, by which are in it
 abbrev pub Atoms : Type 1
@@ -28,6 +28,7 @@ abbrev pub objects_read : Objects → List ℕ
 objects_read (OfTerms terms binding) =
     map (object_of (objects_in binding.now)) (map term_view terms.now)
 objects_read (Given numbers) = numbers.now
+objects_read (OfRow numbers) = numbers.now
 
 abbrev pub atom_read : AtomView → GroundAtom
 atom_read v = ground_atom v.predicate.0 (objects_read v.objects)

@@ -2,10 +2,11 @@
 
 ghost use Rattle.std.specs.Prelude.{◌≡◌, ◌++◌, ◌∷◌, [], ℕ, List, map, IfSome};
 ghost use Rattle.hv_world.specs.Views.{term_view, atom_view};
+ghost use Rattle.hv_world.specs.FactViews.{fact_view};
 ghost use Rattle.hv_world.specs.Bindings.{atom_under, ground_atom, objects_in, object_of};
 ghost use Rattle.hv_state.specs.Atoms.{atom_read, objects_read};
 
-use hv_world::{Atom, Binding, ObjectId, PredicateId, Term};
+use hv_world::{Atom, Binding, Fact, ObjectId, PredicateId, Term};
 
 /// An atom as it is read: a predicate and its objects. Making one takes no memory.
 #[derive(Clone, Copy)]
@@ -21,6 +22,8 @@ pub(crate) enum Objects<'a> {
     OfTerms(&'a [Term], &'a Binding<'a>),
     /// These, by their numbers.
     Given(&'a [usize]),
+    /// Those of a row.
+    OfRow(&'a [u32]),
 }
 
 impl<'a> Objects<'a> {
@@ -57,6 +60,16 @@ impl<'a> AtomView<'a> {
         AtomView {
             predicate,
             objects: Objects::Given(numbers),
+        }
+    }
+
+    /// An atom over objects.
+    pub fn of_fact(fact: Fact<'a>) -> AtomView<'a>
+        ensures { atom_read result ≡ atom_under [] (fact_view fact.entry) }
+    {
+        AtomView {
+            predicate: fact.predicate(),
+            objects: Objects::OfRow(fact.objects()),
         }
     }
 

@@ -15,7 +15,7 @@ use crate::lit::{bright, clear_all, knows_all, lacking, lit_rows, set_all};
 use crate::rows::{Row, copy_of, merge_distinct, push_copies, rows_of, sort_distinct};
 use crate::state::State;
 use hv_text::Memory;
-use hv_world::{Binding, World};
+use hv_world::World;
 use std::alloc::Global;
 use std::cell::Cell;
 use std::marker::Model;
@@ -130,7 +130,7 @@ impl State for BitState {
     ghost atoms = { λ s. Shown s };
 
     fn initial(alloc: Global, world: &World<'_>) -> Result<BitState, Memory> {
-        let begun = rows_of(alloc, world.init(), &Binding::Given(&[]))?;
+        let begun = rows_of(alloc, world.init())?;
         BitState::over(alloc, begun, &[])
     }
 
@@ -139,7 +139,7 @@ impl State for BitState {
         world: &World<'_>,
         touched: &GroundAtoms,
     ) -> Result<BitState, Memory> {
-        let begun = rows_of(alloc, world.init(), &Binding::Given(&[]))?;
+        let begun = rows_of(alloc, world.init())?;
         BitState::over(alloc, begun, touched.rows())
     }
 

@@ -10,7 +10,7 @@ ghost use Rattle.hv_state.specs.inside.Rows.{Ascend, IsPlace, Listed};
 
 use crate::atom::AtomView;
 use crate::guesses::{Guesses, hash_of, hash_of_row};
-use crate::rows::{compare, is_row};
+use crate::rows::{are_numbers, compare, is_row};
 use hv_text::Memory;
 use hv_world::PredicateId;
 use std::alloc::Global;
@@ -20,7 +20,7 @@ pub(crate) trait HasRow {
     ghost numbers: { Self → List ℕ };
 
     /// The numbers of the row.
-    fn row(&self) -> &[usize]
+    fn row(&self) -> &[u32]
         ensures { result.now ≡ numbers self.now };
 }
 
@@ -33,7 +33,7 @@ pub(crate) fn find<T: HasRow>(list: &[T], atom: &AtomView<'_>) -> Result<usize, 
 }
 
 /// Where a row stands, or where it would: by halving.
-pub(crate) fn place<T: HasRow>(list: &[T], row: &[usize]) -> Result<usize, usize>
+pub(crate) fn place<T: HasRow>(list: &[T], row: &[u32]) -> Result<usize, usize>
     requires { Ascend (map T.numbers list.now) }
     ensures { IsPlace (map T.numbers list.now) row.now result }
 {
@@ -99,18 +99,18 @@ pub(crate) fn look_up_at<T: HasRow>(
 }
 
 // The number that a row has behind a predicate and these objects; else the greatest of all.
-fn number_behind(row: &[usize], predicate: PredicateId, before: &[usize]) -> usize
+fn number_behind(row: &[u32], predicate: PredicateId, before: &[usize]) -> usize
     ensures { (n : ℕ) (more : List ℕ)
         → row.now ≡ predicate.0 ∷ before.now ++ n ∷ more → result ≤ n }
 {
     let [first, objects @ ..] = row else {
         return usize::MAX;
     };
-    if *first != predicate.0 || objects.len() <= before.len() {
+    if *first as usize != predicate.0 || objects.len() <= before.len() {
         return usize::MAX;
     }
-    if &objects[..before.len()] == before {
-        objects[before.len()]
+    if are_numbers(&objects[..before.len()], before) {
+        objects[before.len()] as usize
     } else {
         usize::MAX
     }

@@ -135,6 +135,17 @@ fn mixed_all(hash: u64, numbers: &[usize]) -> u64
     mixed_so_far
 }
 
+// The same of numbers of a row.
+fn mixed_row(hash: u64, numbers: &[u32]) -> u64
+    ensures { result ≡ fold mix hash numbers.now }
+{
+    let mut mixed_so_far = hash;
+    for number in numbers {
+        mixed_so_far = mixed(mixed_so_far, *number as usize);
+    }
+    mixed_so_far
+}
+
 // Takes the objects of terms into a hash.
 fn mixed_terms(hash: u64, terms: &[Term], binding: &Binding<'_>) -> u64
     ensures { result ≡ fold mix hash (objects_with binding.now terms.now) }
@@ -154,15 +165,16 @@ pub(crate) fn hash_of(atom: &AtomView<'_>) -> usize
     let hash = match atom.objects {
         Objects::OfTerms(terms, binding) => mixed_terms(begun, terms, binding),
         Objects::Given(numbers) => mixed_all(begun, numbers),
+        Objects::OfRow(numbers) => mixed_row(begun, numbers),
     };
     hash as usize
 }
 
 /// The same of a row.
-pub(crate) fn hash_of_row(row: &[usize]) -> usize
+pub(crate) fn hash_of_row(row: &[u32]) -> usize
     ensures { result ≡ hash row.now }
 {
-    mixed_all(0, row) as usize
+    mixed_row(0, row) as usize
 }
 
 /// A hash of the numbers of an action and its objects.

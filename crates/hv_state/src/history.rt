@@ -78,7 +78,7 @@ pub(crate) struct History {
 impl HasRow for History {
     ghost numbers = { λ h. h.row.numbers.items };
 
-    fn row(&self) -> &[usize] {
+    fn row(&self) -> &[u32] {
         self.row.numbers.as_slice()
     }
 }

@@ -38,7 +38,7 @@ pub(crate) fn lacking(alloc: Global, rows: &[Row], more: &[Row]) -> Result<Vec<R
 }
 
 // Sets the bit of a row.
-fn set(rows: &[Row], words: &mut Vec<u64>, row: &[usize])
+fn set(rows: &[Row], words: &mut Vec<u64>, row: &[u32])
     requires bits { AreBits (rows_in rows.now) words.old.items }
     requires known { Contains (rows_in rows.now) row.now }
     ensures lit { IsLit (rows_in rows.now) words.old.items row.now words.new.items }
@@ -50,7 +50,7 @@ fn set(rows: &[Row], words: &mut Vec<u64>, row: &[usize])
 }
 
 // Clears the bit of a row, if it has one.
-fn clear(rows: &[Row], words: &mut Vec<u64>, row: &[usize])
+fn clear(rows: &[Row], words: &mut Vec<u64>, row: &[u32])
     requires { AreBits (rows_in rows.now) words.old.items }
     ensures dark { IsDark (rows_in rows.now) words.old.items row.now words.new.items }
     ensures len { length words.new.items ≡ length words.old.items }
@@ -97,7 +97,7 @@ pub(crate) fn lit_rows(alloc: Global, rows: &[Row], words: &[u64]) -> Result<Vec
 }
 
 // Whether a row has a bit.
-fn has_row(rows: &[Row], row: &[usize]) -> bool
+fn has_row(rows: &[Row], row: &[u32]) -> bool
     requires { Ascend (rows_in rows.now) }
     ensures { IsTrue result ↔ Contains (rows_in rows.now) row.now }
 {

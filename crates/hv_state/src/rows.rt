@@ -1,33 +1,35 @@
 //! Sorted lists of atoms, each as a row of numbers: its predicate's, and then its objects'.
 
-ghost use Rattle.std.specs.Prelude.{◌≡◌, ◌↔◌, ◌++◌, ◌∷◌, IsTrue, IfOk};
+ghost use Rattle.std.specs.Prelude.{◌≡◌, ◌↔◌, ◌++◌, ◌∷◌, [], IsTrue, IfOk};
 ghost use Rattle.std.specs.Ordering.{nat_cmp};
 ghost use Rattle.std.specs.Cmp.Lexicographic.{slice_cmp};
 ghost use Rattle.hv_state.specs.Atoms.{objects_read, atom_read};
 ghost use Rattle.hv_state.specs.Atoms.{row_of};
-ghost use Rattle.hv_state.specs.inside.Rows.{atom_of, rows_in, rows_with};
+ghost use Rattle.hv_state.specs.inside.Rows.{atom_of, rows_in, rows_under};
+ghost use Rattle.hv_world.specs.FactViews.{facts_view};
 ghost use Rattle.hv_state.specs.inside.Rows.{objects_with, HaveCome};
 ghost use Rattle.hv_state.specs.inside.Rows.{Ascend, HasSameRows};
 
 use crate::atom::{AtomView, Objects, object_of};
 use crate::find::HasRow;
 use hv_text::Memory;
-use hv_world::{Atom, Binding, PredicateId, Term};
+use hv_world::{Binding, Facts, PredicateId, Term};
 use smallvec::SmallVec;
 use std::alloc::Global;
 use std::cmp::Ordering;
 
 /// The row of an atom. Up to four numbers, as those of an atom of three objects, take
-/// no allocation.
+/// no allocation. A number has four bytes, since a large state waits for memory more than for
+/// anything else.
 #[derive(PartialEq, Eq, PartialOrd, Ord, Drop)]
 pub(crate) struct Row {
-    pub(crate) numbers: SmallVec<usize, 4>,
+    pub(crate) numbers: SmallVec<u32, 4>,
 }
 
 impl HasRow for Row {
     ghost numbers = { λ r. r.numbers.items };
 
-    fn row(&self) -> &[usize] {
+    fn row(&self) -> &[u32] {
         self.numbers.as_slice()
     }
 }
@@ -50,30 +52,51 @@ impl Row {
 }
 
 // The atom of a row. There is no row of no numbers, and it would read as predicate 0.
-fn atom_in(row: &[usize]) -> AtomView<'_>
+fn atom_in(row: &[u32]) -> AtomView<'_>
     ensures { atom_read result ≡ atom_of row.now }
 {
     match row {
         [] => AtomView {
             predicate: PredicateId(0),
-            objects: Objects::Given(&[]),
+            objects: Objects::OfRow(&[]),
         },
         [predicate, objects @ ..] => AtomView {
-            predicate: PredicateId(*predicate),
-            objects: Objects::Given(objects),
+            predicate: PredicateId(*predicate as usize),
+            objects: Objects::OfRow(objects),
         },
     }
 }
 
 // How objects stand to those of terms.
-fn compare_to_terms(objects: &[usize], terms: &[Term], binding: &Binding<'_>) -> Ordering
+fn compare_to_terms(objects: &[u32], terms: &[Term], binding: &Binding<'_>) -> Ordering
     ensures { result ≡ slice_cmp nat_cmp objects.now (objects_with binding.now terms.now) }
 {
     let mut left = terms;
     for object in objects {
         match left {
             [] => return Ordering::Greater,
-            [term, others @ ..] => match object.cmp(&object_of(binding, *term).0) {
+            [term, others @ ..] => match (*object as usize).cmp(&object_of(binding, *term).0) {
+                Ordering::Equal => left = others,
+                other => return other,
+            },
+        }
+    }
+    if left.is_empty() {
+        Ordering::Equal
+    } else {
+        Ordering::Less
+    }
+}
+
+// How objects stand to those of these numbers.
+fn compare_to_numbers(objects: &[u32], numbers: &[usize]) -> Ordering
+    ensures { result ≡ slice_cmp nat_cmp objects.now numbers.now }
+{
+    let mut left = numbers;
+    for object in objects {
+        match left {
+            [] => return Ordering::Greater,
+            [number, others @ ..] => match (*object as usize).cmp(number) {
                 Ordering::Equal => left = others,
                 other => return other,
             },
@@ -87,22 +110,23 @@ fn compare_to_terms(objects: &[usize], terms: &[Term], binding: &Binding<'_>) ->
 }
 
 // How objects stand to those of an atom.
-fn compare_objects(objects: &[usize], others: &Objects<'_>) -> Ordering
+fn compare_objects(objects: &[u32], others: &Objects<'_>) -> Ordering
     ensures { result ≡ slice_cmp nat_cmp objects.now (objects_read others.now) }
 {
     match others {
         Objects::OfTerms(terms, binding) => compare_to_terms(objects, terms, binding),
-        Objects::Given(given) => objects.cmp(given),
+        Objects::Given(numbers) => compare_to_numbers(objects, numbers),
+        Objects::OfRow(numbers) => objects.cmp(numbers),
     }
 }
 
 /// How a row stands to that of an atom.
-pub(crate) fn compare(row: &[usize], atom: &AtomView<'_>) -> Ordering
+pub(crate) fn compare(row: &[u32], atom: &AtomView<'_>) -> Ordering
     ensures { result ≡ slice_cmp nat_cmp row.now (row_of (atom_read atom.now)) }
 {
     match row {
         [] => Ordering::Less,
-        [predicate, objects @ ..] => match predicate.cmp(&atom.predicate.0) {
+        [predicate, objects @ ..] => match (*predicate as usize).cmp(&atom.predicate.0) {
             Ordering::Equal => compare_objects(objects, &atom.objects),
             other => other,
         },
@@ -110,7 +134,7 @@ pub(crate) fn compare(row: &[usize], atom: &AtomView<'_>) -> Ordering
 }
 
 // Whether objects are those of terms.
-fn are_of_terms(objects: &[usize], terms: &[Term], binding: &Binding<'_>) -> bool
+fn are_of_terms(objects: &[u32], terms: &[Term], binding: &Binding<'_>) -> bool
     ensures { IsTrue result ↔ (objects.now ≡ objects_with binding.now terms.now) }
 {
     let mut left = terms;
@@ -118,7 +142,27 @@ fn are_of_terms(objects: &[usize], terms: &[Term], binding: &Binding<'_>) -> boo
         match left {
             [] => return false,
             [term, others @ ..] => {
-                if *object != object_of(binding, *term).0 {
+                if *object as usize != object_of(binding, *term).0 {
+                    return false;
+                }
+                left = others;
+            }
+        }
+    }
+    left.is_empty()
+}
+
+/// Whether objects are those of these numbers.
+#[inline(always)]
+pub(crate) fn are_numbers(objects: &[u32], numbers: &[usize]) -> bool
+    ensures { IsTrue result ↔ (objects.now ≡ numbers.now) }
+{
+    let mut left = numbers;
+    for object in objects {
+        match left {
+            [] => return false,
+            [number, others @ ..] => {
+                if *object as usize != *number {
                     return false;
                 }
                 left = others;
@@ -130,31 +174,52 @@ fn are_of_terms(objects: &[usize], terms: &[Term], binding: &Binding<'_>) -> boo
 
 // Whether objects are those of an atom.
 #[inline(always)]
-fn are_objects(objects: &[usize], others: &Objects<'_>) -> bool
+fn are_objects(objects: &[u32], others: &Objects<'_>) -> bool
     ensures { IsTrue result ↔ (objects.now ≡ objects_read others.now) }
 {
     match others {
         Objects::OfTerms(terms, binding) => are_of_terms(objects, terms, binding),
-        Objects::Given(given) => objects == *given,
+        Objects::Given(numbers) => are_numbers(objects, numbers),
+        Objects::OfRow(numbers) => objects == *numbers,
     }
 }
 
 /// Whether a row is that of an atom.
 #[inline(always)]
-pub(crate) fn is_row(row: &[usize], atom: &AtomView<'_>) -> bool
+pub(crate) fn is_row(row: &[u32], atom: &AtomView<'_>) -> bool
     ensures { IsTrue result ↔ (row.now ≡ row_of (atom_read atom.now)) }
 {
     match row {
         [] => false,
         [predicate, objects @ ..] => {
-            *predicate == atom.predicate.0 && are_objects(objects, &atom.objects)
+            *predicate as usize == atom.predicate.0 && are_objects(objects, &atom.objects)
         }
     }
 }
 
+// Puts a number behind others.
+fn push_number(row: &mut SmallVec<u32, 4>, number: usize) -> Result<(), Memory>
+    ensures { IfOk result (λ _. row.new.items ≡ row.old.items ++ number ∷ []) }
+{
+    let number = u32::try_from(number).map_err(|_| Memory)?;
+    row.push(number)?;
+    Ok(())
+}
+
+// Puts numbers behind others.
+fn push_numbers(row: &mut SmallVec<u32, 4>, numbers: &[usize]) -> Result<(), Memory>
+    ensures { IfOk result (λ _. row.new.items ≡ row.old.items ++ numbers.now) }
+{
+    row.reserve_exact(numbers.len())?;
+    for number in numbers {
+        push_number(row, *number)?;
+    }
+    Ok(())
+}
+
 // Puts the objects of terms behind other numbers.
 fn push_objects(
-    row: &mut SmallVec<usize, 4>,
+    row: &mut SmallVec<u32, 4>,
     terms: &[Term],
     binding: &Binding<'_>,
 ) -> Result<(), Memory>
@@ -163,20 +228,21 @@ fn push_objects(
 {
     row.reserve_exact(terms.len())?;
     for term in terms {
-        row.push(object_of(binding, *term).0)?;
+        push_number(row, object_of(binding, *term).0)?;
     }
     Ok(())
 }
 
-// The numbers of an atom's row.
-fn numbers_of(alloc: Global, atom: &AtomView<'_>) -> Result<SmallVec<usize, 4>, Memory>
+// The numbers of an atom's row. One that does not fit into 32 bits has no room there.
+fn numbers_of(alloc: Global, atom: &AtomView<'_>) -> Result<SmallVec<u32, 4>, Memory>
     ensures { IfOk result (λ row. row.items ≡ row_of (atom_read atom.now)) }
 {
     let mut row = SmallVec::new(alloc);
-    row.push(atom.predicate.0)?;
+    push_number(&mut row, atom.predicate.0)?;
     match atom.objects {
         Objects::OfTerms(terms, binding) => push_objects(&mut row, terms, binding)?,
-        Objects::Given(objects) => row.extend_from_slice(objects)?,
+        Objects::Given(numbers) => push_numbers(&mut row, numbers)?,
+        Objects::OfRow(numbers) => row.extend_from_slice(numbers)?,
     }
     Ok(row)
 }
@@ -189,32 +255,23 @@ pub(crate) fn row_of(alloc: Global, atom: &AtomView<'_>) -> Result<Row, Memory>
     Ok(Row { numbers })
 }
 
-// Puts the rows of atoms behind others.
-fn push_rows(
-    alloc: Global,
-    rows: &mut Vec<Row>,
-    atoms: &[Atom],
-    binding: &Binding<'_>,
-) -> Result<(), Memory>
+// Puts the rows of facts behind others.
+fn push_rows(alloc: Global, rows: &mut Vec<Row>, facts: &Facts) -> Result<(), Memory>
     ensures { IfOk result
-        (λ _. HaveCome rows.old.items (rows_with binding.now atoms.now) rows.new.items) }
+        (λ _. HaveCome rows.old.items (rows_under [] (facts_view facts.now)) rows.new.items) }
 {
-    for atom in atoms {
-        rows.push(row_of(alloc, &AtomView::new(atom, &*binding))?)?;
+    for fact in facts.iter() {
+        rows.push(row_of(alloc, &AtomView::of_fact(fact))?)?;
     }
     Ok(())
 }
 
-/// The rows of atoms.
-pub(crate) fn rows_of(
-    alloc: Global,
-    atoms: &[Atom],
-    binding: &Binding<'_>,
-) -> Result<Vec<Row>, Memory>
-    ensures { IfOk result (λ rows. rows_in rows.items ≡ rows_with binding.now atoms.now) }
+/// The rows of facts.
+pub(crate) fn rows_of(alloc: Global, facts: &Facts) -> Result<Vec<Row>, Memory>
+    ensures { IfOk result (λ rows. rows_in rows.items ≡ rows_under [] (facts_view facts.now)) }
 {
-    let mut rows = Vec::with_capacity(alloc, atoms.len())?;
-    push_rows(alloc, &mut rows, atoms, binding)?;
+    let mut rows = Vec::with_capacity(alloc, facts.len())?;
+    push_rows(alloc, &mut rows, facts)?;
     Ok(rows)
 }
 

@@ -20,13 +20,13 @@ pub(crate) struct SharedRow {
 impl HasRow for SharedRow {
     ghost numbers = { shared_numbers };
 
-    fn row(&self) -> &[usize] {
+    fn row(&self) -> &[u32] {
         self.row.numbers.as_slice()
     }
 }
 
 // Takes a row out.
-fn remove(rows: &mut Vec<SharedRow>, row: &[usize])
+fn remove(rows: &mut Vec<SharedRow>, row: &[u32])
     requires { Ascend (rows_shared rows.old.items) }
     ensures ascend { Ascend (rows_shared rows.new.items) }
     ensures exact { IsWithout (rows_shared rows.old.items) row.now (rows_shared rows.new.items) }

@@ -10,7 +10,7 @@ use crate::rows::{rows_of, sort_distinct};
 use crate::shared::{SharedRow, put_all, remove_all, share, shared_again};
 use crate::state::State;
 use hv_text::Memory;
-use hv_world::{Binding, World};
+use hv_world::World;
 use std::alloc::Global;
 use std::marker::Model;
 
@@ -32,7 +32,7 @@ impl State for SortedState {
     ghost atoms = { λ s. Listed s };
 
     fn initial(alloc: Global, world: &World<'_>) -> Result<SortedState, Memory> {
-        let mut rows = rows_of(alloc, world.init(), &Binding::Given(&[]))?;
+        let mut rows = rows_of(alloc, world.init())?;
         sort_distinct(&mut rows);
         let shared = share(alloc, &rows)?;
         Ok(SortedState { rows: shared })

@@ -18,6 +18,7 @@ pub mod Groundings
 pub mod Effects
 pub mod Alike
 pub mod Views
+pub mod FactViews
 pub mod NetworkViews
 pub mod MethodViews
 pub mod SectionViews

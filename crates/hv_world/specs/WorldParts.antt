@@ -2,19 +2,20 @@
 use Rattle.std.specs.Prelude.{List, Option, map, option_map}
 use Rattle.hv_text.specs.Names.{text_of}
 use Rattle.hv_text.specs.declared.name.Name.{Name}
-use Rattle.hv_world.specs.declared.formula.Atom.{Atom}
+use Rattle.hv_world.specs.declared.facts.Facts.{Facts}
 use Rattle.hv_world.specs.declared.formula.Formula.{Formula}
 use Rattle.hv_world.specs.declared.task.Task.{Task}
 use Rattle.hv_world.specs.declared.method.Method.{Method}
 use Rattle.hv_world.specs.declared.action.Action.{Action}
-use Rattle.hv_world.specs.Views.{atom_view, formula_view}
+use Rattle.hv_world.specs.Views.{formula_view}
+use Rattle.hv_world.specs.FactViews.{facts_view}
 use Rattle.hv_world.specs.MethodViews.{method_view}
 use Rattle.hv_world.specs.SectionViews.{task_view, action_view}
 use Rattle.hv_world.specs.Types.{Typing}
 use Rattle.hv_world.specs.Worlds.{World}
 
 abbrev pub world_from : List Name → List Name → Typing → List Name → List Task → List Method
-    → List Action → List Atom → Option Formula → Method → World
+    → List Action → Facts → Option Formula → Method → World
 world_from types objects typing predicates tasks methods actions init goal top =
     record {
       types = map text_of types;
@@ -24,7 +25,7 @@ world_from types objects typing predicates tasks methods actions init goal top =
       tasks = map task_view tasks;
       methods = map method_view methods;
       actions = map action_view actions;
-      init = map atom_view init;
+      init = facts_view init;
       goal = option_map formula_view goal;
       top = method_view top;
     }

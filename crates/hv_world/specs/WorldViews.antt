@@ -6,4 +6,4 @@ use Rattle.hv_world.specs.Worlds.{World}
 abbrev pub world_view : code.World → World
 world_view w =
     world_from w.types.keys w.objects.keys w.typing w.predicates.items w.tasks.items
-    w.methods.items w.actions.items w.init.items w.goal w.top
+    w.methods.items w.actions.items w.init w.goal w.top

@@ -19,8 +19,9 @@ ghost use Rattle.hv_world.specs.Worlds.{typing_by, world_by, world_of, task_name
 
 use crate::action::Action;
 use crate::check::first_fault;
+use crate::facts::Facts;
 use crate::fault::StaticFault;
-use crate::formula::{Atom, Formula};
+use crate::formula::Formula;
 use crate::intern::lists::{add_eithers_pairs, add_object_pairs, predicate_names, type_pairs};
 use crate::method::Method;
 use crate::names::Names;
@@ -135,7 +136,7 @@ fn kinds_in<'s>(
 // What a problem starts from and what it wants, by number.
 #[derive(Drop)]
 struct Start<'s> {
-    init: Vec<Atom>,
+    init: Facts,
     goal: Option<Formula>,
     top: Method<'s>,
 }

@@ -10,6 +10,7 @@ mod build;
 mod check;
 mod checked;
 mod effect;
+mod facts;
 mod fault;
 mod formula;
 mod grounding;
@@ -39,6 +40,7 @@ pub use alike::{
 };
 pub use binding::Binding;
 pub use effect::Effect;
+pub use facts::{Fact, Facts, FactsLeft};
 pub use fault::{Side, StaticFault, StaticKind};
 pub use formula::{Atom, Constraint, Formula, Subtask, Term};
 pub use grounding::{GroundAction, GroundActions};

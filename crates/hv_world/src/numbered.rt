@@ -9,10 +9,10 @@ ghost use Rattle.hv_world.specs.inside.Tables.{known_by, HaveParameters};
 
 use crate::action::Action;
 use crate::checked::Checked;
-use crate::formula::{Atom, Formula};
-use crate::intern::lists::{
-    checked_actions, checked_compounds, checked_goal, checked_init, checked_methods,
-};
+use crate::facts::Facts;
+use crate::formula::Formula;
+use crate::intern::lists::{checked_actions, checked_compounds, checked_goal, checked_methods};
+use crate::intern::literals::checked_init;
 use crate::intern::sections::checked_top;
 use crate::method::Method;
 use crate::tables::Tables;
@@ -31,7 +31,7 @@ pub(crate) struct Numbered<'s> {
     /// The initial network, as a method.
     pub top: Checked<Option<Method<'s>>>,
     /// The atoms that are true at the start.
-    pub init: Checked<Vec<Atom>>,
+    pub init: Checked<Facts>,
     pub goal: Checked<Option<Formula>>,
 }
 

@@ -4,7 +4,8 @@ ghost use Rattle.std.specs.Prelude.{◌≡◌, ℕ, List, ◌↔◌, IsTrue, map
 ghost use Rattle.hv_text.specs.Names.{text_of};
 ghost use Rattle.hv_world.specs.Names.{place_in};
 ghost use Rattle.hv_world.specs.inside.Tables.{places_by};
-ghost use Rattle.hv_world.specs.Views.{type_number, name_view, atom_view, formula_view};
+ghost use Rattle.hv_world.specs.Views.{type_number, name_view, formula_view};
+ghost use Rattle.hv_world.specs.FactViews.{facts_view};
 ghost use Rattle.hv_world.specs.Bindings.{object_number, ground_action, ground_action_view};
 ghost use Rattle.hv_world.specs.Groundings.{AreOf, IsGrounding};
 ghost use Rattle.hv_world.specs.MethodViews.{method_view};
@@ -14,7 +15,8 @@ ghost use Rattle.hv_world.specs.SectionViews.{task_view, action_view};
 ghost use Rattle.hv_world.specs.WorldParts.{world_from};
 
 use crate::action::Action;
-use crate::formula::{Atom, Formula};
+use crate::facts::Facts;
+use crate::formula::Formula;
 use crate::grounding::GroundAction;
 use crate::id::{ActionId, MethodId, ObjectId, PredicateId, TaskId, TaskName, TypeId};
 use crate::method::Method;
@@ -37,7 +39,7 @@ pub struct World<'s> {
     pub(crate) tasks: Vec<Task<'s>>,
     pub(crate) methods: Vec<Method<'s>>,
     pub(crate) actions: Vec<Action<'s>>,
-    pub(crate) init: Vec<Atom>,
+    pub(crate) init: Facts,
     pub(crate) goal: Option<Formula>,
     pub(crate) top: Method<'s>,
     pub(crate) predicate_names: Names<'s>,
@@ -46,7 +48,7 @@ pub struct World<'s> {
     pub(crate) method_names: Names<'s>,
     pub ghost sound: { IsSound
         (world_from types.keys objects.keys typing predicates.items tasks.items methods.items
-        actions.items init.items goal top) },
+        actions.items init goal top) },
     pub ghost of_predicates: { (n : List ℕ)
         → places_by predicate_names n ≡ place_in (map text_of predicates.items) n },
     pub ghost of_tasks: { (n : List ℕ)
@@ -176,8 +178,8 @@ impl<'s> World<'s> {
     }
 
     /// The atoms that are true at the start, as written.
-    pub fn init(&self) -> &[Atom]
-        ensures { map atom_view result.now ≡ (world_view self.now).init }
+    pub fn init(&self) -> &Facts
+        ensures { facts_view result.now ≡ (world_view self.now).init }
     {
         &self.init
     }

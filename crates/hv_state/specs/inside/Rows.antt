@@ -6,9 +6,8 @@ use Rattle.std.specs.Cmp.Lexicographic.{slice_cmp}
 use Rattle.std.specs.declared.cmp.Ordering.TheVariants.{Less}
 use Rattle.hv_world.specs.Values.{Atom}
 use Rattle.hv_world.specs.Bindings.{GroundAtom, ground_atom, objects_in, object_of}
-use Rattle.hv_world.specs.Views.{term_view, atom_view}
+use Rattle.hv_world.specs.Views.{term_view}
 use Rattle.hv_world.specs.declared.binding.Binding.{Binding}
-use Rattle.hv_world.specs.declared.formula.Atom as code_atom
 use Rattle.hv_world.specs.declared.formula.Term as code_term
 use Rattle.hv_state.specs.declared.rows.Row.{Row}
 use Rattle.hv_state.specs.declared.shared.SharedRow.{SharedRow}
@@ -52,11 +51,7 @@ AreRowsOfAtoms S rows = (r : List ℕ) → Contains rows r ↔ IsRowOf S r
 abbrev pub AreRowsOf : Atoms → List Row → Type 0
 AreRowsOf S rows = AreRowsOfAtoms S (rows_in rows)
 
--- the rows of the atoms of the code, and the objects of its terms, where variables have
--- those of a binding
-abbrev pub rows_with : Binding → List code_atom.Atom → List (List ℕ)
-rows_with b atoms = rows_under (objects_in b) (map atom_view atoms)
-
+-- the objects of the terms of the code, where variables have those of a binding
 abbrev pub objects_with : Binding → List code_term.Term → List ℕ
 objects_with b terms = map (object_of (objects_in b)) (map term_view terms)
 

@@ -5,12 +5,13 @@ use Rattle.hv_syntax.specs.Values.{Domain, Problem}
 use Rattle.hv_world.specs.declared.fault.Side.TheVariants as sides
 use Rattle.hv_world.specs.declared.numbered.Numbered.{Numbered}
 use Rattle.hv_world.specs.Faults.{least}
+use Rattle.hv_world.specs.FactViews.{facts_view}
 use Rattle.hv_world.specs.Known.{Known}
 use Rattle.hv_world.specs.MethodViews.{method_view}
 use Rattle.hv_world.specs.Scopes.{parameters}
 use Rattle.hv_world.specs.SectionViews.{task_view, action_view}
 use Rattle.hv_world.specs.StaticRules.{variable_faults, method_faults, action_faults, htn_faults, literals_faults, goal_faults}
-use Rattle.hv_world.specs.Views.{atom_view, formula_view}
+use Rattle.hv_world.specs.Views.{formula_view}
 use Rattle.hv_world.specs.Worlds.{task_by, method_in, action_in, top_in, added, formula_in}
 
 -- the tasks, methods and actions are those of a domain, the methods unless one has a fault
@@ -29,7 +30,7 @@ pub record IsOfDomain (k : Known) (d : Domain) (n : Numbered) : Type 0 where
 pub record IsOfProblem (k : Known) (p : Problem) (n : Numbered) : Type 0 where
   pub top : MatchOption n.top.value (n.top.fault ≢ None) (λ m. method_view m ≡ top_in k p.htn)
   pub top_fault : n.top.fault ≡ least (htn_faults k sides.Problem p.htn)
-  pub init : map atom_view n.init.value.items ≡ added k (parameters []) p.init
+  pub init : facts_view n.init.value ≡ added k (parameters []) p.init
   pub init_fault : n.init.fault ≡ least (literals_faults k sides.Problem (parameters []) p.init)
   pub goal : option_map formula_view n.goal.value
       ≡ option_map (formula_in k (parameters [])) p.goal

@@ -9,4 +9,4 @@ abbrev pub world_of_parts : Tables → Parts → World
 world_of_parts tables parts =
     world_from tables.types.names.keys tables.objects.keys parts.kinds.typing
     parts.kinds.predicates.items parts.tasks.items parts.methods.items
-    parts.actions.items parts.start.init.items parts.start.goal parts.start.top
+    parts.actions.items parts.start.init parts.start.goal parts.start.top

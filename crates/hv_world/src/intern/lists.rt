@@ -4,25 +4,23 @@ ghost use Rattle.std.specs.Prelude.{◌≡◌, ◌++◌, [], None, length, map, 
 ghost use Rattle.std.specs.List.{flat_map};
 ghost use Rattle.hv_text.specs.Names.{text_of};
 ghost use Rattle.hv_syntax.specs.Views.{typed_view, formula_view as said_formula};
-ghost use Rattle.hv_syntax.specs.ProblemViews.{init_view as said_init};
 ghost use Rattle.hv_syntax.specs.DeclarationViews.{predicate_view as said_predicate, task_view as said_task, method_view as said_method, action_view as said_action};
 ghost use Rattle.hv_world.specs.Scopes.{parameters};
 ghost use Rattle.hv_world.specs.declared.fault.Side.TheVariants as sides;
 ghost use Rattle.hv_world.specs.Faults.{least};
-ghost use Rattle.hv_world.specs.StaticRules.{variable_faults, method_faults, action_faults, literals_faults, goal_faults};
+ghost use Rattle.hv_world.specs.StaticRules.{variable_faults, method_faults, action_faults, goal_faults};
 ghost use Rattle.hv_world.specs.inside.Tables.{known_by};
-ghost use Rattle.hv_world.specs.Views.{atom_view, formula_view};
+ghost use Rattle.hv_world.specs.Views.{formula_view};
 ghost use Rattle.hv_world.specs.MethodViews.{method_view};
 ghost use Rattle.hv_world.specs.SectionViews.{task_view, action_view};
-ghost use Rattle.hv_world.specs.Worlds.{type_pair, object_pair, either_pairs, eithers_pairs, added, formula_in, method_in, task_by, action_in};
+ghost use Rattle.hv_world.specs.Worlds.{type_pair, object_pair, either_pairs, eithers_pairs, formula_in, method_in, task_by, action_in};
 
 use crate::action::Action;
 use crate::checked::Checked;
 use crate::fault::{Side, earlier};
-use crate::formula::{Atom, Formula};
+use crate::formula::Formula;
 use crate::id::{ObjectId, TypeId};
 use crate::intern::formulas::checked_formula;
-use crate::intern::literals::checked_literals;
 use crate::intern::sections::{checked_action, checked_compound, checked_method};
 use crate::intern::types::type_of;
 use crate::method::Method;
@@ -30,9 +28,7 @@ use crate::names::Names;
 use crate::scope::Scope;
 use crate::tables::Tables;
 use crate::task::Task;
-use hv_syntax::{
-    ActionText, FormulaText, InitText, MethodText, PredicateText, TaskText, TypedText,
-};
+use hv_syntax::{ActionText, FormulaText, MethodText, PredicateText, TaskText, TypedText};
 use hv_text::{Memory, Name};
 use std::alloc::Global;
 
@@ -222,29 +218,6 @@ pub(crate) fn checked_actions<'s>(
         numbered.push(checked_action(alloc, tables, action)?)?;
     }
     Ok(numbered)
-}
-
-/// The atoms that an initial state makes true, and its first fault.
-///
-/// # Errors
-///
-/// `Memory` where a growth was refused.
-pub(crate) fn checked_init<'s>(
-    alloc: Global,
-    tables: &Tables<'s>,
-    init: &InitText<'s>,
-) -> Result<Checked<Vec<Atom>>, Memory>
-    ensures value { IfOk result
-        (λ c. map atom_view c.value.items
-        ≡ added (known_by tables.now) (parameters []) (said_init init.now)) }
-    ensures fault { IfOk result
-        (λ c. c.fault
-        ≡ least (literals_faults (known_by tables.now) sides.Problem (parameters [])
-        (said_init init.now))) }
-{
-    let names = Names::none(alloc);
-    let scope = Scope::Parameters(&names, 0);
-    checked_literals(alloc, tables, &scope, Side::Problem, init)
 }
 
 /// The goal, where there is one, and its first fault: no variable is bound around it.

@@ -5,10 +5,10 @@ ghost use Rattle.hv_syntax.specs.Views.{word_view, term_view as said_term, lent_
 ghost use Rattle.hv_world.specs.Faults.{least, fault_if};
 ghost use Rattle.hv_world.specs.Names.{is_among, number_in, number_or};
 ghost use Rattle.hv_world.specs.Scopes.{size, variable_in, is_bound};
-ghost use Rattle.hv_world.specs.StaticRules.{head_faults, term_faults, terms_faults, atom_faults};
+ghost use Rattle.hv_world.specs.StaticRules.{head_faults, term_faults, terms_faults, atom_faults, signature_arity};
 ghost use Rattle.hv_world.specs.Values.{object, variable};
 ghost use Rattle.hv_world.specs.Views.{term_view, atom_view};
-ghost use Rattle.hv_world.specs.Worlds.{term_in, terms_in, atom_in};
+ghost use Rattle.hv_world.specs.Worlds.{term_in, terms_in, atom_in, number_of};
 ghost use Rattle.hv_world.specs.declared.fault.StaticKind.TheVariants as kinds;
 ghost use Rattle.hv_world.specs.inside.Tables.{known_by, scope_view};
 
@@ -23,10 +23,36 @@ use hv_text::Memory;
 use smallvec::SmallVec;
 use std::alloc::Global;
 
-// The object that a word names, and the fault of one that is none. Where another object stood in
-// its place, the one declared behind that is looked at before all.
+/// The object that a word names, by its number, and the fault of one that is none. Where another
+/// object stood in its place, the one declared behind that is looked at before all.
 #[inline(always)]
-fn checked_object<'s>(
+pub(crate) fn checked_object<'s>(
+    tables: &Tables<'s>,
+    side: Side,
+    before: Option<usize>,
+    word: Placed<'s>,
+) -> Checked<usize>
+    ensures value { result.value
+        ≡ number_in (known_by tables.now).objects (word_view word.entry).text }
+    ensures fault { result.fault
+        ≡ fault_if (not (is_among (known_by tables.now).objects (word_view word.entry).text))
+        kinds.UnknownObject side (word_view word.entry) }
+{
+    let found = tables.object_behind(before, word.name());
+    let is_known = found.is_some();
+    let number = match found {
+        Some(number) => number,
+        None => tables.objects.len(),
+    };
+    Checked {
+        value: number,
+        fault: fault_if(!is_known, StaticKind::UnknownObject, side, word),
+    }
+}
+
+// The same, as a term.
+#[inline(always)]
+fn checked_constant<'s>(
     tables: &Tables<'s>,
     side: Side,
     other: Option<Term>,
@@ -42,15 +68,10 @@ fn checked_object<'s>(
         Some(Term::Object(object)) => Some(object.0),
         _ => None,
     };
-    let found = tables.object_behind(before, word.name());
-    let is_known = found.is_some();
-    let number = match found {
-        Some(number) => number,
-        None => tables.objects.len(),
-    };
+    let checked = checked_object(tables, side, before, word);
     Checked {
-        value: Term::Object(ObjectId(number)),
-        fault: fault_if(!is_known, StaticKind::UnknownObject, side, word),
+        value: Term::Object(ObjectId(checked.value)),
+        fault: checked.fault,
     }
 }
 
@@ -102,7 +123,7 @@ fn checked_term<'s>(
         (said_term term.entry))) }
 {
     match term {
-        TermText::Constant(word) => Ok(checked_object(tables, side, other, word)),
+        TermText::Constant(word) => Ok(checked_constant(tables, side, other, word)),
         TermText::Variable(word) => checked_variable(scope, side, other, word),
     }
 }
@@ -180,9 +201,14 @@ pub(crate) struct Head {
     pub(crate) unknown: StaticKind,
 }
 
-// The fault of a name with so many terms.
+/// The fault of a name with so many terms.
 #[inline(always)]
-fn head_fault(head: Head, side: Side, word: Placed<'_>, count: usize) -> Option<StaticFault>
+pub(crate) fn head_fault(
+    head: Head,
+    side: Side,
+    word: Placed<'_>,
+    count: usize,
+) -> Option<StaticFault>
     ensures { result ≡ least (head_faults head.unknown side (word_view word.entry) head.arity
         count) }
 {
@@ -236,6 +262,30 @@ fn parts_of(other: Option<&Atom>) -> (Option<PredicateId>, &[Term]) {
     }
 }
 
+/// The predicate that a word names, and what is known of it. Where another stood in its place, that
+/// one is looked at before all.
+pub(crate) fn predicate_of<'s>(
+    tables: &Tables<'s>,
+    guess: Option<PredicateId>,
+    word: Placed<'s>,
+) -> (PredicateId, Head)
+    ensures predicate { result.0.0 ≡ number_of ((known_by tables.now).predicate
+        (word_view word.entry).text) }
+    ensures arity { result.1.arity ≡ signature_arity ((known_by tables.now).predicate
+        (word_view word.entry).text) }
+    ensures unknown { result.1.unknown ≡ kinds.UnknownPredicate }
+{
+    let (predicate, arity) = match tables.predicate(guess, word.name()) {
+        Some(signature) => (signature.predicate, Some(signature.arity)),
+        None => (PredicateId(0), None),
+    };
+    let head = Head {
+        arity,
+        unknown: StaticKind::UnknownPredicate,
+    };
+    (predicate, head)
+}
+
 /// An atom and its first fault. Its names are compared before all with those of another, or with
 /// what is declared behind these.
 ///
@@ -259,14 +309,7 @@ pub(crate) fn checked_atom<'s>(
         (said_atom atom.entry))) }
 {
     let (guess, others) = parts_of(other);
-    let (predicate, arity) = match tables.predicate(guess, atom.symbol().name()) {
-        Some(signature) => (signature.predicate, Some(signature.arity)),
-        None => (PredicateId(0), None),
-    };
-    let head = Head {
-        arity,
-        unknown: StaticKind::UnknownPredicate,
-    };
+    let (predicate, head) = predicate_of(tables, guess, atom.symbol());
     let terms = checked_application(alloc, tables, scope, side, head, others, atom)?;
     Ok(Checked {
         value: Atom {

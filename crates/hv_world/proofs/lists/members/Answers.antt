@@ -2,7 +2,7 @@ use Rattle.std.proofs.Common.{◌≡◌, ◌<◌, ◌+◌, arith, length, ap, sy
 use Rattle.std.specs.List.{Contains}
 use Rattle.std.proofs.lemmas.List.{length-map, take_at}
 use Rattle.hv_world.specs.Types.{typing, object_numbers}
-use Rattle.hv_world.specs.inside.TypeLists.{list_of, type_numbers, type_lists, direct_lists, object_lists, AscendsBelow, AreMembersBelow}
+use Rattle.hv_world.specs.inside.TypeLists.{list_of, type_lists, direct_lists, object_lists, AscendsBelow, AreMembersBelow}
 use Rattle.hv_world.proofs.TypeLemmas.{no_objects, all_empty, next_object, second_within, starts_are, put_above_as, object_put, at_map, set_map}
 use Rattle.hv_world.proofs.lists.members.Goals as goal
 

@@ -1,4 +1,4 @@
-use Rattle.std.proofs.Common.{rules, ◌≡◌, ◌++◌, ◌↔◌, ◌≤◌, ◌*◌, List, ℕ, length, sym, subst, ap, ◌∙◌, arith}
+use Rattle.std.proofs.Common.{rules, ◌≡◌, ◌++◌, ◌↔◌, ◌≤◌, ◌*◌, List, ℕ, length, sym, subst, ap, arith}
 use Rattle.std.specs.List.{Contains}
 use Rattle.std.specs.Vec.{vec_len}
 use Rattle.std.proofs.lemmas.List.{length-map}

@@ -13,13 +13,13 @@ use Rattle.hv_world.proofs.intern.terms.checked_term.Goals as goal
 
 pub returns-in-Constant-clause-value : goal.returns-in-Constant-clause-value
 returns-in-Constant-clause-value c =
-    c.checked_object.ensures.value ∙ ap (λ t. term_in (known_by c.args.tables.now) (scope_view c.args.scope.now) (said_term t)) (sym c.in-Constant.is)
+    c.checked_constant.ensures.value ∙ ap (λ t. term_in (known_by c.args.tables.now) (scope_view c.args.scope.now) (said_term t)) (sym c.in-Constant.is)
 
 pub returns-in-Constant-clause-fault : goal.returns-in-Constant-clause-fault
 returns-in-Constant-clause-fault c =
     let k = known_by c.args.tables.now in
     let word = word_view c.in-Constant.word in
-    c.checked_object.ensures.fault
+    c.checked_constant.ensures.fault
     ∙ least-if (not (is_among k.objects word.text)) kinds.UnknownObject c.args.side word
     ∙ ap (λ t. least (term_faults k c.args.side (scope_view c.args.scope.now) (said_term t))) (sym c.in-Constant.is)
 
