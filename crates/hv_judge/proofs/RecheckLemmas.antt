@@ -1,5 +1,5 @@
 -- What the check of a certificate's text answers, and what is written of it.
-use Rattle.std.proofs.Common.{◌≡◌, ◌<◌, ◌≤◌, ◌⊎◌, inl, inr, ℕ, Bool, true, false, List, Option, None, Result, Ok, Err, IfOk, IfErr, length, sym, subst, arith}
+use Rattle.std.proofs.Common.{◌≡◌, ◌<◌, ◌≤◌, inl, inr, ℕ, Bool, true, false, List, Option, None, Result, Ok, Err, IfOk, IfErr, length, sym, subst, arith}
 use Rattle.hv_text.specs.Io.{IsRead, IsReadFault}
 use Rattle.hv_text.specs.declared.fault.TheConstants.{MOST_BYTES}
 use Rattle.hv_text.specs.declared.io.ReadFault.{ReadFault}

@@ -1,6 +1,6 @@
 -- What the judge answers of a plan in a world, from what its parts find.
-use Rattle.std.proofs.Common.{◌≡◌, ◌<◌, ◌↔◌, ℕ, Bool, List, true, false, IsTrue, IfOk, IfErr, Result, Ok, Err, Option, None, Some, option_map, length, slice_get, sym, subst, ap, ◌∙◌}
-use Rattle.hv_lists.proofs.Places.{member_at}
+use Rattle.std.proofs.Common.{◌≡◌, ◌<◌, ◌↔◌, ℕ, Bool, List, true, false, IsTrue, IfOk, IfErr, Result, Ok, Err, Option, None, Some, length, slice_get, sym, subst, ap, ◌∙◌}
+use Rattle.hv_lists.proofs.Places.{map_some, member_at}
 use Rattle.hv_lists.proofs.Pairs.{same_length}
 use Rattle.hv_world.specs.Worlds.{World}
 use Rattle.hv_world.specs.Bindings.{GroundAction}
@@ -13,6 +13,8 @@ use Rattle.hv_plan.specs.Causes.{IsTreeFault}
 use Rattle.hv_plan.specs.Shapes.{FormTree}
 use Rattle.hv_plan.specs.Fits.{FitWorld}
 use Rattle.hv_plan.specs.PlanTrees.{PlanTree, IsTreeOf, IsTreeIn, IsActionOf}
+use Rattle.hv_plan.specs.BuiltTrees.{tree_view}
+use Rattle.hv_plan.specs.declared.tree.Tree.{Tree}
 use Rattle.hv_plan.specs.declared.cause.TreeFault.{TreeFault}
 use Rattle.hv_plan.specs.declared.cause.TreeFault.TheVariants as trees
 use Rattle.hv_order.specs.Certified.{Certifies, IsUnsolvedBy}
@@ -30,9 +32,15 @@ use Rattle.hv_judge.specs.Verdicts.{IsVerdict}
 use Rattle.hv_judge.specs.inside.Ends.{Ends, Explains, tree_end, run_end, unsolved_end, IsEndInOrder}
 
 -- the tree that was built is the plan's
-pub has_tree : (w : World) (p : Plan) (t : PlanTree)
+has_tree : (w : World) (p : Plan) (t : PlanTree)
     → FormTree p × FitWorld w p × IsTreeOf w p t → HasTree w p t
 has_tree w p t (forms, fits, is_tree) = record { forms = forms; fits = fits; is_tree = is_tree }
+
+pub has_trees : {E : Type 0} (w : World) (p : Plan) (r : Result Tree E)
+    → IfOk r (λ t. FormTree p × FitWorld w p × IsTreeOf w p (tree_view t))
+    → IfOk r (λ t. HasTree w p (tree_view t))
+has_trees w p (Ok t) h = has_tree w p (tree_view t) h
+has_trees w p (Err e) h = tt
 
 -- it is a tree of the world
 pub tree_in : (w : World) (p : Plan) (t : PlanTree) → HasTree w p t → IsTreeIn w t
@@ -53,11 +61,11 @@ action_line w p t k tree within =
 
 -- a plan with an action that is not applicable fails at the line of the first
 pub no_run : (w : World) (p : Plan) (t : PlanTree) (limit : ℕ) (f : Stop) → HasTree w p t
-    → IsStop (run_of w t) f → Ends (λ v. IsVerdict limit v w p) (run_end p.actions f)
+    → IsStop (run_of w t) f → Ends (λ v. IsVerdict limit v w p) (run_end t.action_lines f)
 no_run w p t limit (stops.Inapplicable k) tree h =
     let line = action_line w p t k tree h.0 in
     subst (λ o. IsCauseOf w p limit (record { kind = causes.Inapplicable; line = o }))
-    (sym (ap (option_map (λ a. a.line)) line.1))
+    (sym (ap (λ ls. slice_get ls k) tree.is_tree.action_lines ∙ map_some (λ a. a.line) p.actions k line.0 line.1))
     (by_action t k line.0 tree h line.1)
 no_run w p t limit stops.Memory tree h = tt
 

@@ -11,13 +11,14 @@ ghost use Rattle.hv_judge.specs.Solutions.{SolvesBy};
 use crate::judgement::{first_too_long, read_world};
 use crate::not_solved::NotSolved;
 use crate::rejection::reported_cert;
+use crate::verdict::tree_of;
 use hv_answer::{Fault, Which};
 use hv_certificate::{CertFault, Certificate};
 use hv_match::counts_are_one;
 use hv_order::certified_plans::certified_plans_are_solved;
 use hv_order::check::certifies;
 use hv_plan::{
-    PlanFault, PlanText, Tree, TreeFault, a_plan_has_one_tree, a_tree_or_a_cause, plans_are_small,
+    PlanFault, PlanText, TreeFault, a_plan_has_one_tree, a_tree_or_a_cause, plans_are_small,
     read_plan,
 };
 use hv_state::{BitState, Stop, Trace};
@@ -144,26 +145,26 @@ fn goal_count(world: &World<'_>) -> u64
 pub(crate) fn check_plan<'s>(
     alloc: Global,
     world: &World<'s>,
-    plan: &PlanText<'s>,
+    plan: PlanText<'s>,
     certificate: &Certificate<'s>,
 ) -> Result<Examined, Memory>
     requires top { HasNoPrecondition (world_view world.now) }
-    requires small { length (plan_view plan.now).actions
-        + length (plan_view plan.now).decompositions < 4294967295 }
+    requires small { length (plan_view plan).actions
+        + length (plan_view plan).decompositions < 4294967295 }
     ensures certified { IfOk result (λ found.
-        Tells (SolvesBy (world_view world.now) (plan_view plan.now) certificate.now)
+        Tells (SolvesBy (world_view world.now) (plan_view plan.entry) certificate.now)
         found.recheck.certified) }
     ensures evaluated { IfOk result (λ found.
-        CountsFormulas (world_view world.now) (plan_view plan.now) found.recheck) }
+        CountsFormulas (world_view world.now) (plan_view plan.entry) found.recheck) }
     ensures line { IfOk result (λ found.
-        TellsLine (world_view world.now) (plan_view plan.now) certificate.now
+        TellsLine (world_view world.now) (plan_view plan.entry) certificate.now
         found.recheck.certified found.misfit) }
 {
     a_plan_has_one_tree();
     a_tree_or_a_cause();
     counts_are_one();
     certified_plans_are_solved();
-    let tree = match Tree::build(alloc, world, plan) {
+    let tree = match tree_of(alloc, world, plan) {
         Ok(tree) => tree,
         Err(TreeFault::Cause(_)) => return Ok(Examined::no_plan(0)),
         Err(TreeFault::Memory) => return Err(Memory),
@@ -213,6 +214,6 @@ pub fn check<'s>(
     }
     let world = read_world(alloc, domain, problem)?;
     let plan = read_plan(alloc, plan)?;
-    let found = check_plan(alloc, &world, &plan, certificate)?;
+    let found = check_plan(alloc, &world, plan, certificate)?;
     Ok(found.recheck.certified)
 }

@@ -119,7 +119,7 @@ fn judge_texts<'s>(
     }
     let world = read_world(alloc, domain, problem)?;
     let plan = read_plan(alloc, plan)?;
-    judge_plan(alloc, &world, &plan, limit, explain)
+    judge_plan(alloc, &world, plan, limit, explain)
 }
 
 /// Judges whether a plan solves a problem of a domain. Where a node of the plan has more choices

@@ -10,7 +10,7 @@ use hv_match::{Matcher, exceeds};
 use hv_plan::Tree;
 
 // The line of the node at a place in the order of nodes, where its count is above the limit.
-fn above_at(matcher: &Matcher<'_>, tree: &Tree<'_, '_>, place: usize, limit: u64) -> Option<u32>
+fn above_at(matcher: &Matcher<'_>, tree: &Tree, place: usize, limit: u64) -> Option<u32>
     requires { IsTreeIn matcher.now (tree_view tree.now) }
     ensures { MatchOption result
         (IsWithinAt matcher.now (tree_view tree.now) limit place)
@@ -25,7 +25,7 @@ fn above_at(matcher: &Matcher<'_>, tree: &Tree<'_, '_>, place: usize, limit: u64
 }
 
 /// The line of the first node whose count is above the limit, in the order of nodes.
-pub(crate) fn first_above(matcher: &Matcher<'_>, tree: &Tree<'_, '_>, limit: u64) -> Option<u32>
+pub(crate) fn first_above(matcher: &Matcher<'_>, tree: &Tree, limit: u64) -> Option<u32>
     requires { IsTreeIn matcher.now (tree_view tree.now) }
     ensures { MatchOption result
         (IsWithinLimit matcher.now (tree_view tree.now) limit)

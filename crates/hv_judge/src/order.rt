@@ -24,7 +24,7 @@ pub(crate) fn find_solution<'s>(
     alloc: Global,
     world: &World<'s>,
     matcher: &Matcher<'_>,
-    tree: &Tree<'_, '_>,
+    tree: &Tree,
     trace: &Trace<'_, BitState>,
     explain: bool,
 ) -> Result<Option<Certificate<'s>>, NotSolved>

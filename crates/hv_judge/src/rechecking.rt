@@ -26,14 +26,14 @@ use std::alloc::Global;
 fn check_text<'s>(
     alloc: Global,
     world: &World<'s>,
-    plan: &PlanText<'s>,
+    plan: PlanText<'s>,
     certificate: &'s [u8],
 ) -> Result<Examined, CheckFault>
     requires top { HasNoPrecondition (world_view world.now) }
-    requires small { length (plan_view plan.now).actions
-        + length (plan_view plan.now).decompositions < 4294967295 }
+    requires small { length (plan_view plan).actions
+        + length (plan_view plan).decompositions < 4294967295 }
     ensures ok { IfOk result (λ found. IsExaminedOf
-        certificate.entry.now found (world_view world.now) (plan_view plan.now)) }
+        certificate.entry.now found (world_view world.now) (plan_view plan.entry)) }
     ensures err { IfErr result (IsCertEnd certificate.entry.now) }
 {
     let certificate = read_cert(alloc, certificate)?;
@@ -66,7 +66,7 @@ pub fn examine<'s>(
     }
     let world = read_world(alloc, domain, problem)?;
     let plan = read_plan(alloc, plan)?;
-    check_text(alloc, &world, &plan, certificate)
+    check_text(alloc, &world, plan, certificate)
 }
 
 /// Checks the text of a certificate, which is read and then checked as by `check`; no formula is

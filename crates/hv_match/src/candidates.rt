@@ -308,7 +308,7 @@ impl<'a> Candidates<'a> {
         alloc: Global,
         room: CandidateRoom<'a>,
         table: &'a MethodTable<'a>,
-        tree: &'a Tree<'_, '_>,
+        tree: &'a Tree,
         node: &Node<'a>,
         ever: Option<EverTrue<'a>>,
     ) -> Result<Candidates<'a>, Memory>
@@ -335,7 +335,7 @@ impl<'a> Candidates<'a> {
         alloc: Global,
         room: CandidateRoom<'a>,
         matcher: &'a Matcher<'_>,
-        tree: &'a Tree<'_, '_>,
+        tree: &'a Tree,
         node: u32,
         ever: Option<EverTrue<'a>>,
     ) -> Result<Candidates<'a>, Memory>

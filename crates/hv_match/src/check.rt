@@ -65,7 +65,7 @@ fn are_all_places(room: &mut Vec<bool>, places: &[u32], count: usize) -> Result<
 
 // Whether the child at a place does what a subtask says.
 fn does(
-    tree: &Tree<'_, '_>,
+    tree: &Tree,
     children: &[Child],
     place: usize,
     values: &[usize],
@@ -84,7 +84,7 @@ fn does(
 
 // Whether the children at these places do what the subtasks say.
 fn all_do(
-    tree: &Tree<'_, '_>,
+    tree: &Tree,
     children: &[Child],
     places: &[u32],
     values: &[usize],
@@ -124,7 +124,7 @@ fn numbers<'r>(room: &'r mut Vec<usize>, objects: &[ObjectId]) -> Result<&'r [us
 fn is_candidate_by(
     room: &mut Room,
     world: &World<'_>,
-    tree: &Tree<'_, '_>,
+    tree: &Tree,
     node: &Node<'_>,
     method: &Method<'_>,
     children: &[u32],
@@ -152,7 +152,7 @@ fn is_candidate_by(
 pub fn is_candidate(
     room: &mut Room,
     world: &World<'_>,
-    tree: &Tree<'_, '_>,
+    tree: &Tree,
     node: u32,
     children: &[u32],
     objects: &[ObjectId],

@@ -108,7 +108,7 @@ fn is_greater(count: Option<u64>, limit: u64) -> bool
 /// How many candidates a node may have at most, by its method alone: for each class of alike
 /// subtasks the factorial of its size, times for each free parameter the number of objects of its
 /// type. A greater number than a `u64` holds counts as the greatest that it does.
-pub fn count(matcher: &Matcher<'_>, tree: &Tree<'_, '_>, node: u32) -> u64
+pub fn count(matcher: &Matcher<'_>, tree: &Tree, node: u32) -> u64
     requires tree { IsTreeIn matcher.now (tree_view tree.now) }
     requires node { node < length (tree_view tree.now).nodes }
     ensures { CountIsAt matcher.now (tree_view tree.now) node (λ k. result ≡ capped k) }
@@ -118,7 +118,7 @@ pub fn count(matcher: &Matcher<'_>, tree: &Tree<'_, '_>, node: u32) -> u64
 }
 
 /// Whether the count of a node, however great it is, is greater than a limit.
-pub fn exceeds(matcher: &Matcher<'_>, tree: &Tree<'_, '_>, node: u32, limit: u64) -> bool
+pub fn exceeds(matcher: &Matcher<'_>, tree: &Tree, node: u32, limit: u64) -> bool
     requires tree { IsTreeIn matcher.now (tree_view tree.now) }
     requires node { node < length (tree_view tree.now).nodes }
     ensures { TellsIfAbove matcher.now (tree_view tree.now) node limit result }

@@ -69,7 +69,7 @@ fn node_work<'a>(node: &Node<'a>) -> Option<Work<'a>>
 }
 
 /// What a child does, where the tree has it.
-pub(crate) fn work<'a>(tree: &'a Tree<'_, '_>, child: Child) -> Option<Work<'a>>
+pub(crate) fn work<'a>(tree: &'a Tree, child: Child) -> Option<Work<'a>>
     ensures { option_map as_subtask (option_map work_view result)
         ≡ candidates.child_task (tree_view tree.now) (child_view child) }
 {
@@ -88,7 +88,7 @@ pub(crate) fn work<'a>(tree: &'a Tree<'_, '_>, child: Child) -> Option<Work<'a>>
 // What these children do, in a list that had others.
 fn works<'a>(
     room: Vec<Option<Work<'a>>>,
-    tree: &'a Tree<'_, '_>,
+    tree: &'a Tree,
     children: &[Child],
 ) -> Result<Vec<Option<Work<'a>>>, Memory>
     ensures { IfOk result (λ v. AreWorks (map (option_map work_view) v.items)
@@ -153,7 +153,7 @@ pub(crate) fn puzzle<'a>(
     alloc: Global,
     room: Vec<Option<Work<'a>>>,
     table: &'a MethodTable<'a>,
-    tree: &'a Tree<'_, '_>,
+    tree: &'a Tree,
     node: &Node<'a>,
     ever: Option<EverTrue<'a>>,
 ) -> Result<Puzzle<'a>, Memory>

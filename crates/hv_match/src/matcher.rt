@@ -93,7 +93,7 @@ impl<'w> Matcher<'w> {
     #[inline(always)]
     pub(crate) fn node_and_table<'a>(
         &'a self,
-        tree: &'a Tree<'_, '_>,
+        tree: &'a Tree,
         node: u32,
     ) -> (Node<'a>, &'a MethodTable<'w>)
         requires tree { IsTreeIn self.now (tree_view tree.now) }

@@ -25,7 +25,7 @@ fn node_method<'a, 's>(world: &'a World<'s>, node: &Node<'_>) -> Option<&'a Meth
 /// The node of a number of a tree of this world, and its method.
 pub(crate) fn node_and_method<'a, 's>(
     world: &'a World<'s>,
-    tree: &'a Tree<'_, '_>,
+    tree: &'a Tree,
     node: u32,
 ) -> (Node<'a>, &'a Method<'s>)
     requires tree { IsTreeIn (world_view world.now) (tree_view tree.now) }

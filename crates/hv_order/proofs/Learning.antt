@@ -1,5 +1,5 @@
 -- What is learned is right, and less is left to be learned.
-use Rattle.std.proofs.Common.{◌≡◌, ℕ, zero, suc, ◌+◌, ◌<◌, ◌≤◌, ◌⊎◌, inl, inr, ◌∙◌, true, false, List, length, slice_get, refl, sym, ap, subst, arith, Option, Some, None, is_some, if◌then◌else◌}
+use Rattle.std.proofs.Common.{◌≡◌, ℕ, zero, suc, ◌+◌, ◌<◌, ◌≤◌, ◌⊎◌, inl, inr, ◌∙◌, true, false, List, [], length, slice_get, refl, sym, ap, subst, arith, Option, Some, None, is_some, if◌then◌else◌}
 use Rattle.std.specs.Global.{Vec}
 use Rattle.std.specs.List.{slice_set}
 use Rattle.std.proofs.lemmas.Bool.{cases_lt}
@@ -140,6 +140,9 @@ remembered q size m m' v s r are same kept is =
 -- one may be taken
 pub still_known : (q : Facts) (size : ℕ) (m m' : Memo) → AreKnown q size m → SameRuns m m' → OnlyTaken m m' → AreKnown q size m'
 still_known q size m m' are same only = still_right q size m m' are same (λ v w e. are.won v w (only.won v w e))
+
+pub none_left : (m m' : Memo) → m'.won.items ≡ [] → OnlyTaken m m'
+none_left m m' none = record { won = λ v w at. absurd (not_some w (sym (ap (λ won. said_of won v) none) ∙ at)) }
 
 pub only_taken : (m m' : Memo) (v : ℕ) → v < length m.won.items → m'.won.items ≡ slice_set m.won.items v None → OnlyTaken m m'
 only_taken m m' v lt is = record { won = λ w x said. by w x (number_cases w v) (sym (ap (λ k. said_of k w) is) ∙ said) }

@@ -1,6 +1,5 @@
 -- Where no precondition counts for a node, it is over at the same states when each is taken as true.
 use Rattle.std.proofs.Common.{◌≡◌, ℕ, zero, suc, ◌+◌, ◌<◌, ◌≤◌, ◌⊎◌, inl, inr, Bool, true, false, List, [], ◌∷◌, ◌++◌, length, map, take, get_or, refl, sym, ap, ◌∙◌, subst, arith, Contains, Option, None, Some}
-use Rattle.std.proofs.lemmas.Bool.{cases_lt}
 use Rattle.std.proofs.lemmas.List.Elements.{Contains-push_cases}
 use Rattle.hv_lists.proofs.Contained.{none_in_empty}
 use Rattle.hv_lists.proofs.Places.{take_one, map_end}

@@ -28,11 +28,7 @@ pub struct Chosen<'a> {
 }
 
 /// Puts the ids of children in place of those that a list has.
-pub(crate) fn put_ids(
-    ids: &mut Vec<u64>,
-    tree: &Tree<'_, '_>,
-    children: &[Child],
-) -> Result<(), Memory>
+pub(crate) fn put_ids(ids: &mut Vec<u64>, tree: &Tree, children: &[Child]) -> Result<(), Memory>
     requires { All (HasId (tree_view tree.now)) (map child_view children.now) }
     ensures { OnOk result (AreIdsOf (tree_view tree.now) children.now ids.new.items) }
 {
@@ -44,7 +40,7 @@ pub(crate) fn put_ids(
 }
 
 /// The ids of children.
-pub fn child_ids(alloc: Global, tree: &Tree<'_, '_>, children: &[Child]) -> Result<Vec<u64>, Memory>
+pub fn child_ids(alloc: Global, tree: &Tree, children: &[Child]) -> Result<Vec<u64>, Memory>
     requires { All (HasId (tree_view tree.now)) (map child_view children.now) }
     ensures { IfOk result (λ ids. AreIdsOf (tree_view tree.now) children.now ids.items) }
 {
@@ -76,7 +72,7 @@ pub fn names_of<'s>(
 pub fn write_choice<'s>(
     alloc: Global,
     world: &World<'s>,
-    tree: &Tree<'_, '_>,
+    tree: &Tree,
     chosen: &Chosen<'_>,
 ) -> Result<Choice<'s>, Memory>
     requires { IsWritable (world_view world.now) (tree_view tree.now) chosen.now }
@@ -91,7 +87,7 @@ pub fn write_choice<'s>(
 pub fn write_line<'s>(
     alloc: Global,
     world: &World<'s>,
-    tree: &Tree<'_, '_>,
+    tree: &Tree,
     chosen: &[Chosen<'_>],
     node: u32,
 ) -> Result<(u64, Choice<'s>, u32), Memory>
@@ -114,7 +110,7 @@ pub fn write_line<'s>(
 pub fn write_lines<'s>(
     alloc: Global,
     world: &World<'s>,
-    tree: &Tree<'_, '_>,
+    tree: &Tree,
     chosen: &[Chosen<'_>],
 ) -> Result<Vec<(u64, Choice<'s>, u32)>, Memory>
     requires tree { IsTreeIn (world_view world.now) (tree_view tree.now) }
@@ -134,7 +130,7 @@ pub fn write_lines<'s>(
 pub fn write_certificate<'s>(
     alloc: Global,
     world: &World<'s>,
-    tree: &Tree<'_, '_>,
+    tree: &Tree,
     chosen: &[Chosen<'_>],
 ) -> Result<Certificate<'s>, Memory>
     requires tree { IsTreeIn (world_view world.now) (tree_view tree.now) }

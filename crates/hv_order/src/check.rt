@@ -64,7 +64,7 @@ fn latest(finishes: &[u64], children: &[Child], at: u32) -> u64
 fn finishes(
     alloc: Global,
     _world: &World<'_>,
-    tree: &Tree<'_, '_>,
+    tree: &Tree,
     starts: &[u32],
 ) -> Result<Vec<u64>, Memory>
     requires tree { IsTreeIn (world_view _world.now) (tree_view tree.now) }
@@ -155,7 +155,7 @@ fn start_behind(starts: &[u32], children: &[Child], at: u32) -> bool
 // Whether the children of a node start behind its precondition, and in its method's order.
 fn keeps_node(
     world: &World<'_>,
-    tree: &Tree<'_, '_>,
+    tree: &Tree,
     entries: &NodeEntries,
     finishes: &[u64],
     node: u32,
@@ -182,7 +182,7 @@ fn keeps_node(
 // A node whose children do not; None where those of all nodes do.
 fn out_of_order(
     world: &World<'_>,
-    tree: &Tree<'_, '_>,
+    tree: &Tree,
     entries: &NodeEntries,
     finishes: &[u64],
 ) -> Option<u32>
@@ -207,7 +207,7 @@ fn out_of_order(
 // the plan is; None where all nodes keep them.
 fn late(
     world: &World<'_>,
-    tree: &Tree<'_, '_>,
+    tree: &Tree,
     entries: &NodeEntries,
     finishes: &[u64],
     places: &[u32],
@@ -235,7 +235,7 @@ fn late(
 fn keep_rules<'s>(
     alloc: Global,
     world: &World<'s>,
-    tree: &Tree<'_, '_>,
+    tree: &Tree,
     trace: &Trace<'_, BitState>,
     certificate: &Certificate<'s>,
     evaluated: &mut u64,
@@ -287,7 +287,7 @@ pub struct Checked {
 pub fn certifies<'s>(
     alloc: Global,
     world: &World<'s>,
-    tree: &Tree<'_, '_>,
+    tree: &Tree,
     trace: &Trace<'_, BitState>,
     certificate: &Certificate<'s>,
 ) -> Result<Checked, Memory>

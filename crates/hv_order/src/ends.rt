@@ -42,7 +42,7 @@ pub fn latest_end(ends: &[u32], children: &[Child]) -> u32
 
 /// For each node of a tree the state behind the last action below it, which it is over no earlier
 /// than; the first state, where there is none.
-pub(crate) fn ends_of(alloc: Global, tree: &Tree<'_, '_>) -> Result<Vec<u32>, Memory>
+pub(crate) fn ends_of(alloc: Global, tree: &Tree) -> Result<Vec<u32>, Memory>
     ensures { IfOk result (λ ends. AreEnds (tree_view tree.now) ends.items) }
 {
     let count = tree.node_count();

@@ -77,12 +77,7 @@ pub struct Part<'a, 's> {
 
 // Whether a certificate's line for a place in the order of nodes begins with the id of the
 // decomposition line that stands there.
-fn has_line(
-    _world: &World<'_>,
-    tree: &Tree<'_, '_>,
-    certificate: &Certificate<'_>,
-    place: u32,
-) -> bool
+fn has_line(_world: &World<'_>, tree: &Tree, certificate: &Certificate<'_>, place: u32) -> bool
     requires tree { IsTreeIn (world_view _world.now) (tree_view tree.now) }
     requires behind { 0 < place }
     requires place { place < length (tree_view tree.now).nodes }
@@ -101,7 +96,7 @@ fn has_line(
 /// order of the text.
 pub(crate) fn other_line(
     world: &World<'_>,
-    tree: &Tree<'_, '_>,
+    tree: &Tree,
     certificate: &Certificate<'_>,
 ) -> Option<u32>
     requires { IsTreeIn (world_view world.now) (tree_view tree.now) }
@@ -122,11 +117,7 @@ pub(crate) fn other_line(
 }
 
 /// For each node the place at which it stands in their order.
-pub(crate) fn places(
-    alloc: Global,
-    _world: &World<'_>,
-    tree: &Tree<'_, '_>,
-) -> Result<Vec<u32>, Memory>
+pub(crate) fn places(alloc: Global, _world: &World<'_>, tree: &Tree) -> Result<Vec<u32>, Memory>
     requires { IsTreeIn (world_view _world.now) (tree_view tree.now) }
     ensures { IfOk result (λ v. ArePlaces (tree_view tree.now) v.items) }
 {
@@ -167,7 +158,7 @@ pub(crate) fn said_at<'a, 's>(certificate: &'a Certificate<'s>, place: usize) ->
 // counted, of each decomposition line; the root line's is always true.
 fn holds(
     world: &World<'_>,
-    tree: &Tree<'_, '_>,
+    tree: &Tree,
     trace: &Trace<'_, BitState>,
     node: u32,
     objects: &[ObjectId],
@@ -202,7 +193,7 @@ fn put_entry<'s>(
     alloc: Global,
     room: &mut Room,
     world: &World<'s>,
-    tree: &Tree<'_, '_>,
+    tree: &Tree,
     trace: &Trace<'_, BitState>,
     node: u32,
     said: Part<'_, 's>,
@@ -246,7 +237,7 @@ fn put_entry<'s>(
 pub(crate) fn entries<'s>(
     alloc: Global,
     world: &World<'s>,
-    tree: &Tree<'_, '_>,
+    tree: &Tree,
     trace: &Trace<'_, BitState>,
     certificate: &Certificate<'s>,
     places: &[u32],

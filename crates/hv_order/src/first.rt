@@ -15,7 +15,7 @@ use std::alloc::Global;
 pub fn has_candidate<'a>(
     alloc: Global,
     matcher: &'a Matcher<'_>,
-    tree: &'a Tree<'_, '_>,
+    tree: &'a Tree,
     node: u32,
 ) -> Result<bool, Memory>
     requires tree { IsTreeIn matcher.now (tree_view tree.now) }
@@ -38,7 +38,7 @@ pub fn has_candidate<'a>(
 fn is_bound(
     alloc: Global,
     matcher: &Matcher<'_>,
-    tree: &Tree<'_, '_>,
+    tree: &Tree,
     bound: &[bool],
     node: u32,
 ) -> Result<bool, Memory>
@@ -58,7 +58,7 @@ fn is_bound(
 pub fn first_without(
     alloc: Global,
     matcher: &Matcher<'_>,
-    tree: &Tree<'_, '_>,
+    tree: &Tree,
     bound: &[bool],
 ) -> Result<Option<u32>, Memory>
     requires tree { IsTreeIn matcher.now (tree_view tree.now) }

@@ -42,7 +42,7 @@ pub fn earliest_first(firsts: &[u32], children: &[Child]) -> u32
 
 /// For each node of a tree the state that the first action below it begins in, which it begins no
 /// later than; a state behind all of the plan, where there is none.
-pub(crate) fn firsts_of(alloc: Global, tree: &Tree<'_, '_>) -> Result<Vec<u32>, Memory>
+pub(crate) fn firsts_of(alloc: Global, tree: &Tree) -> Result<Vec<u32>, Memory>
     ensures { IfOk result (λ firsts. AreFirsts (tree_view tree.now) firsts.items) }
 {
     let count = tree.node_count();

@@ -9,7 +9,7 @@ ghost use Rattle.hv_order.specs.inside.Writings.{IsIdOf, HasId};
 use hv_plan::{Child, Tree};
 
 /// The number of the node at a place in the order of nodes.
-pub fn number_at(tree: &Tree<'_, '_>, place: usize) -> u32
+pub fn number_at(tree: &Tree, place: usize) -> u32
     requires { place < length (tree_view tree.now).order }
     ensures { slice_get (tree_view tree.now).order place ≡ Some result }
 {
@@ -20,7 +20,7 @@ pub fn number_at(tree: &Tree<'_, '_>, place: usize) -> u32
 }
 
 /// The number of the line of a node.
-pub fn line_of(tree: &Tree<'_, '_>, node: u32) -> u32
+pub fn line_of(tree: &Tree, node: u32) -> u32
     requires { node < length (tree_view tree.now).nodes }
     ensures { NodeIs (tree_view tree.now) (λ n. n.line ≡ result) node }
 {
@@ -31,7 +31,7 @@ pub fn line_of(tree: &Tree<'_, '_>, node: u32) -> u32
 }
 
 /// The id with which the line of a child begins.
-pub fn child_id(tree: &Tree<'_, '_>, child: Child) -> u64
+pub fn child_id(tree: &Tree, child: Child) -> u64
     requires { HasId (tree_view tree.now) (child_view child) }
     ensures { IsIdOf (tree_view tree.now) (child_view child) result }
 {

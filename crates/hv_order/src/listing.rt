@@ -41,7 +41,7 @@ pub(crate) fn candidates_of<'a>(
     alloc: Global,
     room: CandidateRoom<'a>,
     matcher: &'a Matcher<'_>,
-    tree: &'a Tree<'_, '_>,
+    tree: &'a Tree,
     number: u32,
     sequencing: Rc<Sequencing>,
     spans: Rc<Spans>,

@@ -1,5 +1,5 @@
 //! What is known of the least finishes of a plan's nodes, while they are worked out on demand.
-ghost use Rattle.std.specs.Prelude.{◌≡◌, ◌<◌, ◌≤◌, length, IfOk, OnOk, is_some, true};
+ghost use Rattle.std.specs.Prelude.{◌≡◌, ◌<◌, ◌≤◌, [], length, IfOk, OnOk, is_some, true};
 ghost use Rattle.hv_order.specs.inside.Memos.{found, as_finish, finish_from, IsSmall, IsEmptyList, KnowsNothing, Keeps, KeepsOnly, KeepsSpans, SameRuns, IsRemembered, IsTaken, OnlyTaken, TellsFinishes};
 
 use crate::memory::Memory;
@@ -171,6 +171,15 @@ impl Memo {
         } else {
             None
         }
+    }
+
+    /// Gives back the places of winners, once all that are wanted are taken: each is larger than all
+    /// else that is known of a node.
+    pub fn forget_winners(&mut self)
+        ensures same { SameRuns self.old self.new }
+        ensures gone { self.new.won.items ≡ [] }
+    {
+        self.won = Vec::new(*self.won.allocator());
     }
 
     /// Keeps what is known of the nodes that are to be kept, one interval of each, and

@@ -88,7 +88,7 @@ pub(crate) fn put_places(
     alloc: Global,
     places: &mut Vec<u32>,
     own: &mut Vec<u64>,
-    tree: &Tree<'_, '_>,
+    tree: &Tree,
     children: &[Child],
     ids: &[u64],
 ) -> Result<(), Memory>

@@ -24,7 +24,7 @@ pub(crate) fn method_for<'a, 's>(world: &'a World<'s>, node: &Node<'_>) -> Optio
 /// The method of the node of a number, where there is one.
 pub(crate) fn method_if<'a, 's>(
     world: &'a World<'s>,
-    tree: &Tree<'_, '_>,
+    tree: &Tree,
     number: u32,
 ) -> Option<&'a Method<'s>>
     ensures { option_map (λ m. method_view m.now) result
@@ -36,7 +36,7 @@ pub(crate) fn method_if<'a, 's>(
 
 /// The node of a number. It is inlined, so that what is not asked of the node is not looked up.
 #[inline(always)]
-pub(crate) fn node_of<'a>(tree: &'a Tree<'_, '_>, number: u32) -> Node<'a>
+pub(crate) fn node_of<'a>(tree: &'a Tree, number: u32) -> Node<'a>
     requires number { number < length (tree_view tree.now).nodes }
     ensures { slice_get (tree_view tree.now).nodes number ≡ Some (node_view result) }
 {
@@ -47,11 +47,7 @@ pub(crate) fn node_of<'a>(tree: &'a Tree<'_, '_>, number: u32) -> Node<'a>
 }
 
 /// The method of the node of a number, in a tree of this world.
-pub(crate) fn method_of<'a, 's>(
-    world: &'a World<'s>,
-    tree: &Tree<'_, '_>,
-    number: u32,
-) -> &'a Method<'s>
+pub(crate) fn method_of<'a, 's>(world: &'a World<'s>, tree: &Tree, number: u32) -> &'a Method<'s>
     requires tree { IsTreeIn (world_view world.now) (tree_view tree.now) }
     requires number { number < length (tree_view tree.now).nodes }
     ensures { method_at (world_view world.now) (tree_view tree.now) number

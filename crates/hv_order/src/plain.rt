@@ -28,7 +28,7 @@ fn are_plain(plain: &[bool], children: &[Child]) -> bool
 }
 
 // Whether the method of a node has no precondition, and all nodes among its children are plain.
-fn is_plain(world: &World<'_>, tree: &Tree<'_, '_>, plain: &[bool], number: u32) -> bool
+fn is_plain(world: &World<'_>, tree: &Tree, plain: &[bool], number: u32) -> bool
     ensures { result ≡ true
         → IsPlain (world_view world.now) (tree_view tree.now) plain.now number }
 {
@@ -46,7 +46,7 @@ fn is_plain(world: &World<'_>, tree: &Tree<'_, '_>, plain: &[bool], number: u32)
 pub(crate) fn plain_nodes(
     alloc: Global,
     world: &World<'_>,
-    tree: &Tree<'_, '_>,
+    tree: &Tree,
 ) -> Result<Vec<bool>, Memory>
     ensures { IfOk result
         (λ plain. ArePlain (world_view world.now) (tree_view tree.now) plain.items) }

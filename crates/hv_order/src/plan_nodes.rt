@@ -39,7 +39,7 @@ use std::rc::Rc;
 pub struct PlanNodes<'a> {
     world: &'a World<'a>,
     matcher: &'a Matcher<'a>,
-    tree: &'a Tree<'a, 'a>,
+    tree: &'a Tree,
     trace: &'a Trace<'a, BitState>,
     is_with: bool,
     sequencings: Sequencings,
@@ -83,7 +83,7 @@ impl<'a> PlanNodes<'a> {
         alloc: Global,
         world: &'a World<'a>,
         matcher: &'a Matcher<'a>,
-        tree: &'a Tree<'a, 'a>,
+        tree: &'a Tree,
         trace: &'a Trace<'a, BitState>,
         is_with: bool,
     ) -> Result<PlanNodes<'a>, Memory>
@@ -123,7 +123,7 @@ impl<'a> PlanNodes<'a> {
     }
 
     /// The tree of the plan.
-    pub fn tree(&self) -> &'a Tree<'a, 'a>
+    pub fn tree(&self) -> &'a Tree
         ensures { self.now.tree ≡ tree_view result.now }
     {
         self.tree

@@ -104,7 +104,7 @@ impl<'a, 's> Rows<'a, 's> {
         alloc: Global,
         world: &'a World<'s>,
         matcher: &'a Matcher<'a>,
-        tree: &'a Tree<'a, 'a>,
+        tree: &'a Tree,
         trace: &'a Trace<'a, BitState>,
         is_with: bool,
     ) -> Result<Rows<'a, 's>, RowFault>

@@ -93,7 +93,7 @@ fn shared_at(shared: &[Rc<Sequencing>], number: usize) -> Option<&Rc<Sequencing>
 pub(crate) fn sequencing_of<'a>(
     _world: &World<'_>,
     sequencings: &'a Sequencings,
-    tree: &Tree<'_, '_>,
+    tree: &Tree,
     number: u32,
 ) -> &'a Rc<Sequencing>
     requires tree { IsTreeIn (world_view _world.now) (tree_view tree.now) }

@@ -91,7 +91,7 @@ pub fn has_solution<'s>(
     alloc: Global,
     world: &World<'s>,
     matcher: &Matcher<'_>,
-    tree: &Tree<'_, '_>,
+    tree: &Tree,
     trace: &Trace<'_, BitState>,
 ) -> Result<(), Unsolved>
     requires { BelongTogether (world_view world.now) matcher.now (tree_view tree.now) trace.now }
@@ -118,7 +118,7 @@ pub fn solution<'s>(
     alloc: Global,
     world: &World<'s>,
     matcher: &Matcher<'_>,
-    tree: &Tree<'_, '_>,
+    tree: &Tree,
     trace: &Trace<'_, BitState>,
 ) -> Result<Certificate<'s>, Unsolved>
     requires { BelongTogether (world_view world.now) matcher.now (tree_view tree.now) trace.now }

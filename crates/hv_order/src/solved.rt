@@ -26,7 +26,7 @@ use std::alloc::Global;
 fn by_walk<'s>(
     alloc: Global,
     world: &World<'s>,
-    tree: &Tree<'_, '_>,
+    tree: &Tree,
     _nodes: &PlanNodes<'_>,
     stands: &[Option<Stand>],
 ) -> Result<Certificate<'s>, Memory>
@@ -73,6 +73,7 @@ pub fn certificate_of<'s>(
     match walk(alloc, nodes, memo, tree.node_count())? {
         None => Ok(None),
         Some(stands) => {
+            memo.forget_winners();
             let certificate = by_walk(alloc, world, tree, nodes, &stands)?;
             Ok(Some(certificate))
         }

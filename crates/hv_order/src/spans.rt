@@ -76,7 +76,7 @@ pub fn is_never(state: u32) -> bool
 
 impl Spans {
     /// The spans of the nodes of a tree.
-    pub(crate) fn new(alloc: Global, tree: &Tree<'_, '_>) -> Result<Spans, Memory>
+    pub(crate) fn new(alloc: Global, tree: &Tree) -> Result<Spans, Memory>
         ensures { IfOk result (AreSpans (tree_view tree.now)) }
     {
         Ok(Spans {

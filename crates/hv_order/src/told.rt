@@ -28,7 +28,7 @@ pub(crate) fn is_empty(precondition: &Formula) -> bool
 }
 
 // The name of what a child does, where the tree has it.
-fn name_of(tree: &Tree<'_, '_>, child: Child) -> Option<TaskName> {
+fn name_of(tree: &Tree, child: Child) -> Option<TaskName> {
     match child {
         Child::Action(action) => {
             let action = tree.actions().get(action as usize)?;
@@ -42,7 +42,7 @@ fn name_of(tree: &Tree<'_, '_>, child: Child) -> Option<TaskName> {
 }
 
 // The names of what a few children do.
-fn names_of(tree: &Tree<'_, '_>, children: &[Child]) -> [Option<TaskName>; FEW] {
+fn names_of(tree: &Tree, children: &[Child]) -> [Option<TaskName>; FEW] {
     let mut names = [None; FEW];
     for (name, child) in names.iter_mut().zip(children) {
         *name = name_of(tree, *child);
@@ -104,7 +104,7 @@ fn has_node(children: &[Child]) -> bool {
 
 /// The children of a node with this method that are told, where they are few and nodes among them.
 pub(crate) fn told_children(
-    tree: &Tree<'_, '_>,
+    tree: &Tree,
     method: &Method<'_>,
     node: &Node<'_>,
 ) -> Option<[Option<Child>; FEW]> {

@@ -6,12 +6,12 @@ use Rattle.std.proofs.Math.Path.{fun_ext}
 use Rattle.std.proofs.lemmas.Option.{get_or_from_slice_get, slice_get_past, slice_get_within}
 use Rattle.hv_lists.proofs.Contained.{contains_first, in_tail, contains_at}
 use Rattle.hv_lists.proofs.Numbers.{either_side}
-use Rattle.hv_lists.proofs.Places.{member_at}
+use Rattle.hv_lists.proofs.Places.{map_some, member_at}
 use Rattle.hv_lists.proofs.Pairs.{paired_at}
 use Rattle.hv_world.specs.Bindings.{GroundAction}
 use Rattle.hv_lists.specs.Lists.{Once}
 use Rattle.hv_world.specs.Worlds.{World}
-use Rattle.hv_plan.specs.Values.{Decomposition, Plan}
+use Rattle.hv_plan.specs.Values.{Action, Decomposition, Plan}
 use Rattle.hv_plan.specs.Trees.{Item, Act, Task, Pre}
 use Rattle.hv_plan.specs.PlanTrees.{Node, PlanTree, children_of, children_at, StandsFor, IsActionOf, IsNodeOf, IsRootOf, NodeIs, IsNumberedTree, IsTreeOf}
 use Rattle.hv_plan.specs.PlanTrees as trees
@@ -19,37 +19,39 @@ use Rattle.hv_plan.specs.inside.ShapeViews.{Shape, Stands, line_id, IsShape, chi
 use Rattle.hv_plan.specs.inside.FitViews.{IsDecomposed}
 use Rattle.hv_plan.specs.inside.NodeViews.{node_of, node_of_line, node_of_root, nodes_from, nodes_of}
 use Rattle.hv_plan.specs.inside.FitViews.{Decomposed}
+use Rattle.hv_plan.specs.inside.Origins.{origin_of_action, origin_of_line}
+use Rattle.hv_plan.specs.declared.origin.Origin.{Origin}
 use Rattle.hv_plan.proofs.ChildLemmas.{mapped_at}
 
 -- as many nodes as places, and one more
-many_from : (p : Plan) (s : Shape) (xs : List Decomposed) (v : ℕ) (ks : List ℕ) → length (nodes_from p s xs v ks) ≡ length ks + 1
-many_from p s xs v [] = refl
-many_from p s xs v (k ∷ ks) = let rest = many_from p s xs (v + 1) ks in let more : suc (length (nodes_from p s xs (v + 1) ks)) ≡ suc (length ks) + 1 = omega (arith, rest) in more
+many_from : (r : ℕ) (os : List Origin) (s : Shape) (xs : List Decomposed) (v : ℕ) (ks : List ℕ) → length (nodes_from r os s xs v ks) ≡ length ks + 1
+many_from r os s xs v [] = refl
+many_from r os s xs v (k ∷ ks) = let rest = many_from r os s xs (v + 1) ks in let more : suc (length (nodes_from r os s xs (v + 1) ks)) ≡ suc (length ks) + 1 = omega (arith, rest) in more
 
 -- the node of a number
-node_from : (p : Plan) (s : Shape) (xs : List Decomposed) (v : ℕ) (ks : List ℕ) (j : ℕ) → j ≤ length ks
-    → slice_get (nodes_from p s xs v ks) j
-    ≡ Some (node_of p (option_and_then (slice_get p.decompositions) (slice_get ks j)) (option_and_then (slice_get xs) (slice_get ks j)) (children_of_node s (v + j)))
-node_from p s xs v [] zero le = ap (λ u. Some (node_of p None None (children_of_node s u))) (omega arith)
-node_from p s xs v [] (suc j) le = absurd (omega (arith, le))
-node_from p s xs v (k ∷ ks) zero le = ap (λ u. Some (node_of p (slice_get p.decompositions k) (slice_get xs k) (children_of_node s u))) (omega arith)
-node_from p s xs v (k ∷ ks) (suc j) le =
-    node_from p s xs (v + 1) ks j (omega (arith, le))
-    ∙ ap (λ u. Some (node_of p (option_and_then (slice_get p.decompositions) (slice_get ks j)) (option_and_then (slice_get xs) (slice_get ks j)) (children_of_node s u))) (omega arith)
+node_from : (r : ℕ) (os : List Origin) (s : Shape) (xs : List Decomposed) (v : ℕ) (ks : List ℕ) (j : ℕ) → j ≤ length ks
+    → slice_get (nodes_from r os s xs v ks) j
+    ≡ Some (node_of r (option_and_then (slice_get os) (slice_get ks j)) (option_and_then (slice_get xs) (slice_get ks j)) (children_of_node s (v + j)))
+node_from r os s xs v [] zero le = ap (λ u. Some (node_of r None None (children_of_node s u))) (omega arith)
+node_from r os s xs v [] (suc j) le = absurd (omega (arith, le))
+node_from r os s xs v (k ∷ ks) zero le = ap (λ u. Some (node_of r (slice_get os k) (slice_get xs k) (children_of_node s u))) (omega arith)
+node_from r os s xs v (k ∷ ks) (suc j) le =
+    node_from r os s xs (v + 1) ks j (omega (arith, le))
+    ∙ ap (λ u. Some (node_of r (option_and_then (slice_get os) (slice_get ks j)) (option_and_then (slice_get xs) (slice_get ks j)) (children_of_node s u))) (omega arith)
 
 -- how many nodes there are, and which they are
-pub as_many_nodes : (p : Plan) (s : Shape) (xs : List Decomposed) → length (nodes_of p s xs) ≡ length s.lines + 1
-as_many_nodes p s xs = many_from p s xs 0 s.lines
+pub as_many_nodes : (r : ℕ) (os : List Origin) (s : Shape) (xs : List Decomposed) → length (nodes_of r os s xs) ≡ length s.lines + 1
+as_many_nodes r os s xs = many_from r os s xs 0 s.lines
 
-pub node_here : (p : Plan) (s : Shape) (xs : List Decomposed) (v : ℕ) → v ≤ length s.lines
-    → slice_get (nodes_of p s xs) v
-    ≡ Some (node_of p (option_and_then (slice_get p.decompositions) (slice_get s.lines v)) (option_and_then (slice_get xs) (slice_get s.lines v)) (children_of_node s v))
-node_here p s xs v le =
-    node_from p s xs 0 s.lines v le
-    ∙ ap (λ u. Some (node_of p (option_and_then (slice_get p.decompositions) (slice_get s.lines v)) (option_and_then (slice_get xs) (slice_get s.lines v)) (children_of_node s u))) (omega arith)
+pub node_here : (r : ℕ) (os : List Origin) (s : Shape) (xs : List Decomposed) (v : ℕ) → v ≤ length s.lines
+    → slice_get (nodes_of r os s xs) v
+    ≡ Some (node_of r (option_and_then (slice_get os) (slice_get s.lines v)) (option_and_then (slice_get xs) (slice_get s.lines v)) (children_of_node s v))
+node_here r os s xs v le =
+    node_from r os s xs 0 s.lines v le
+    ∙ ap (λ u. Some (node_of r (option_and_then (slice_get os) (slice_get s.lines v)) (option_and_then (slice_get xs) (slice_get s.lines v)) (children_of_node s u))) (omega arith)
 
-pub no_node_behind : (p : Plan) (s : Shape) (xs : List Decomposed) (v : ℕ) → length s.lines < v → slice_get (nodes_of p s xs) v ≡ None
-no_node_behind p s xs v lt = slice_get_past (nodes_of p s xs) v (omega (arith, lt, as_many_nodes p s xs))
+pub no_node_behind : (r : ℕ) (os : List Origin) (s : Shape) (xs : List Decomposed) (v : ℕ) → length s.lines < v → slice_get (nodes_of r os s xs) v ≡ None
+no_node_behind r os s xs v lt = slice_get_past (nodes_of r os s xs) v (omega (arith, lt, as_many_nodes r os s xs))
 
 -- lists that are paired, by places
 zip_at : {A B : Type 0} (R : A → B → Type 0) (xs : List A) (ys : List B) → length xs ≡ length ys
@@ -65,45 +67,63 @@ zip_as R S [] (y ∷ ys) more all = absurd all
 zip_as R S (x ∷ xs) [] more all = absurd all
 zip_as R S (x ∷ xs) (y ∷ ys) more (r, all) = (more x y r, zip_as R S xs ys more all)
 
+-- the ids and the numbers of the lines of actions, by their origins
+ids_of : (ls : List Action) → map (λ o. o.id) (map origin_of_action ls) ≡ map (λ a. a.id) ls
+ids_of [] = refl
+ids_of (a ∷ ls) = ap (λ is. a.id ∷ is) (ids_of ls)
+
+lines_of : (ls : List Action) → map (λ o. o.line) (map origin_of_action ls) ≡ map (λ a. a.line) ls
+lines_of [] = refl
+lines_of (a ∷ ls) = ap (λ ns. a.line ∷ ns) (lines_of ls)
+
 -- a plan of this shape, whose lines say this
 module _ (w : World) (p : Plan) (s : Shape) (is : IsShape p s) (as' : List GroundAction) (xs : List Decomposed) (acts : AllZip (IsActionOf w) p.actions as')
     (says : AllZip (IsDecomposed w) p.decompositions xs) where
   abbrev root : Node
   root = node_of_root p.root.line (children_of_node s (root_node p))
 
+  abbrev os : List Origin
+  os = map origin_of_line p.decompositions
+
   abbrev nodes : List Node
-  nodes = nodes_of p s xs
+  nodes = nodes_of p.root.line os s xs
 
   abbrev tree : PlanTree
-  tree = record { actions = as'; action_ids = map (λ a. a.id) p.actions; nodes = nodes; order = length s.lines ∷ s.numbers }
+  tree = record {
+    actions = as';
+    action_ids = map (λ o. o.id) (map origin_of_action p.actions);
+    action_lines = map (λ o. o.line) (map origin_of_action p.actions);
+    nodes = nodes;
+    order = length s.lines ∷ s.numbers;
+  }
 
   -- the line of a node, and what it says
   record LineOf (v k : ℕ) (d : Decomposition) : Type 0 where
     pub x : Decomposed
     pub said : IsDecomposed w d x
-    pub at : slice_get nodes v ≡ Some (node_of_line d x (children_of_node s v))
+    pub at : slice_get nodes v ≡ Some (node_of_line (origin_of_line d) x (children_of_node s v))
 
   line_of : (v k : ℕ) (d : Decomposition) → slice_get s.lines v ≡ Some k → slice_get p.decompositions k ≡ Some d → LineOf v k d
   line_of v k d at of_line =
       let (x, of_said, said) = paired_at (IsDecomposed w) p.decompositions xs k d says of_line in
       let below : v < length s.lines = slice_get_within s.lines v k at in
-      let here = node_here p s xs v (omega (arith, below)) in
-      let is_line : option_and_then (slice_get p.decompositions) (slice_get s.lines v) ≡ Some d = ap (option_and_then (slice_get p.decompositions)) at ∙ of_line in
+      let here = node_here p.root.line os s xs v (omega (arith, below)) in
+      let is_line : option_and_then (slice_get os) (slice_get s.lines v) ≡ Some (origin_of_line d) = ap (option_and_then (slice_get os)) at ∙ map_some origin_of_line p.decompositions k d of_line in
       let is_said : option_and_then (slice_get xs) (slice_get s.lines v) ≡ Some x = ap (option_and_then (slice_get xs)) at ∙ of_said in
-      record { x = x; said = said; at = here ∙ (λ i. Some (node_of p (is_line i) (is_said i) (children_of_node s v))) }
+      record { x = x; said = said; at = here ∙ (λ i. Some (node_of p.root.line (is_line i) (is_said i) (children_of_node s v))) }
 
   line_at : (k v : ℕ) → slice_get s.numbers k ≡ Some v → (d : Decomposition) × (slice_get p.decompositions k ≡ Some d)
   line_at k v at = member_at p.decompositions k (let lt : k < length s.numbers = slice_get_within s.numbers k v at in omega (arith, lt, is.as_many_numbers))
 
   root_at : (v : ℕ) → v ≡ length s.lines → slice_get nodes v ≡ Some root
   root_at v e =
-      let here = node_here p s xs v (omega (arith, e)) in
+      let here = node_here p.root.line os s xs v (omega (arith, e)) in
       let behind : slice_get s.lines v ≡ None = slice_get_past s.lines v (omega (arith, e)) in
       let of_root : children_of_node s v ≡ children_of_node s (root_node p) = ap (children_of_node s) (e ∙ is.as_many_lines) in
-      here ∙ (λ i. Some (node_of p (option_and_then (slice_get p.decompositions) (behind i)) (option_and_then (slice_get xs) (behind i)) (of_root i)))
+      here ∙ (λ i. Some (node_of p.root.line (option_and_then (slice_get os) (behind i)) (option_and_then (slice_get xs) (behind i)) (of_root i)))
 
   as_long : length nodes ≡ length s.lines + 1
-  as_long = as_many_nodes p s xs
+  as_long = as_many_nodes p.root.line os s xs
 
   -- the children of each node are those that the shape gives it
   same_children : (v : ℕ) → children_at nodes v ≡ children_of_node s v
@@ -133,7 +153,7 @@ module _ (w : World) (p : Plan) (s : Shape) (is : IsShape p s) (as' : List Groun
 
   -- what an id stands for in the shape it stands for in the tree
   stands_for : (i : ℕ) (x : Item) → Stands p s i x → StandsFor tree i x
-  stands_for i (Act k) h = h
+  stands_for i (Act k) h = ap (λ is. slice_get is k) (ids_of p.actions) ∙ h
   stands_for i (Task v) h = go (slice_get s.lines v) refl h
     where
       go : (o : Option ℕ) → slice_get s.lines v ≡ o → option_and_then (line_id p) o ≡ Some i → MatchOption (slice_get nodes v) ⊥ (λ n. n.id ≡ Some i)
@@ -205,10 +225,11 @@ module _ (w : World) (p : Plan) (s : Shape) (is : IsShape p s) (as' : List Groun
   numbered = subst (λ n. IsNumberedTree (trees.tree_of tree) n (length p.actions)) (sym is.as_many_lines) (subst (λ t. IsNumberedTree t (length p.decompositions) (length p.actions)) same_tree is.shape)
 
   -- the tree of the plan
-  pub is_tree_of : IsTreeOf w p tree
+  is_tree_of : IsTreeOf w p tree
   is_tree_of = record {
     actions = acts;
-    action_ids = refl;
+    action_ids = ids_of p.actions;
+    action_lines = lines_of p.actions;
     root = length s.lines;
     lines = s.numbers;
     order = refl;
@@ -220,3 +241,21 @@ module _ (w : World) (p : Plan) (s : Shape) (is : IsShape p s) (as' : List Groun
     line_nodes = zip_at (λ d v. NodeIs tree (IsNodeOf w tree d) v) p.decompositions s.numbers (sym is.as_many_numbers) is_node;
     shape = numbered;
   }
+
+  -- the same, by what the tree keeps of the lines
+  pub is_tree_by : (of_actions of_lines : List Origin) → of_actions ≡ map origin_of_action p.actions → of_lines ≡ os
+      → IsTreeOf w p (record {
+        actions = as';
+        action_ids = map (λ o. o.id) of_actions;
+        action_lines = map (λ o. o.line) of_actions;
+        nodes = nodes_of p.root.line of_lines s xs;
+        order = length s.lines ∷ s.numbers;
+      })
+  is_tree_by of_actions of_lines a l =
+      subst (IsTreeOf w p) (λ i. record {
+        actions = as';
+        action_ids = map (λ o. o.id) (sym a i);
+        action_lines = map (λ o. o.line) (sym a i);
+        nodes = nodes_of p.root.line (sym l i) s xs;
+        order = length s.lines ∷ s.numbers;
+      }) is_tree_of

@@ -475,8 +475,9 @@ module _ (w : World) (p : Plan) (form : FormTree p) where
     one_tree =
         let actions : t.actions ≡ u.actions = same_zips (IsActionOf w) (IsActionOf w) p.actions t.actions u.actions same_action ti.actions ui.actions in
         let ids : t.action_ids ≡ u.action_ids = ti.action_ids ∙ sym ui.action_ids in
+        let numbers : t.action_lines ≡ u.action_lines = ti.action_lines ∙ sym ui.action_lines in
         let nodes : t.nodes ≡ u.nodes = same_lists t.nodes u.nodes (long t ti ∙ sym (long u ui)) same_node in
         let lines : ti.lines ≡ ui.lines = same_numbers in
         let root : ti.root ≡ ui.root = root_is t ti ∙ sym (root_is u ui) in
         let order : t.order ≡ u.order = ti.order ∙ (λ i. root i ∷ lines i) ∙ sym ui.order in
-        λ i. record { actions = actions i; action_ids = ids i; nodes = nodes i; order = order i }
+        λ i. record { actions = actions i; action_ids = ids i; action_lines = numbers i; nodes = nodes i; order = order i }

@@ -21,12 +21,13 @@ pub record Node : Type 0 where
   pub method : Option ℕ
   pub children : List Item
 
--- The ground actions in plan order with their ids; the nodes by number, that of the root line the
--- last; and the numbers of the nodes in their order, which is the root line and then the
--- decomposition lines as the text has them
+-- The ground actions in plan order with their ids and the numbers of their lines; the nodes by
+-- number, that of the root line the last; and the numbers of the nodes in their order, which is the
+-- root line and then the decomposition lines as the text has them
 pub record PlanTree : Type 0 where
   pub actions : List GroundAction
   pub action_ids : List ℕ
+  pub action_lines : List ℕ
   pub nodes : List Node
   pub order : List ℕ
 
@@ -115,6 +116,7 @@ pub record IsNumberedTree (t : Tree) (nodes actions : ℕ) : Type 0 where
 pub record IsTreeOf (w : World) (p : Plan) (t : PlanTree) : Type 0 where
   pub actions : AllZip (IsActionOf w) p.actions t.actions
   pub action_ids : t.action_ids ≡ map (λ a. a.id) p.actions
+  pub action_lines : t.action_lines ≡ map (λ a. a.line) p.actions
   pub root : ℕ
   pub lines : List ℕ
   pub order : t.order ≡ root ∷ lines

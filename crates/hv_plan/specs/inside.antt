@@ -8,5 +8,6 @@ pub mod ShapeCauses
 pub mod ShapeViews
 pub mod Tallies
 pub mod ChildFaults
+pub mod Origins
 pub mod NodeViews
 pub mod Tables

@@ -23,6 +23,7 @@ ghost use Rattle.hv_plan.specs.Values.{Decomposition};
 
 use crate::cause::{Cause, TreeFault, earlier};
 use crate::fit::all::{Fits, fit};
+use crate::origin::{action_origins, line_origins};
 use crate::plan::PlanText;
 use crate::shape::{Shape, shape_of};
 use crate::subtasks::Tally;
@@ -221,12 +222,12 @@ fn check_children<'s>(
 }
 
 // The tree of a plan of this shape.
-fn build_shaped<'p, 's>(
+fn build_shaped<'s>(
     alloc: Global,
     world: &World<'s>,
-    plan: &'p PlanText<'s>,
+    plan: &PlanText<'s>,
     shape: Shape,
-) -> Result<Tree<'p, 's>, TreeFault>
+) -> Result<Tree, TreeFault>
     requires form { FormTree (plan_view plan.now) }
     requires shape { IsShape (plan_view plan.now) (shape_view shape) }
     ensures ok { IfOk result (λ t. FitWorld (world_view world.now) (plan_view plan.now)
@@ -240,25 +241,27 @@ fn build_shaped<'p, 's>(
         lines: said,
     } = fits;
     Ok(Tree {
-        plan,
+        action_origins: action_origins(alloc, &plan.actions)?,
+        line_origins: line_origins(alloc, &plan.decompositions)?,
+        root_line: plan.root_line,
         actions,
         said,
         shape,
     })
 }
 
-impl<'p, 's> Tree<'p, 's> {
+impl Tree {
     /// The tree that the lines of a plan form.
     ///
     /// # Errors
     ///
     /// The cause of the smallest number that a line qualifies for, at the first such line; or want
     /// of memory, where a growth was refused.
-    pub fn build(
+    pub fn build<'s>(
         alloc: Global,
         world: &World<'s>,
-        plan: &'p PlanText<'s>,
-    ) -> Result<Tree<'p, 's>, TreeFault>
+        plan: &PlanText<'s>,
+    ) -> Result<Tree, TreeFault>
         ensures ok { IfOk result (λ t. FormTree (plan_view plan.now)
             × FitWorld (world_view world.now) (plan_view plan.now)
             × IsTreeOf (world_view world.now) (plan_view plan.now) (tree_view t)) }

@@ -12,6 +12,7 @@ mod id_table;
 mod ids;
 mod laws;
 mod lines;
+mod origin;
 mod plan;
 mod print;
 mod read;

@@ -4,13 +4,12 @@ ghost use Rattle.std.specs.Prelude.{◌≡◌, ◌<◌, map, option_map, option_
 ghost use Rattle.hv_world.specs.Bindings.{object_number, ground_actions_view};
 ghost use Rattle.hv_plan.specs.BuiltTrees.{tree_view};
 ghost use Rattle.hv_plan.specs.inside.FitViews.{decomposed_line, decomposed_lines};
-ghost use Rattle.hv_plan.specs.LineViews.{action_view, decomposition_view, plan_view};
 ghost use Rattle.hv_plan.specs.inside.NodeViews.{node_of, node_of_line, node_of_root};
 ghost use Rattle.hv_plan.specs.inside.ShapeViews.{shape_view, children_of_node};
 ghost use Rattle.hv_plan.specs.TreeViews.{child_view, node_view};
 
 use crate::fit::lines::{DecomposedLine, DecomposedLines};
-use crate::plan::{ActionLine, DecompositionLine, PlanText};
+use crate::origin::Origin;
 use crate::shape::Shape;
 use hv_world::{GroundActions, MethodId, ObjectId, TaskId};
 
@@ -46,11 +45,14 @@ pub struct Node<'a> {
 }
 
 /// The tree that the lines of a plan form: its actions, and its nodes, which name their children by
-/// number. Children stand before parents, so that no walk needs recursion. What the lines say by
-/// themselves stays in the plan, which the tree borrows.
+/// number. Children stand before parents, so that no walk needs recursion. The tree borrows nothing:
+/// it has what is needed of the lines, over numbers, so that the plan that was read, which takes
+/// some times the memory, may go before the plan is judged.
 #[derive(Drop)]
-pub struct Tree<'p, 's> {
-    pub(crate) plan: &'p PlanText<'s>,
+pub struct Tree {
+    pub(crate) action_origins: Vec<Origin>,
+    pub(crate) line_origins: Vec<Origin>,
+    pub(crate) root_line: u32,
     pub(crate) actions: GroundActions,
     pub(crate) said: DecomposedLines,
     pub(crate) shape: Shape,
@@ -114,18 +116,14 @@ impl<'a> Node<'a> {
 }
 
 // The node of a decomposition line that says this.
-fn line_node<'a>(
-    line: &DecompositionLine<'_, '_>,
-    said: DecomposedLine<'a>,
-    children: &'a [Child],
-) -> Node<'a>
-    ensures { node_view result ≡ node_of_line (decomposition_view line.now)
-        (decomposed_line said.entry) (map child_view children.now) }
+fn line_node<'a>(origin: Origin, said: DecomposedLine<'a>, children: &'a [Child]) -> Node<'a>
+    ensures { node_view result
+        ≡ node_of_line origin (decomposed_line said.entry) (map child_view children.now) }
 {
     Node {
         head: Head::Decomposition {
-            line: line.line,
-            id: line.id,
+            line: origin.line,
+            id: origin.id,
             task: said.task,
             method: said.method,
         },
@@ -145,7 +143,7 @@ fn root_node<'a>(line: u32, children: &'a [Child]) -> Node<'a>
     }
 }
 
-impl<'p, 's> Tree<'p, 's> {
+impl Tree {
     /// The actions, in plan order.
     pub fn actions(&self) -> &GroundActions
         ensures { ground_actions_view result.now ≡ (tree_view self.now).actions }
@@ -153,20 +151,18 @@ impl<'p, 's> Tree<'p, 's> {
         &self.actions
     }
 
-    // The line of the action of a place in plan order, where there is one.
-    fn action_line(&self, action: usize) -> Option<ActionLine<'_, 's>>
-        ensures { option_map action_view result
-            ≡ slice_get (plan_view self.now.plan.now).actions action }
-    {
-        self.plan.actions.get(action)
-    }
-
     /// The id of the action of a place in plan order, where there is one.
     pub fn action_id(&self, action: usize) -> Option<u64>
         ensures { result ≡ slice_get (tree_view self.now).action_ids action }
     {
-        let line = self.action_line(action)?;
-        Some(line.id)
+        Some(self.action_origins.get(action)?.id)
+    }
+
+    /// The number of the line of the action of a place in plan order, where there is one.
+    pub fn action_line(&self, action: usize) -> Option<u32>
+        ensures { result ≡ slice_get (tree_view self.now).action_lines action }
+    {
+        Some(self.action_origins.get(action)?.line)
     }
 
     /// How many nodes there are, one at least: children have lower numbers than parents, and the
@@ -197,21 +193,21 @@ impl<'p, 's> Tree<'p, 's> {
     // The node of a number, whose line has this place.
     #[inline(always)]
     fn node_of_place(&self, node: usize, place: Option<usize>) -> Node<'_>
-        ensures { node_view result ≡ node_of (plan_view self.now.plan.now)
-            (option_and_then (slice_get (plan_view self.now.plan.now).decompositions) place)
+        ensures { node_view result ≡ node_of self.now.root_line
+            (option_and_then (slice_get self.now.line_origins.items) place)
             (option_and_then (slice_get (decomposed_lines self.now.said)) place)
             (children_of_node (shape_view self.now.shape) node) }
     {
         let children = self.children_of(node);
         let Some(place) = place else {
-            return root_node(self.plan.root_line, children);
+            return root_node(self.root_line, children);
         };
-        let Some(line) = self.plan.decompositions.get(place) else {
-            return root_node(self.plan.root_line, children);
+        let Some(origin) = self.line_origins.get(place) else {
+            return root_node(self.root_line, children);
         };
         match self.said.get(place) {
-            Some(said) => line_node(&line, said, children),
-            None => root_node(self.plan.root_line, children),
+            Some(said) => line_node(*origin, said, children),
+            None => root_node(self.root_line, children),
         }
     }
 

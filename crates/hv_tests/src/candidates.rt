@@ -19,7 +19,7 @@ use hv_world::{ObjectId, World};
 use std::alloc::Global;
 
 /// The number of the node of an id, which the root line's has none.
-pub(crate) fn node_of(tree: &Tree<'_, '_>, id: Option<u64>) -> Option<u32>
+pub(crate) fn node_of(tree: &Tree, id: Option<u64>) -> Option<u32>
     ensures { IfSome result (λ v. v < length (tree_view tree.now).nodes) }
 {
     for number in 0..tree.node_count() {
@@ -62,7 +62,7 @@ pub(crate) fn lent(alloc: Global, candidates: &Candidates<'_>) -> Option<Candida
 fn note_next(
     alloc: Global,
     world: &World<'_>,
-    tree: &Tree<'_, '_>,
+    tree: &Tree,
     node: u32,
     candidates: &mut Candidates<'_>,
     noted: &mut Vec<Candidate>,
@@ -89,7 +89,7 @@ fn note_next(
 fn note_all(
     alloc: Global,
     world: &World<'_>,
-    tree: &Tree<'_, '_>,
+    tree: &Tree,
     node: u32,
     candidates: &mut Candidates<'_>,
     noted: &mut Vec<Candidate>,
@@ -109,7 +109,7 @@ fn note_all(
 fn candidates_of<'a>(
     alloc: Global,
     matcher: &'a Matcher<'_>,
-    tree: &'a Tree<'_, '_>,
+    tree: &'a Tree,
     node: u32,
 ) -> Option<Candidates<'a>>
     requires tree { IsTreeIn matcher.now (tree_view tree.now) }
@@ -122,7 +122,7 @@ fn candidates_of<'a>(
 pub(crate) fn all<'a>(
     alloc: Global,
     world: &'a World<'_>,
-    tree: &'a Tree<'_, '_>,
+    tree: &'a Tree,
     node: u32,
 ) -> Option<Vec<Candidate>>
     requires tree { IsTreeIn (world_view world.now) (tree_view tree.now) }
@@ -136,7 +136,7 @@ pub(crate) fn all<'a>(
 }
 
 // Whether the count of a node is this one.
-fn is_count(matcher: &Matcher<'_>, tree: &Tree<'_, '_>, node: u32, wanted: u64) -> bool
+fn is_count(matcher: &Matcher<'_>, tree: &Tree, node: u32, wanted: u64) -> bool
     requires tree { IsTreeIn matcher.now (tree_view tree.now) }
     requires node { node < length (tree_view tree.now).nodes }
 {
@@ -153,7 +153,7 @@ type Question = (&'static [u8], &'static [u8], &'static [u8], Option<u64>);
 fn has_count(
     alloc: Global,
     world: &World<'_>,
-    tree: &Tree<'_, '_>,
+    tree: &Tree,
     node: u32,
     wanted: u64,
 ) -> Option<bool>
@@ -298,7 +298,7 @@ const TWENTY_ONE_DONE: &[u8] =
 fn count_of_node(
     alloc: Global,
     world: &World<'_>,
-    tree: &Tree<'_, '_>,
+    tree: &Tree,
     node: u32,
 ) -> Option<(u64, bool, bool)>
     requires tree { IsTreeIn (world_view world.now) (tree_view tree.now) }
@@ -530,7 +530,7 @@ const MANY_DONE: &[u8] = b"==>\n\
     root 20\n20 t -> m 1 2 3 4 5 6 7 8 9 10 11 12 13 14 15 16\n<==";
 
 // How many candidates a node has, where they are those of the slow list.
-fn compared_in(alloc: Global, world: &World<'_>, tree: &Tree<'_, '_>, node: u32) -> Option<usize>
+fn compared_in(alloc: Global, world: &World<'_>, tree: &Tree, node: u32) -> Option<usize>
     requires tree { IsTreeIn (world_view world.now) (tree_view tree.now) }
     requires node { node < length (tree_view tree.now).nodes }
 {
@@ -613,7 +613,7 @@ fn left_behind(alloc: Global, candidates: &mut Candidates<'_>, last: usize) -> O
 fn left_of_node<'a>(
     alloc: Global,
     world: &'a World<'_>,
-    tree: &'a Tree<'_, '_>,
+    tree: &'a Tree,
     node: u32,
     last: usize,
 ) -> Option<usize>

@@ -7,7 +7,7 @@ use hv_world::ObjectId;
 use std::alloc::Global;
 
 // Whether the action of a place in plan order is this one, with these objects.
-fn is_action(tree: &Tree<'_, '_>, place: usize, action: usize, objects: &[ObjectId]) -> bool {
+fn is_action(tree: &Tree, place: usize, action: usize, objects: &[ObjectId]) -> bool {
     match tree.actions().get(place) {
         Some(found) => found.action().0 == action && found.objects() == objects,
         None => false,
@@ -15,14 +15,14 @@ fn is_action(tree: &Tree<'_, '_>, place: usize, action: usize, objects: &[Object
 }
 
 // Whether the actions are those of the plan, in its order.
-fn has_actions(tree: &Tree<'_, '_>) -> bool {
+fn has_actions(tree: &Tree) -> bool {
     is_action(tree, 0, 1, &[ObjectId(0), ObjectId(1), ObjectId(2)])
         && is_action(tree, 1, 0, &[ObjectId(0), ObjectId(2), ObjectId(3)])
         && is_action(tree, 2, 2, &[ObjectId(0), ObjectId(1), ObjectId(3)])
         && tree.actions().len() == 3
 }
 
-fn has_action_ids(tree: &Tree<'_, '_>) -> bool {
+fn has_action_ids(tree: &Tree) -> bool {
     tree.action_id(0) == Some(1) && tree.action_id(2) == Some(3) && tree.action_id(3).is_none()
 }
 
@@ -39,29 +39,29 @@ fn says(node: Node<'_>) -> (Option<u64>, u32, Option<usize>, Option<usize>) {
     (node.id(), node.line(), task, method)
 }
 
-fn has_root(tree: &Tree<'_, '_>) -> Option<bool> {
+fn has_root(tree: &Tree) -> Option<bool> {
     let root = tree.node(3)?;
     Some(says(root) == (None, 5, None, None) && root.children().len() == 1)
 }
 
-fn begins_with_root(tree: &Tree<'_, '_>) -> Option<bool> {
+fn begins_with_root(tree: &Tree) -> Option<bool> {
     let is_last = tree.node_count() == 4 && tree.node_at(0) == Some(3);
     Some(is_last && tree.node_at(4).is_none() && has_root(tree)?)
 }
 
 // The k-th node in the order of nodes.
-fn nth<'a>(tree: &'a Tree<'_, '_>, k: usize) -> Option<Node<'a>> {
+fn nth<'a>(tree: &'a Tree, k: usize) -> Option<Node<'a>> {
     tree.node(tree.node_at(k)?)
 }
 
 // The k-th node in the order of nodes as a child.
-fn child_at(tree: &Tree<'_, '_>, k: usize) -> Option<Child> {
+fn child_at(tree: &Tree, k: usize) -> Option<Child> {
     Some(Child::Node(tree.node_at(k)?))
 }
 
 // Whether the node of the delivery says what its line says, and its children stand in the order of
 // the line.
-fn is_delivery(tree: &Tree<'_, '_>) -> Option<bool> {
+fn is_delivery(tree: &Tree) -> Option<bool> {
     let node = nth(tree, 1)?;
     let children = [
         child_at(tree, 2)?,
@@ -75,7 +75,7 @@ fn is_delivery(tree: &Tree<'_, '_>) -> Option<bool> {
 }
 
 // Whether the last node says what its line says.
-fn is_drive(tree: &Tree<'_, '_>) -> Option<bool> {
+fn is_drive(tree: &Tree) -> Option<bool> {
     let node = nth(tree, 3)?;
     let is_said = says(node) == (Some(12), 8, Some(1), Some(1));
     Some(is_said && node.children() == [Child::Action(1)].as_slice())
@@ -109,7 +109,7 @@ const STEP: &[u8] = b"(define (problem q) (:domain d) (:init) (:htn :subtasks (t
 const MIXED: &[u8] = b"==>\n2 t -> m 3 1\n1 a\nroot 0\n3 t -> e\n0 t -> m 2 4\n4 a\n<==";
 
 // Whether the k-th nodes have these numbers.
-fn are_in_order(tree: &Tree<'_, '_>, numbers: &[u32]) -> bool {
+fn are_in_order(tree: &Tree, numbers: &[u32]) -> bool {
     for (k, number) in numbers.iter().enumerate() {
         if tree.node_at(k) != Some(*number) {
             return false;
@@ -118,14 +118,14 @@ fn are_in_order(tree: &Tree<'_, '_>, numbers: &[u32]) -> bool {
     true
 }
 
-fn is_node(tree: &Tree<'_, '_>, node: u32, id: Option<u64>, children: &[Child]) -> bool {
+fn is_node(tree: &Tree, node: u32, id: Option<u64>, children: &[Child]) -> bool {
     match tree.node(node) {
         Some(node) => node.id() == id && node.children() == children,
         None => false,
     }
 }
 
-fn are_nodes(tree: &Tree<'_, '_>) -> bool {
+fn are_nodes(tree: &Tree) -> bool {
     tree.node_count() == 4
         && is_node(tree, 0, Some(3), &[])
         && is_node(tree, 1, Some(2), &[Child::Node(0), Child::Action(0)])

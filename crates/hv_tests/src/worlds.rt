@@ -44,7 +44,7 @@ pub(crate) fn tree_of<'p, 's>(
     alloc: Global,
     world: &World<'s>,
     plan: &'p PlanText<'s>,
-) -> Option<Tree<'p, 's>>
+) -> Option<Tree>
     ensures { IfSome result (λ t. IsTreeIn (world_view world.now) (tree_view t)) }
 {
     match Tree::build(alloc, world, plan) {

@@ -4,7 +4,7 @@ use Rattle.hv_text.specs.declared.span.Span.{Span}
 use Rattle.hv_world.specs.Worlds.{World, world_of}
 use Rattle.hv_state.specs.declared.trace.Stop.{Stop}
 use Rattle.hv_state.specs.declared.trace.Stop.TheVariants as stops
-use Rattle.hv_plan.specs.Values.{Action, Plan}
+use Rattle.hv_plan.specs.Values.{Plan}
 use Rattle.hv_plan.specs.PlanTrees.{Node, PlanTree}
 use Rattle.hv_plan.specs.declared.fault.PlanFault.{PlanFault}
 use Rattle.hv_plan.specs.declared.cause.TreeFault.{TreeFault}
@@ -75,12 +75,9 @@ tree_end (trees.Cause c) = Fails (tree_cause c)
 tree_end trees.Memory = Memory
 
 -- where an action is not applicable, it fails at the line of that action
-abbrev pub run_end : List Action → Stop → NotSolved
+abbrev pub run_end : List ℕ → Stop → NotSolved
 run_end lines (stops.Inapplicable k) =
-    Fails (record {
-      kind = causes.Inapplicable;
-      line = option_map (λ a. a.line) (slice_get lines k);
-    })
+    Fails (record { kind = causes.Inapplicable; line = slice_get lines k })
 run_end lines stops.Memory = Memory
 
 -- where it has no solution, it fails: at the line of a node without a candidate, or at none

@@ -61,7 +61,7 @@ fn note(alloc: Global, candidates: &mut Candidates<'_>, noted: &mut Vec<Candidat
 fn candidates_where<'a>(
     alloc: Global,
     matcher: &'a Matcher<'_>,
-    tree: &'a Tree<'_, '_>,
+    tree: &'a Tree,
     node: u32,
     ever: Option<EverTrue<'a>>,
 ) -> Option<Candidates<'a>>
@@ -76,7 +76,7 @@ fn candidates_where<'a>(
 fn note_possible(
     alloc: Global,
     world: &World<'_>,
-    tree: &Tree<'_, '_>,
+    tree: &Tree,
     node: u32,
     trace: &Trace<'_, BitState>,
     end: usize,
@@ -95,7 +95,7 @@ fn note_possible(
 fn possible(
     alloc: Global,
     world: &World<'_>,
-    tree: &Tree<'_, '_>,
+    tree: &Tree,
     node: u32,
     end: usize,
 ) -> Option<Vec<Candidate>>

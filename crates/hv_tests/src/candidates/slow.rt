@@ -25,7 +25,7 @@ fn are(objects: &[ObjectId], terms: &[Term], wanted: &[ObjectId]) -> bool {
 }
 
 // Whether a child does a subtask.
-fn does(tree: &Tree<'_, '_>, child: Child, subtask: &Subtask, objects: &[ObjectId]) -> bool {
+fn does(tree: &Tree, child: Child, subtask: &Subtask, objects: &[ObjectId]) -> bool {
     match child {
         Child::Action(place) => match tree.actions().get(place as usize) {
             Some(action) => {
@@ -49,7 +49,7 @@ fn does(tree: &Tree<'_, '_>, child: Child, subtask: &Subtask, objects: &[ObjectI
 
 // Whether the children of these places do the subtasks.
 fn do_all(
-    tree: &Tree<'_, '_>,
+    tree: &Tree,
     node: &Node<'_>,
     subtasks: &[Subtask],
     children: &[usize],
@@ -138,7 +138,7 @@ fn objects_by(alloc: Global, number: usize, base: usize, len: usize) -> Option<V
 fn add(
     alloc: Global,
     world: &World<'_>,
-    tree: &Tree<'_, '_>,
+    tree: &Tree,
     node: &Node<'_>,
     method: &Method<'_>,
     children: &[usize],
@@ -165,7 +165,7 @@ fn add(
 pub(crate) fn candidates(
     alloc: Global,
     world: &World<'_>,
-    tree: &Tree<'_, '_>,
+    tree: &Tree,
     node: u32,
 ) -> Option<Vec<Candidate>> {
     let node = tree.node(node)?;

@@ -2,7 +2,6 @@ use Rattle.std.proofs.Common.{◌≡◌, ◌<◌, ℕ, List, Option, Some, None,
 use Rattle.std.specs.Prelude.{IfSome}
 use Rattle.std.proofs.lemmas.Option.{slice_get_within, get_or_from_slice_get}
 use Rattle.hv_plan.specs.inside.FitViews.{decomposed_lines}
-use Rattle.hv_plan.specs.LineViews.{plan_view}
 use Rattle.hv_plan.specs.inside.ShapeViews.{shape_view}
 use Rattle.hv_plan.proofs.AssemblyLemmas.{as_many_nodes}
 use Rattle.hv_plan.proofs.tree.Tree.node_at.Goals as goal
@@ -18,13 +17,15 @@ listed_below xs n m k (Some v) all le e =
 
 pub returns-in-None-clause-within : goal.returns-in-None-clause-within
 returns-in-None-clause-within c =
-    let p = plan_view c.args.self.now.plan.now in
+    let r = c.args.self.now.root_line in
+    let os = c.args.self.now.line_origins.items in
     let s = shape_view c.args.self.now.shape in
-    omega (arith, as_many_nodes p s (decomposed_lines c.args.self.now.said), c.args.self.now.shape.last)
+    omega (arith, as_many_nodes r os s (decomposed_lines c.args.self.now.said), c.args.self.now.shape.last)
 
 pub returns-in-Some-clause-within : goal.returns-in-Some-clause-within
 returns-in-Some-clause-within c =
-    let p = plan_view c.args.self.now.plan.now in
+    let r = c.args.self.now.root_line in
+    let os = c.args.self.now.line_origins.items in
     let s = shape_view c.args.self.now.shape in
     listed_below c.args.self.now.shape.numbers.items c.args.self.now.shape.root _ c.in-Some.line c.number_of.result c.args.self.now.shape.below
-    (omega (arith, as_many_nodes p s (decomposed_lines c.args.self.now.said), c.args.self.now.shape.last)) c.number_of.ensures
+    (omega (arith, as_many_nodes r os s (decomposed_lines c.args.self.now.said), c.args.self.now.shape.last)) c.number_of.ensures
