@@ -64,13 +64,7 @@ fn are_all_places(room: &mut Vec<bool>, places: &[u32], count: usize) -> Result<
 }
 
 // Whether the child at a place does what a subtask says.
-fn does(
-    tree: &Tree,
-    children: &[Child],
-    place: usize,
-    values: &[usize],
-    subtask: &Subtask,
-) -> bool
+fn does(tree: &Tree, children: &[Child], place: usize, values: &[usize], subtask: &Subtask) -> bool
     ensures { IsTrue result ↔ ChildDoes tree.now children.now values.now place subtask.now }
 {
     if place >= children.len() {

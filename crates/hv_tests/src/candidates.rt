@@ -150,13 +150,7 @@ fn is_count(matcher: &Matcher<'_>, tree: &Tree, node: u32, wanted: u64) -> bool
 type Question = (&'static [u8], &'static [u8], &'static [u8], Option<u64>);
 
 // Whether the count of a node in its world is this one.
-fn has_count(
-    alloc: Global,
-    world: &World<'_>,
-    tree: &Tree,
-    node: u32,
-    wanted: u64,
-) -> Option<bool>
+fn has_count(alloc: Global, world: &World<'_>, tree: &Tree, node: u32, wanted: u64) -> Option<bool>
     requires tree { IsTreeIn (world_view world.now) (tree_view tree.now) }
     requires node { node < length (tree_view tree.now).nodes }
 {
