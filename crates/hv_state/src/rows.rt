@@ -21,7 +21,7 @@ use std::cmp::Ordering;
 /// The row of an atom. Up to four numbers, as those of an atom of three objects, take
 /// no allocation. A number has four bytes, since a large state waits for memory more than for
 /// anything else.
-#[derive(PartialEq, Eq, PartialOrd, Ord, Drop)]
+#[derive(PartialEq, Eq, Drop)]
 pub(crate) struct Row {
     pub(crate) numbers: SmallVec<u32, 4>,
 }
@@ -48,6 +48,63 @@ impl Row {
     {
         let numbers = SmallVec::from_slice(*self.numbers.allocator(), self.numbers.as_slice())?;
         Ok(Row { numbers })
+    }
+}
+
+impl PartialOrd for Row {
+    ghost use Rattle.std.proofs.Common.{rules};
+    ghost use Rattle.std.specs.Cmp.{partial_order_from_own_ties};
+    ghost use Rattle.std.specs.Cmp.Rules.{comparing};
+    ghost use Rattle.std.specs.Ordering.{on, as_partial_cmp};
+
+    ghost partial_cmp = { as_partial_cmp (on (λ r. r.numbers.items) (slice_cmp nat_cmp)) };
+
+    ghost laws = { partial_order_from_own_ties (Prim.search (comparing, rules))
+        (Prim.search (comparing, rules)) };
+
+    fn partial_cmp(&self, other: &Self) -> Option<Ordering> {
+        Some(self.cmp(other))
+    }
+}
+
+impl Ord for Row {
+    ghost use Rattle.std.proofs.Common.{rules};
+    ghost use Rattle.std.specs.Cmp.Rules.{comparing};
+    ghost use Rattle.std.specs.Ordering.{on};
+
+    ghost cmp = { on (λ r. r.numbers.items) (slice_cmp nat_cmp) };
+
+    ghost total = { Prim.search (comparing, rules) };
+
+    ghost matches_partial_cmp = { Prim.search (comparing, rules) };
+
+    ghost matches_eq = { Prim.search (comparing, rules) };
+
+    #[inline(always)]
+    fn cmp(&self, other: &Self) -> Ordering {
+        compare_rows(self.numbers.as_slice(), other.numbers.as_slice())
+    }
+}
+
+// How a row stands to another. Rows are short, and most differ in one of their first numbers.
+#[inline(always)]
+fn compare_rows(row: &[u32], other: &[u32]) -> Ordering
+    ensures { result ≡ slice_cmp nat_cmp row.now other.now }
+{
+    let mut left = other;
+    for number in row {
+        match left {
+            [] => return Ordering::Greater,
+            [first, others @ ..] => match number.cmp(first) {
+                Ordering::Equal => left = others,
+                decided => return decided,
+            },
+        }
+    }
+    if left.is_empty() {
+        Ordering::Equal
+    } else {
+        Ordering::Less
     }
 }
 

@@ -13,13 +13,38 @@ pub struct Hints {
     buckets: Vec<[u32; 2]>,
 }
 
-// A hash of a name, as it is written.
-fn hash_of(name: Name<'_>) -> u64 {
-    let mut hash: u64 = 0;
-    for byte in name.written() {
-        hash = (hash ^ u64::from(*byte)).wrapping_mul(0x9e37_79b9_7f4a_7c15);
+// What a hash is multiplied by, so that each of its bits takes part in all above it.
+const SPREAD: u64 = 0x9e37_79b9_7f4a_7c15;
+
+// Takes one more word into a hash. The upper half is what tells most.
+fn mixed(hash: u64, word: u64) -> u64 {
+    let spread = (hash ^ word).wrapping_mul(SPREAD);
+    spread ^ (spread >> 32)
+}
+
+// The word of a name that has fewer than eight bytes.
+fn short_word(bytes: &[u8]) -> u64 {
+    let mut word: u64 = 0;
+    for byte in bytes {
+        word = (word << 8) | u64::from(*byte);
     }
-    hash
+    word
+}
+
+// A hash of a name, as it is written: of its length, of its bytes eight by eight from the first on,
+// and of the last eight. What names differ in stands mostly at their end, and so in the lowest bits
+// of the last word.
+fn hash_of(name: Name<'_>) -> u64 {
+    let bytes = name.written();
+    let mut hash = bytes.len() as u64;
+    let (words, _rest) = bytes.as_chunks::<8>();
+    for word in words {
+        hash = mixed(hash, u64::from_be_bytes(*word));
+    }
+    match bytes.last_chunk::<8>() {
+        Some(word) => mixed(hash, u64::from_be_bytes(*word)),
+        None => mixed(hash, short_word(bytes)),
+    }
 }
 
 // Puts a place into a bucket, where 0 also says that nothing was put there. The second gives way

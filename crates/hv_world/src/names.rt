@@ -187,6 +187,19 @@ pub(crate) fn hints_of(alloc: Global, names: &IndexSet<Name<'_>, Seeded>) -> Res
     Ok(hints)
 }
 
+// Whether a name stands at a place of a set, written alike: where a guess is mostly wrong, it costs
+// less to see that without the case of letters.
+#[inline(always)]
+fn is_written_at<'s>(names: &IndexSet<Name<'s>, Seeded>, place: usize, name: Name<'s>) -> bool
+    ensures { result ≡ true
+        → place_in (map text_of names.now.keys) (text_of name.entry) ≡ Some place }
+{
+    match names.as_slice().get(place) {
+        Some(other) => other.written() == name.written(),
+        None => false,
+    }
+}
+
 // The place behind another.
 fn next_to(other: Option<usize>) -> Option<usize> {
     Some(other?.saturating_add(1))
@@ -252,7 +265,12 @@ pub(crate) fn place_behind<'s>(
 ) -> Option<usize>
     ensures { result ≡ place_in (map text_of names.now.keys) (text_of name.entry) }
 {
-    place_like(names, hints, next_to(other), name)
+    if let Some(next) = next_to(other) {
+        if is_written_at(names, next, name) {
+            return Some(next);
+        }
+    }
+    place_of(names, hints, name)
 }
 
 /// The first of these words that has one of its name before it.
