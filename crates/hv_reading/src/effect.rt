@@ -21,7 +21,7 @@ fn single<'s>(alloc: Global, item: ItemText<'s>) -> Result<Vec<ItemText<'s>>, Re
     ensures ok { IfOk result (λ v. map item_view v.items ≡ item_view item.entry ∷ []) }
     ensures err { IfErr result (λ e. e ≡ Refusal.Memory) }
 {
-    let mut items = Vec::new(alloc);
+    let mut items = Vec::with_capacity(alloc, 1)?;
     items.push(item)?;
     Ok(items)
 }
@@ -89,7 +89,7 @@ fn read_item<'s>(alloc: Global, e: &Sexp<'s>) -> Result<ItemText<'s>, Refusal>
 fn read_items<'s>(alloc: Global, es: &[Sexp<'s>]) -> Result<Vec<ItemText<'s>>, Refusal>
     ensures { Gives (λ v. map item_view v.items) result (every item_of (trees es.now)) }
 {
-    let mut items = Vec::new(alloc);
+    let mut items = Vec::with_capacity(alloc, es.len())?;
     for e in es {
         items.push(read_item(alloc, e)?)?;
     }

@@ -153,7 +153,7 @@ fn read_equality<'s>(others: &[Sexp<'s>]) -> Result<FormulaText<'s>, Refusal>
 fn read_formulas<'s>(alloc: Global, es: &[Sexp<'s>]) -> Result<Vec<FormulaText<'s>>, Refusal>
     ensures { Gives (λ v. map formula_view v.items) result (every formula_of (trees es.now)) }
 {
-    let mut parts = Vec::new(alloc);
+    let mut parts = Vec::with_capacity(alloc, es.len())?;
     for e in es {
         parts.push(read_formula(alloc, e)?)?;
     }

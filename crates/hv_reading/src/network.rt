@@ -127,7 +127,7 @@ fn read_constraint<'s>(e: &Sexp<'s>) -> Result<ConstraintText<'s>, Refusal>
 fn read_subtasks<'s>(alloc: Global, es: &[Sexp<'s>]) -> Result<Vec<SubtaskText<'s>>, Refusal>
     ensures { Gives (λ v. map subtask_view v.items) result (every subtask_of (trees es.now)) }
 {
-    let mut subtasks = Vec::new(alloc);
+    let mut subtasks = Vec::with_capacity(alloc, es.len())?;
     for e in es {
         subtasks.push(read_subtask(alloc, e)?)?;
     }
@@ -137,7 +137,7 @@ fn read_subtasks<'s>(alloc: Global, es: &[Sexp<'s>]) -> Result<Vec<SubtaskText<'
 fn read_pairs<'s>(alloc: Global, es: &[Sexp<'s>]) -> Result<Vec<PairText<'s>>, Refusal>
     ensures { Gives (λ v. map pair_view v.items) result (every pair_of (trees es.now)) }
 {
-    let mut pairs = Vec::new(alloc);
+    let mut pairs = Vec::with_capacity(alloc, es.len())?;
     for e in es {
         pairs.push(read_pair(e)?)?;
     }
@@ -147,7 +147,7 @@ fn read_pairs<'s>(alloc: Global, es: &[Sexp<'s>]) -> Result<Vec<PairText<'s>>, R
 fn read_constraints<'s>(alloc: Global, es: &[Sexp<'s>]) -> Result<Vec<ConstraintText<'s>>, Refusal>
     ensures { Gives (λ v. map constraint_view v.items) result (every constraint_of (trees es.now)) }
 {
-    let mut constraints = Vec::new(alloc);
+    let mut constraints = Vec::with_capacity(alloc, es.len())?;
     for e in es {
         constraints.push(read_constraint(e)?)?;
     }
@@ -161,7 +161,7 @@ fn read_listed_subtasks<'s>(alloc: Global, e: &Sexp<'s>) -> Result<Vec<SubtaskTe
     match conjuncts(e) {
         Some(es) => read_subtasks(alloc, es),
         None => {
-            let mut one = Vec::new(alloc);
+            let mut one = Vec::with_capacity(alloc, 1)?;
             one.push(read_subtask(alloc, e)?)?;
             Ok(one)
         }
@@ -179,7 +179,7 @@ fn read_ordering<'s>(alloc: Global, e: Option<&Sexp<'s>>) -> Result<Vec<PairText
     match conjuncts(e) {
         Some(es) => read_pairs(alloc, es),
         None => {
-            let mut one = Vec::new(alloc);
+            let mut one = Vec::with_capacity(alloc, 1)?;
             one.push(read_pair(e)?)?;
             Ok(one)
         }
@@ -200,7 +200,7 @@ fn read_constraints_at<'s>(
     match conjuncts(e) {
         Some(es) => read_constraints(alloc, es),
         None => {
-            let mut one = Vec::new(alloc);
+            let mut one = Vec::with_capacity(alloc, 1)?;
             one.push(read_constraint(e)?)?;
             Ok(one)
         }

@@ -1,6 +1,6 @@
 //! Variables and their types.
 
-ghost use Rattle.std.specs.Prelude.{◌≡◌, ◌++◌, map, OnOk, IfErr};
+ghost use Rattle.std.specs.Prelude.{◌≡◌, ◌++◌, map, OnOk, IfErr, []};
 ghost use Rattle.hv_text.specs.Trees.{tree, trees};
 ghost use Rattle.hv_reading.specs.declared.word.Sort.TheVariants as sorts;
 ghost use Rattle.hv_reading.specs.inside.Reading.{Gives, every};
@@ -22,7 +22,7 @@ fn read_names<'s>(alloc: Global, es: &[Sexp<'s>]) -> Result<Vec<Placed<'s>>, Ref
     ensures { Gives (λ v. map word_view v.items) result
         (every (sorted_word_of sorts.Name) (trees es.now)) }
 {
-    let mut names = Vec::new(alloc);
+    let mut names = Vec::with_capacity(alloc, es.len())?;
     for e in es {
         names.push(read_word(Sort::Name, e)?)?;
     }
@@ -60,7 +60,7 @@ fn read_type<'s>(alloc: Global, e: &Sexp<'s>) -> Result<Vec<Placed<'s>>, Refusal
 {
     match e {
         Sexp::Word(..) => {
-            let mut one = Vec::new(alloc);
+            let mut one = Vec::with_capacity(alloc, 1)?;
             one.push(read_word(Sort::Name, e)?)?;
             Ok(one)
         }
@@ -85,18 +85,29 @@ fn give_type<'s>(
     Ok(())
 }
 
-/// Reads a typed list of variables: a type holds for all variables since the type before it.
-///
-/// # Errors
-///
-/// `NoSpelling` where the expressions are none, and `Memory`.
-pub(crate) fn read_typed_variables<'s>(
+// How many words of variables stand among expressions, which is what a list of them has room for.
+fn variable_count(es: &[Sexp<'_>]) -> usize {
+    let mut count = 0usize;
+    for e in es {
+        if let Sexp::Word(name, _) = e {
+            if is_sort(*name, Sort::Variable) {
+                count = count.saturating_add(1);
+            }
+        }
+    }
+    count
+}
+
+// The variables of a typed list, in a list that has nothing else.
+fn fill_typed_variables<'s>(
     alloc: Global,
+    room: Vec<VariableText<'s>>,
     es: &[Sexp<'s>],
 ) -> Result<Vec<VariableText<'s>>, Refusal>
+    requires { room.items ≡ [] }
     ensures { Gives (λ v. map variable_view v.items) result (typed_variables_of (trees es.now)) }
 {
-    let mut found = Vec::new(alloc);
+    let mut found = room;
     let mut waiting = Vec::new(alloc);
     let mut wanted = false;
     for e in es {
@@ -126,4 +137,19 @@ pub(crate) fn read_typed_variables<'s>(
     }
     give_type(&mut found, &waiting, Vec::new(alloc))?;
     Ok(found)
+}
+
+/// Reads a typed list of variables: a type holds for all variables since the type before it.
+///
+/// # Errors
+///
+/// `NoSpelling` where the expressions are none, and `Memory`.
+pub(crate) fn read_typed_variables<'s>(
+    alloc: Global,
+    es: &[Sexp<'s>],
+) -> Result<Vec<VariableText<'s>>, Refusal>
+    ensures { Gives (λ v. map variable_view v.items) result (typed_variables_of (trees es.now)) }
+{
+    let room = Vec::with_capacity(alloc, variable_count(es))?;
+    fill_typed_variables(alloc, room, es)
 }

@@ -4,7 +4,7 @@ use Rattle.hv_reading.specs.declared.word.Sort.TheVariants as sorts
 use Rattle.hv_reading.specs.inside.Reading.{behind}
 use Rattle.hv_reading.specs.inside.TypedLists.{typed_by, type_of, typed_variables_of}
 use Rattle.hv_syntax.specs.Views.{variable_view, word_view}
-use Rattle.hv_reading.proofs.variable.read_typed_variables.Given as goal
+use Rattle.hv_reading.proofs.variable.fill_typed_variables.Given as goal
 
 -- what has its type, and behind it the rest of the list, where these variables wait
 abbrev pub invariant-loop-e : goal.invariant-loop-e

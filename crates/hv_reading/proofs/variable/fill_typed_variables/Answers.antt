@@ -10,8 +10,8 @@ use Rattle.hv_reading.specs.inside.TypedLists.{typed_by, type_of, typed_variable
 use Rattle.hv_syntax.specs.Views.{variable_view, word_view}
 use Rattle.hv_reading.proofs.Lists.{member_at}
 use Rattle.hv_reading.proofs.TypedLemmas.{here_is, after_type, after_dash, after_name, some_wait}
-use Rattle.hv_reading.proofs.variable.read_typed_variables.Goals.{then-wanted+in_ok-read_type+in_ok-give_type, else-wanted+in-Word+then-is+else-is_empty, else-wanted+in-Word+else-is+else-not-is_sort+in_ok-push}
-use Rattle.hv_reading.proofs.variable.read_typed_variables.Goals as goal
+use Rattle.hv_reading.proofs.variable.fill_typed_variables.Goals.{then-wanted+in_ok-read_type+in_ok-give_type, else-wanted+in-Word+then-is+else-is_empty, else-wanted+in-Word+else-is+else-not-is_sort+in_ok-push}
+use Rattle.hv_reading.proofs.variable.fill_typed_variables.Goals as goal
 
 pub loop-e-preserved : goal.loop-e-preserved
 loop-e-preserved c =
