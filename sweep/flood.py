@@ -28,16 +28,16 @@ int main(int argc, char **argv) {
     const char *letters = "abcdefghijklmnopqrstuvwxyz0123456789";
     for (uint64_t front = 0; found < wanted && front < 36 * 36 * 36 * 36 * 26; front++) {
         char name[8] = {0};
-        uint64_t hash = 0, rest = front;
+        uint64_t begun = 0, rest = front;
         for (int at = 0; at < 5; at++) {
             name[at] = letters[rest % 36];
             rest /= 36;
-            hash = (hash ^ (uint64_t)name[at]) * 0x9e3779b97f4a7c15u;
+            begun = begun << 8 | (uint64_t)name[at];
         }
         for (const char *one = letters; *one; one++) {
-            uint64_t half = (hash ^ (uint64_t)*one) * 0x9e3779b97f4a7c15u;
             for (const char *two = letters; *two && found < wanted; two++) {
-                uint64_t whole = (half ^ (uint64_t)*two) * 0x9e3779b97f4a7c15u;
+                uint64_t word = begun << 16 | (uint64_t)*one << 8 | (uint64_t)*two;
+                uint64_t whole = (7 ^ word) * 0x9e3779b97f4a7c15u;
                 if (((whole >> 32) * 2 * wanted) >> 32 == 0) {
                     name[5] = *one;
                     name[6] = *two;
